@@ -1,0 +1,63 @@
+use Rattle.terms.proofs.Scans.{Rise, rise-begin, rise-falls, rise-go, rise-end}
+use Rattle.records.specs.Tx.{writeKey, writesIn}
+use Rattle.terms.specs.Choice.{tab, falls}
+use Prim.Native.Nat.{_+_, _*_, _-_, _≤_}
+use native.Mathlib.Omega.{arith}
+use borrow.Author.Needs.{needs}
+use Rattle.contents.proofs.writes_fall.Statement.{statement}
+use Rattle.contents.proofs.writes_fall.Tie as tie
+use Rattle.contents.proofs.writes_fall.Reads as reads
+use Rattle.contents.proofs.writes_fall.Lts as lts
+
+abbrev Inv-loop : tie.InvT-loop
+Inv-loop n a lo₀ j₀ lo j = Rise writeKey (writesIn a) n (falls writeKey 0 (tab (writesIn a) 0 n)) lo j
+
+abbrev μ-loop : tie.MeasureT-loop
+μ-loop n a lo₀ j₀ lo j = n - j
+
+loop-holds : tie.Need-loop-holds Inv-loop μ-loop
+loop-holds c = rise-begin
+
+mul-p : tie.Need-mul-p Inv-loop μ-loop
+mul-p c = search needs
+
+array-copy-out-p : tie.Need-array-copy-out-p Inv-loop μ-loop
+array-copy-out-p c = search needs
+
+cast-at : tie.Need-cast-at Inv-loop μ-loop
+cast-at c = search needs
+
+returns : tie.Need-returns Inv-loop μ-loop
+returns c = rise-falls (c .before .before .before .before .before .loop .inv) (omega arith) (c .if1 .taken)
+
+add-lo : tie.Need-add-lo Inv-loop μ-loop
+add-lo c = search needs
+
+add-j : tie.Need-add-j Inv-loop μ-loop
+add-j c = search needs
+
+loop-less : tie.Need-loop-less Inv-loop μ-loop
+loop-less c = search needs
+
+loop-again : tie.Need-loop-again Inv-loop μ-loop
+loop-again c = rise-go (c .before .before .before .before .before .loop .inv) (omega arith) (c .if1 .left)
+
+returns-2 : tie.Need-returns-2 Inv-loop μ-loop
+returns-2 c = rise-end (c .before .loop .inv) (omega arith)
+
+pub writes-fall-spec : {M : Type 1} → statement M
+writes-fall-spec =
+    tie.close
+    (tie.spec
+    Inv-loop
+    μ-loop
+    loop-holds
+    mul-p
+    array-copy-out-p
+    cast-at
+    returns
+    add-lo
+    add-j
+    loop-less
+    loop-again
+    returns-2)

@@ -1,0 +1,79 @@
+-- "cutting, record by record: mark bytes present (1), mark right (2), count bytes present (1), counts (3), rest present (1); then 4".
+use Prim.Native.Nat.{ℕ, _+_}
+use mathlib.Core.List.{List, [], _∷_}
+use lib.ListN.{length, getD, take, drop}
+use Rattle.terms.specs.Checks.{orElse, ifLess, ifOther, short, mark, trailing}
+use Rattle.records.specs.Tx.{markTX, rCount, wCount, txLen}
+use Rattle.records.specs.Vl.{markVL, vlCount, vlLen}
+use Rattle.records.specs.Contents.{countsWrong, countWrong}
+
+-- "mark bytes present (1), mark right (2)"
+unfoldable pub markWrong : List ℕ → List ℕ → ℕ
+markWrong due s =
+    orElse (ifLess (length s) 2 short)
+    (orElse (ifOther (getD s 0 0) (getD due 0 0) mark)
+    (ifOther (getD s 1 0) (getD due 1 0) mark))
+
+-- a TX at the front
+unfoldable pub txCut : List ℕ → ℕ
+txCut s =
+    orElse (markWrong markTX s)
+    (orElse (ifLess (length s) 4 short)
+    (orElse (countsWrong (rCount s) (wCount s))
+    (ifLess (length s) (txLen s) short)))
+
+-- a VL at the front
+unfoldable pub vlCut : List ℕ → ℕ
+vlCut s =
+    orElse (markWrong markVL s)
+    (orElse (ifLess (length s) 5 short)
+    (orElse (countWrong (vlCount s))
+    (ifLess (length s) (vlLen s) short)))
+
+-- "trailing: bytes after the message"
+unfoldable pub behindWrong : ℕ → List ℕ → ℕ
+behindWrong n s = ifLess n (length s) trailing
+
+-- "PR: "PR", TX. LG and DC: mark, TX, VL. RD: "RD", key (2), stamp (8)"
+abbrev pub markPR : List ℕ
+markPR = 80 ∷ 82 ∷ []
+
+abbrev pub markLG : List ℕ
+markLG = 76 ∷ 71 ∷ []
+
+abbrev pub markDC : List ℕ
+markDC = 68 ∷ 67 ∷ []
+
+abbrev pub markRD : List ℕ
+markRD = 82 ∷ 68 ∷ []
+
+-- what stands behind a message's mark, and there behind the TX
+abbrev pub behindMark : List ℕ → List ℕ
+behindMark m = drop 2 m
+
+unfoldable pub txPart : List ℕ → List ℕ
+txPart m = take (txLen (behindMark m)) (behindMark m)
+
+unfoldable pub vlPart : List ℕ → List ℕ
+vlPart m = drop (txLen (behindMark m)) (behindMark m)
+
+-- a mark and a TX at the front, and its length
+unfoldable pub prCut : List ℕ → ℕ
+prCut m = orElse (markWrong markPR m) (txCut (behindMark m))
+
+unfoldable pub prLen : List ℕ → ℕ
+prLen m = 2 + txLen (behindMark m)
+
+-- a mark, a TX and a VL at the front
+unfoldable pub listedCut : List ℕ → List ℕ → ℕ
+listedCut due m = orElse (markWrong due m) (orElse (txCut (behindMark m)) (vlCut (vlPart m)))
+
+unfoldable pub listedLen : List ℕ → ℕ
+listedLen m = 2 + txLen (behindMark m) + vlLen (vlPart m)
+
+-- an RD at the front
+unfoldable pub rdCut : List ℕ → ℕ
+rdCut m = orElse (markWrong markRD m) (ifLess (length m) 12 short)
+
+abbrev pub rdLen : ℕ
+rdLen = 12

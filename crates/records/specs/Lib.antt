@@ -1,0 +1,7 @@
+pub mod Numbers
+pub mod Tx
+pub mod Vl
+pub mod Contents
+pub mod Cutting
+pub mod Messages
+pub mod Writing

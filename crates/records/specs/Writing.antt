@@ -1,0 +1,78 @@
+-- "Writers check 3, the content order without 15, then 17, and write the record's bytes and no others".
+use Prim.Native.Nat.{ℕ, zero, suc, _+_, _*_}
+use mathlib.Core.List.{List, [], _∷_, _++_}
+use lib.ListN.{length, drop}
+use Rattle.terms.specs.Checks.{orElse, ifLess, buffer}
+use Rattle.terms.specs.Refusals.{refusalOf}
+use Rattle.terms.specs.Group.{groupWrong}
+use Rattle.records.specs.declared.Transaction.{Transaction}
+use Rattle.records.specs.declared.VoteList.{VoteList}
+use Rattle.records.specs.declared.Written.{Written}
+use Rattle.records.specs.declared.Written.the-variants.{Wrote, Refused}
+use Rattle.records.specs.Numbers.{leBytes}
+use Rattle.records.specs.Tx.{Tx, txIn, txBytes}
+use Rattle.records.specs.Vl.{Vl, listIn, vlBytes}
+use Rattle.records.specs.Contents.{countsWrong, countWrong, txWrong, listWrong, logListWrong, rdWrong}
+use Rattle.records.specs.Cutting.{markPR, markLG, markDC, markRD}
+
+-- ---- the bytes of each message
+unfoldable pub prBytes : Tx → List ℕ
+prBytes x = markPR ++ txBytes x
+
+unfoldable pub lgBytes : Tx → Vl → List ℕ
+lgBytes x l = markLG ++ (txBytes x ++ vlBytes l)
+
+unfoldable pub dcBytes : Tx → Vl → List ℕ
+dcBytes x l = markDC ++ (txBytes x ++ vlBytes l)
+
+unfoldable pub rdBytes : ℕ → ℕ → List ℕ
+rdBytes k s = markRD ++ (leBytes 2 k ++ leBytes 8 s)
+
+-- "buffer: output buffer shorter than the record"
+unfoldable pub bufferWrong : List ℕ → List ℕ → ℕ
+bufferWrong bytes out = ifLess (length out) (length bytes) buffer
+
+-- ---- the refusal of each writer
+unfoldable pub txUnwritten : Transaction → List ℕ → ℕ
+txUnwritten x out = orElse (countsWrong (x .r) (x .w)) (orElse (txWrong (txIn x)) (bufferWrong (txBytes (txIn x)) out))
+
+unfoldable pub vlUnwritten : ℕ → VoteList → List ℕ → ℕ
+vlUnwritten f l out =
+    orElse (groupWrong f)
+    (orElse (countWrong (l .count))
+    (orElse (listWrong f (listIn l))
+    (bufferWrong (vlBytes (listIn l)) out)))
+
+unfoldable pub prUnwritten : Transaction → List ℕ → ℕ
+prUnwritten x out = orElse (countsWrong (x .r) (x .w)) (orElse (txWrong (txIn x)) (bufferWrong (prBytes (txIn x)) out))
+
+unfoldable pub lgUnwritten : ℕ → Transaction → VoteList → List ℕ → ℕ
+lgUnwritten f x l out =
+    orElse (groupWrong f)
+    (orElse (countsWrong (x .r) (x .w))
+    (orElse (countWrong (l .count))
+    (orElse (txWrong (txIn x))
+    (orElse (logListWrong f (listIn l))
+    (bufferWrong (lgBytes (txIn x) (listIn l)) out)))))
+
+unfoldable pub dcUnwritten : ℕ → Transaction → VoteList → List ℕ → ℕ
+dcUnwritten f x l out =
+    orElse (groupWrong f)
+    (orElse (countsWrong (x .r) (x .w))
+    (orElse (countWrong (l .count))
+    (orElse (txWrong (txIn x))
+    (orElse (listWrong f (listIn l))
+    (bufferWrong (dcBytes (txIn x) (listIn l)) out)))))
+
+unfoldable pub rdUnwritten : ℕ → ℕ → List ℕ → ℕ
+rdUnwritten k s out = orElse (rdWrong k s) (bufferWrong (rdBytes k s) out)
+
+-- ---- the answer, and the buffer afterwards
+unfoldable pub wroteBy : ℕ → List ℕ → Written
+wroteBy zero bytes = Wrote (length bytes)
+wroteBy (suc n) bytes = Refused (refusalOf (suc n))
+
+-- the record's bytes in front, the rest as it was; a refusal leaves all as it was
+unfoldable pub bufferBy : ℕ → List ℕ → List ℕ → List ℕ
+bufferBy zero bytes out = bytes ++ drop (length bytes) out
+bufferBy (suc n) bytes out = out

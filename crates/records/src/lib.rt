@@ -1,0 +1,274 @@
+// The records' values: a transaction, a list of answers, and what reading and writing answer. Numbers are little-endian.
+ghost use mathlib.Core.Path.{_≡_};
+ghost use Prim.Native.Nat.{ℕ, _+_, _*_, _<_, _≤_};
+ghost use lib.ListN.{length};
+ghost use Rattle.records.specs.Numbers.{numAt, leBytes};
+ghost use Rattle.records.specs.Tx.{readAt, writeAt, padded, zeroRead, zeroWrite, txLen, txOf, heldTx, TxThere};
+ghost use Rattle.records.specs.Vl.{pairAt, zeroPair, vlLen, vlOf, heldList, VlThere};
+use terms::Key;
+use terms::Refusal;
+use terms::Stamp;
+
+pub struct Read {
+    pub key: Key,
+    pub version: Stamp,
+}
+
+pub struct Write {
+    pub key: Key,
+    pub value: u64,
+}
+
+// Up to eight reads and up to eight writes: the first r and the first w places count.
+pub struct Transaction {
+    pub stamp: Stamp,
+    pub r: usize,
+    pub w: usize,
+    pub reads: [Read; 8],
+    pub writes: [Write; 8],
+}
+
+// What a box is said to have answered: 1 commit, 2 abort.
+pub struct Pair {
+    pub number: u8,
+    pub answer: u8,
+}
+
+// A list of answers of one kind (1 votes, 2 logs) that names one decision (1 commit, 2 abort): the first count places count.
+pub struct VoteList {
+    pub kind: u8,
+    pub decision: u8,
+    pub count: usize,
+    pub pairs: [Pair; 26],
+}
+
+// Which record was read; its transaction and its list stand beside it.
+pub enum Found {
+    TX,
+    VL,
+    PR,
+    LG,
+    DC,
+    RD(Key, Stamp),
+    Refused(Refusal),
+}
+
+pub struct Reading {
+    pub found: Found,
+    pub tx: Transaction,
+    pub list: VoteList,
+}
+
+// How many bytes were written.
+pub enum Written {
+    Wrote(usize),
+    Refused(Refusal),
+}
+
+pub fn wide(x: u8) -> usize
+    ensures { λ r. ⌜ (r ≡ x) × (r < 256) ⌝ }
+{
+    x as usize
+}
+
+fn wide64(x: u8) -> u64
+    ensures { λ r. ⌜ (r ≡ x) × (r < 256) ⌝ }
+{
+    x as u64
+}
+
+// The number that the eight bytes from `at` on say.
+pub fn u64_at(s: &[u8], at: usize) -> u64
+    requires { ⌜ at + 8 ≤ length (now s) ⌝ }
+    ensures { λ r. ⌜ r ≡ numAt 8 at (now (s .entry)) ⌝ }
+{
+    let b0 = wide64(s[at]);
+    let b1 = wide64(s[at + 1]);
+    let b2 = wide64(s[at + 2]);
+    let b3 = wide64(s[at + 3]);
+    let b4 = wide64(s[at + 4]);
+    let b5 = wide64(s[at + 5]);
+    let b6 = wide64(s[at + 6]);
+    let b7 = wide64(s[at + 7]);
+    b0 + 256 * (b1 + 256 * (b2 + 256 * (b3 + 256 * (b4 + 256 * (b5 + 256 * (b6 + 256 * b7))))))
+}
+
+// The same of two bytes.
+pub fn u16_at(s: &[u8], at: usize) -> u16
+    requires { ⌜ at + 2 ≤ length (now s) ⌝ }
+    ensures { λ r. ⌜ r ≡ numAt 2 at (now (s .entry)) ⌝ }
+{
+    let b0 = wide64(s[at]);
+    let b1 = wide64(s[at + 1]);
+    (b0 + 256 * b1) as u16
+}
+
+// A number put down in eight bytes.
+pub fn put_u64(s: &mut [u8], x: u64)
+    requires { ⌜ length (now s) ≡ 8 ⌝ }
+    ensures { λ r. ⌜ now (s .exit) ≡ leBytes 8 x ⌝ }
+{
+    let x1 = x / 256;
+    let x2 = x1 / 256;
+    let x3 = x2 / 256;
+    let x4 = x3 / 256;
+    let x5 = x4 / 256;
+    let x6 = x5 / 256;
+    let x7 = x6 / 256;
+    s[0] = (x % 256) as u8;
+    s[1] = (x1 % 256) as u8;
+    s[2] = (x2 % 256) as u8;
+    s[3] = (x3 % 256) as u8;
+    s[4] = (x4 % 256) as u8;
+    s[5] = (x5 % 256) as u8;
+    s[6] = (x6 % 256) as u8;
+    s[7] = (x7 % 256) as u8;
+}
+
+// The same in two bytes.
+pub fn put_u16(s: &mut [u8], x: u16)
+    requires { ⌜ length (now s) ≡ 2 ⌝ }
+    ensures { λ r. ⌜ now (s .exit) ≡ leBytes 2 x ⌝ }
+{
+    let x1 = x / 256;
+    s[0] = (x % 256) as u8;
+    s[1] = (x1 % 256) as u8;
+}
+
+// The length of a TX that its counts give.
+pub fn tx_len(s: &[u8]) -> usize
+    requires { ⌜ 4 ≤ length (now s) ⌝ }
+    ensures { λ r. ⌜ r ≡ txLen (now (s .entry)) ⌝ }
+{
+    12 + 10 * (wide(s[2]) + wide(s[3]))
+}
+
+fn read_at(s: &[u8], p: usize, j: usize) -> Read
+    requires { ⌜ (p ≤ 200) × (j < 8) × (p + j * 10 + 10 ≤ length (now s)) ⌝ }
+    ensures { λ r. ⌜ r ≡ readAt (now (s .entry)) p j ⌝ }
+{
+    let k = u16_at(s, p + j * 10);
+    let v = u64_at(s, p + j * 10 + 2);
+    Read {
+        key: Key(k),
+        version: Stamp(v),
+    }
+}
+
+fn write_at(s: &[u8], p: usize, j: usize) -> Write
+    requires { ⌜ (p ≤ 200) × (j < 8) × (p + j * 10 + 10 ≤ length (now s)) ⌝ }
+    ensures { λ r. ⌜ r ≡ writeAt (now (s .entry)) p j ⌝ }
+{
+    let k = u16_at(s, p + j * 10);
+    let v = u64_at(s, p + j * 10 + 2);
+    Write {
+        key: Key(k),
+        value: v,
+    }
+}
+
+// The n reads that begin at p, in an array of eight.
+fn reads_of(s: &[u8], p: usize, n: usize) -> [Read; 8]
+    requires { ⌜ (p ≤ 200) × (n ≤ 8) × (p + n * 10 ≤ length (now s)) ⌝ }
+    ensures { λ r. ⌜ r ≡ padded (readAt (now (s .entry)) p) n 8 zeroRead ⌝ }
+{
+    let z = Read {
+        key: Key(0),
+        version: Stamp(0),
+    };
+    let mut a = [z; 8];
+    let mut j = 0;
+    while j < n {
+        a[j] = read_at(s, p, j);
+        j += 1;
+    }
+    a
+}
+
+// The same of writes.
+fn writes_of(s: &[u8], p: usize, n: usize) -> [Write; 8]
+    requires { ⌜ (p ≤ 200) × (n ≤ 8) × (p + n * 10 ≤ length (now s)) ⌝ }
+    ensures { λ r. ⌜ r ≡ padded (writeAt (now (s .entry)) p) n 8 zeroWrite ⌝ }
+{
+    let z = Write {
+        key: Key(0),
+        value: 0,
+    };
+    let mut a = [z; 8];
+    let mut j = 0;
+    while j < n {
+        a[j] = write_at(s, p, j);
+        j += 1;
+    }
+    a
+}
+
+// The transaction that a TX says.
+pub fn transaction_of(s: &[u8]) -> Transaction
+    requires { ⌜ TxThere (now s) ⌝ }
+    ensures { λ x. ⌜ (x ≡ heldTx (txOf (now (s .entry)))) × (x .r ≤ 8) × (x .w ≤ 8) ⌝ }
+{
+    let r = wide(s[2]);
+    let w = wide(s[3]);
+    let stamp = Stamp(u64_at(s, 4));
+    let reads = reads_of(s, 12, r);
+    let writes = writes_of(s, 12 + r * 10, w);
+    Transaction {
+        stamp,
+        r,
+        w,
+        reads,
+        writes,
+    }
+}
+
+// The length of a VL that its count gives.
+pub fn vl_len(s: &[u8]) -> usize
+    requires { ⌜ 5 ≤ length (now s) ⌝ }
+    ensures { λ r. ⌜ r ≡ vlLen (now (s .entry)) ⌝ }
+{
+    5 + 2 * wide(s[4])
+}
+
+fn pair_at(s: &[u8], j: usize) -> Pair
+    requires { ⌜ (j < 26) × (5 + 2 * j + 2 ≤ length (now s)) ⌝ }
+    ensures { λ r. ⌜ r ≡ pairAt (now (s .entry)) j ⌝ }
+{
+    let number = s[5 + 2 * j];
+    let answer = s[6 + 2 * j];
+    Pair { number, answer }
+}
+
+fn pairs_of(s: &[u8], n: usize) -> [Pair; 26]
+    requires { ⌜ (n ≤ 26) × (5 + 2 * n ≤ length (now s)) ⌝ }
+    ensures { λ r. ⌜ r ≡ padded (pairAt (now (s .entry))) n 26 zeroPair ⌝ }
+{
+    let z = Pair {
+        number: 0,
+        answer: 0,
+    };
+    let mut a = [z; 26];
+    let mut j = 0;
+    while j < n {
+        a[j] = pair_at(s, j);
+        j += 1;
+    }
+    a
+}
+
+// The list that a VL says.
+pub fn list_of(s: &[u8]) -> VoteList
+    requires { ⌜ VlThere (now s) ⌝ }
+    ensures { λ l. ⌜ (l ≡ heldList (vlOf (now (s .entry)))) × (l .count ≤ 26) ⌝ }
+{
+    let count = wide(s[4]);
+    let kind = s[2];
+    let decision = s[3];
+    let pairs = pairs_of(s, count);
+    VoteList {
+        kind,
+        decision,
+        count,
+        pairs,
+    }
+}

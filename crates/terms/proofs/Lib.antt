@@ -1,0 +1,4 @@
+pub mod Checks
+pub mod Scans
+pub mod Groups
+pub mod Refusals

@@ -1,0 +1,194 @@
+// The papers' words as types: stamp, key, decision, kind, refusal, and the group of boxes with its five thresholds.
+ghost use mathlib.Core.Path.{_≡_};
+ghost use Rattle.terms.specs.Refusals.{numberOf, refusalOf};
+ghost use Rattle.terms.specs.Group.{boxes, commitList, abortList, commitProof, abortProof, logProof, groupWrong, groupOf};
+
+// A moment and a writer; 1 or more where it is in order.
+pub struct Stamp(pub u64);
+
+// A register place; 0 to 511 where it is in order.
+pub struct Key(pub u16);
+
+pub const LARGEST_KEY: u16 = 511;
+
+pub const LARGEST_F: u64 = 5;
+
+// The numbers of the refusals that a check of bytes or numbers gives; 0 is none.
+pub const SHORT: u8 = 1;
+
+pub const MARK: u8 = 2;
+
+pub const COUNT: u8 = 3;
+
+pub const TRAILING: u8 = 4;
+
+pub const RANGE: u8 = 5;
+
+pub const ORDER: u8 = 6;
+
+pub const MISBEHAVIOUR: u8 = 7;
+
+pub const CODE: u8 = 8;
+
+pub const GROUP: u8 = 14;
+
+pub const AHEAD: u8 = 15;
+
+pub const TABLE: u8 = 16;
+
+pub const BUFFER: u8 = 17;
+
+pub enum Decision {
+    Commit,
+    Abort,
+}
+
+pub enum Kind {
+    Votes,
+    Logs,
+}
+
+// The refusals, in the order of their numbers.
+pub enum Refusal {
+    Short,
+    Mark,
+    Count,
+    Trailing,
+    Range,
+    Order,
+    Misbehaviour,
+    Code,
+    OtherBody,
+    Unknown,
+    TooFew,
+    Contradiction,
+    Full,
+    Group,
+    Ahead,
+    Table,
+    Buffer,
+}
+
+impl Refusal {
+    // The paper's number.
+    pub fn number(self) -> u8
+        ensures { λ r. ⌜ r ≡ numberOf self ⌝ }
+    {
+        match self {
+            Refusal::Short => 1,
+            Refusal::Mark => 2,
+            Refusal::Count => 3,
+            Refusal::Trailing => 4,
+            Refusal::Range => 5,
+            Refusal::Order => 6,
+            Refusal::Misbehaviour => 7,
+            Refusal::Code => 8,
+            Refusal::OtherBody => 9,
+            Refusal::Unknown => 10,
+            Refusal::TooFew => 11,
+            Refusal::Contradiction => 12,
+            Refusal::Full => 13,
+            Refusal::Group => 14,
+            Refusal::Ahead => 15,
+            Refusal::Table => 16,
+            Refusal::Buffer => 17,
+        }
+    }
+
+    // The refusal with this number.
+    pub fn of(n: u8) -> Self
+        ensures { λ r. ⌜ r ≡ refusalOf n ⌝ }
+    {
+        match n {
+            1 => Refusal::Short,
+            2 => Refusal::Mark,
+            3 => Refusal::Count,
+            4 => Refusal::Trailing,
+            5 => Refusal::Range,
+            6 => Refusal::Order,
+            7 => Refusal::Misbehaviour,
+            8 => Refusal::Code,
+            9 => Refusal::OtherBody,
+            10 => Refusal::Unknown,
+            11 => Refusal::TooFew,
+            12 => Refusal::Contradiction,
+            13 => Refusal::Full,
+            14 => Refusal::Group,
+            15 => Refusal::Ahead,
+            16 => Refusal::Table,
+            _ => Refusal::Buffer,
+        }
+    }
+}
+
+// A group of 5f + 1 boxes, of which at most f are faulty.
+pub struct Group {
+    pub f: u8,
+}
+
+pub enum GroupAnswer {
+    Of(Group),
+    Refused(Refusal),
+}
+
+// 14 unless f is 1 to 5, else 0.
+pub fn group_wrong(f: u64) -> u8
+    ensures { λ r. ⌜ r ≡ groupWrong f ⌝ }
+{
+    if f < 1 {
+        return GROUP;
+    }
+    if LARGEST_F < f {
+        return GROUP;
+    }
+    0
+}
+
+impl Group {
+    // A group from any number.
+    pub fn of(f: u64) -> GroupAnswer
+        ensures { λ r. ⌜ r ≡ groupOf f ⌝ }
+    {
+        let wrong = group_wrong(f);
+        if wrong != 0 {
+            return GroupAnswer::Refused(Refusal::of(wrong));
+        }
+        GroupAnswer::Of(Group { f: f as u8 })
+    }
+
+    pub fn n(self) -> usize
+        ensures { λ r. ⌜ r ≡ boxes (self .f) ⌝ }
+    {
+        5 * (self.f as usize) + 1
+    }
+
+    pub fn commit_list(self) -> usize
+        ensures { λ r. ⌜ r ≡ commitList (self .f) ⌝ }
+    {
+        3 * (self.f as usize) + 1
+    }
+
+    pub fn abort_list(self) -> usize
+        ensures { λ r. ⌜ r ≡ abortList (self .f) ⌝ }
+    {
+        self.f as usize + 1
+    }
+
+    pub fn commit_proof(self) -> usize
+        ensures { λ r. ⌜ r ≡ commitProof (self .f) ⌝ }
+    {
+        5 * (self.f as usize) + 1
+    }
+
+    pub fn abort_proof(self) -> usize
+        ensures { λ r. ⌜ r ≡ abortProof (self .f) ⌝ }
+    {
+        3 * (self.f as usize) + 1
+    }
+
+    pub fn log_proof(self) -> usize
+        ensures { λ r. ⌜ r ≡ logProof (self .f) ⌝ }
+    {
+        4 * (self.f as usize) + 1
+    }
+}
