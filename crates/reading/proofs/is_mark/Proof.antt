@@ -1,0 +1,44 @@
+use borrow.Author.Tests.{eq-eqb, ne-eqb}
+use Rattle.records.specs.Messages.{isMark}
+use native.Mathlib.Omega.{arith}
+use borrow.Author.Needs.{needs}
+use Rattle.reading.proofs.is_mark.Statement.{statement}
+use Rattle.reading.proofs.is_mark.Tie as tie
+use Rattle.reading.proofs.is_mark.Reads as reads
+use Rattle.reading.proofs.is_mark.Lts as lts
+
+shared-slice-read-if1 : tie.Need-shared-slice-read-if1
+shared-slice-read-if1 c = search needs
+
+element-copy-out-if1 : tie.Need-element-copy-out-if1
+element-copy-out-if1 c = search needs
+
+returns : tie.Need-returns
+unfolding isMark
+returns c = rw (ne-eqb _ _ (c .if1 .taken))
+
+shared-slice-read-if2 : tie.Need-shared-slice-read-if2
+shared-slice-read-if2 c = search needs
+
+element-copy-out-if2 : tie.Need-element-copy-out-if2
+element-copy-out-if2 c = search needs
+
+returns-2 : tie.Need-returns-2
+unfolding isMark
+returns-2 c = rw (eq-eqb _ _ (c .before .before .before .if1 .left), ne-eqb _ _ (c .if2 .taken))
+
+returns-3 : tie.Need-returns-3
+unfolding isMark
+returns-3 c = rw (eq-eqb _ _ (c .before .before .before .if1 .left), eq-eqb _ _ (c .if2 .left))
+
+pub is-mark-spec : {M : Type 1} → statement M
+is-mark-spec =
+    tie.close
+    (tie.spec
+    shared-slice-read-if1
+    element-copy-out-if1
+    returns
+    shared-slice-read-if2
+    element-copy-out-if2
+    returns-2
+    returns-3)

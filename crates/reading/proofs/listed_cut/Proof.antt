@@ -1,0 +1,62 @@
+use mathlib.Core.Path.{sym, _∙_, ap}
+use lib.ListN.{drop}
+use Prim.Native.Nat.{ℕ}
+use Rattle.records.specs.Tx.{txLen}
+use Rattle.records.specs.Cutting.{listedCut, txCut, vlCut, vlPart}
+use Rattle.terms.proofs.Checks.{pass, stop}
+use Rattle.reading.proofs.Cuts.{mark-long, tx-long, tx-there, rest-is}
+use native.Mathlib.Omega.{arith}
+use borrow.Author.Needs.{needs}
+use Rattle.reading.proofs.listed_cut.Statement.{statement}
+use Rattle.reading.proofs.listed_cut.Tie as tie
+use Rattle.reading.proofs.listed_cut.Reads as reads
+use Rattle.reading.proofs.listed_cut.Lts as lts
+use Rattle.reading.proofs.behind.Reads as behind-reads
+use Rattle.reading.proofs.mark_wrong.Reads as mark-wrong-reads
+use Rattle.reading.proofs.tx_cut.Reads as tx-cut-reads
+use Rattle.reading.proofs.vl_cut.Reads as vl-cut-reads
+use Rattle.records.proofs.tx_len.Reads as tx-len-reads
+
+mark-wrong-requires : tie.Need-mark-wrong-requires
+mark-wrong-requires c κs = search needs
+
+returns : tie.Need-returns
+unfolding listedCut
+returns c = stop _ _ _ (c .before .mark-wrong .ensures) (c .if1 .taken)
+
+behind-requires : tie.Need-behind-requires
+behind-requires c κs = mark-long _ _ _ (c .before .mark-wrong .ensures) (c .if1 .left)
+
+tx-cut-requires : tie.Need-tx-cut-requires
+tx-cut-requires c κs = search needs
+
+returns-2 : tie.Need-returns-2
+unfolding listedCut
+returns-2 c = pass (sym (c .before .before .before .before .mark-wrong .ensures) ∙ c .before .before .before .if1 .left) (stop _ _ _ (c .before .tx-cut .ensures ∙ ap txCut (c .before .before .behind .ensures)) (c .if2 .taken))
+
+tx-len-requires : tie.Need-tx-len-requires
+tx-len-requires c κs = tx-long _ _ (c .before .tx-cut .ensures) (c .if2 .left)
+
+behind-requires-2 : tie.Need-behind-requires-2
+behind-requires-2 c κs = let h = tx-there _ _ (c .before .before .tx-cut .ensures) (c .before .if2 .left) in omega arith
+
+vl-cut-requires : tie.Need-vl-cut-requires
+vl-cut-requires c κs = search needs
+
+returns-3 : tie.Need-returns-3
+unfolding listedCut
+returns-3 c = pass (sym (c .before .before .before .before .before .before .before .mark-wrong .ensures) ∙ c .before .before .before .before .before .before .if1 .left) (pass (sym (c .before .before .before .before .tx-cut .ensures ∙ ap txCut (c .before .before .before .before .before .behind .ensures)) ∙ c .before .before .before .if2 .left) (c .vl-cut .ensures ∙ ap vlCut (c .before .behind2 .ensures ∙ rest-is _ _ _ (c .before .before .before .before .before .behind .ensures) (c .before .before .tx-len .ensures))))
+
+pub listed-cut-spec : {M : Type 1} → statement M
+listed-cut-spec =
+    tie.close
+    (tie.spec
+    mark-wrong-requires
+    returns
+    behind-requires
+    tx-cut-requires
+    returns-2
+    tx-len-requires
+    behind-requires-2
+    vl-cut-requires
+    returns-3)

@@ -1,0 +1,89 @@
+use mathlib.Core.Path.{sym, _∙_}
+use Rattle.records.specs.Messages.{readTX, txRefusal}
+use Rattle.terms.proofs.Checks.{pass, stop}
+use Rattle.reading.proofs.Cuts.{tx-long, tx-there, behind-at}
+use Rattle.reading.proofs.Answers.{refused-by, read-by, passed-on, taken-tx}
+use native.Mathlib.Omega.{arith}
+use borrow.Author.Needs.{needs}
+use Rattle.reading.proofs.read_tx.Statement.{statement}
+use Rattle.reading.proofs.read_tx.Tie as tie
+use Rattle.reading.proofs.read_tx.Reads as reads
+use Rattle.reading.proofs.read_tx.Lts as lts
+use Rattle.reading.proofs.behind_wrong.Reads as behind-wrong-reads
+use Rattle.reading.proofs.no_list.Reads as no-list-reads
+use Rattle.reading.proofs.number_in.Reads as number-in-reads
+use Rattle.reading.proofs.read_part.Reads as read-part-reads
+use Rattle.reading.proofs.refused.Reads as refused-reads
+use Rattle.reading.proofs.tx_cut.Reads as tx-cut-reads
+use Rattle.records.proofs.tx_len.Reads as tx-len-reads
+
+tx-cut-requires : tie.Need-tx-cut-requires
+tx-cut-requires c κs = search needs
+
+refused-requires : tie.Need-refused-requires
+refused-requires c κs = search needs
+
+returns : tie.Need-returns
+unfolding readTX txRefusal
+returns c = c .refused .ensures ∙ refused-by _ _ _ _ _ (stop _ _ _ (c .before .before .tx-cut .ensures) (c .before .if1 .taken)) (c .before .if1 .taken)
+
+tx-len-requires : tie.Need-tx-len-requires
+tx-len-requires c κs = tx-long _ _ (c .before .tx-cut .ensures) (c .if1 .left)
+
+behind-wrong-requires : tie.Need-behind-wrong-requires
+behind-wrong-requires c κs = search needs
+
+refused-requires-2 : tie.Need-refused-requires-2
+refused-requires-2 c κs = search needs
+
+returns-2 : tie.Need-returns-2
+unfolding readTX txRefusal
+returns-2 c = c .refused2 .ensures ∙ refused-by _ _ _ _ _ (pass (sym (c .before .before .before .before .before .tx-cut .ensures) ∙ c .before .before .before .before .if1 .left) (stop _ _ _ (c .before .before .behind-wrong .ensures ∙ behind-at _ (c .before .before .before .tx-len .ensures)) (c .before .if2 .taken))) (c .before .if2 .taken)
+
+read-part-requires : tie.Need-read-part-requires
+read-part-requires c κs = tx-there _ _ (c .before .before .before .before .tx-cut .ensures) (c .before .before .before .if1 .left)
+
+enum-told : tie.Need-enum-told
+enum-told c = search needs
+
+enum-told-2 : tie.Need-enum-told-2
+enum-told-2 c = search needs
+
+number-in-requires : tie.Need-number-in-requires
+number-in-requires c κs = search needs
+
+refused-requires-3 : tie.Need-refused-requires-3
+refused-requires-3 c κs = search needs
+
+returns-3 : tie.Need-returns-3
+unfolding readTX txRefusal
+returns-3 c = let t = passed-on _ _ _ _ _ (c .before .before .before .before .read-part .ensures) (c .before .before .enum-told2 .given .1) (c .before .number-in .ensures) in
+    c .refused3 .ensures ∙ refused-by _ _ _ _ _ (pass (sym (c .before .before .before .before .before .before .before .before .before .tx-cut .ensures) ∙ c .before .before .before .before .before .before .before .before .if1 .left) (pass (sym (c .before .before .before .before .before .before .behind-wrong .ensures ∙ behind-at _ (c .before .before .before .before .before .before .before .tx-len .ensures)) ∙ c .before .before .before .before .before .if2 .left) (t .0))) (t .1)
+
+no-list-requires : tie.Need-no-list-requires
+no-list-requires c κs = search needs
+
+returns-4 : tie.Need-returns-4
+unfolding readTX txRefusal
+returns-4 c = let t = taken-tx _ _ _ _ (c .before .before .before .before .read-part .ensures) (c .before .before .enum-told .given .1) in
+    read-by _ _ _ _ _ _ (pass (sym (c .before .before .before .before .before .before .before .before .before .tx-cut .ensures) ∙ c .before .before .before .before .before .before .before .before .if1 .left) (pass (sym (c .before .before .before .before .before .before .behind-wrong .ensures ∙ behind-at _ (c .before .before .before .before .before .before .before .tx-len .ensures)) ∙ c .before .before .before .before .before .if2 .left) (t .0))) (t .1) (c .no-list .ensures)
+
+pub read-tx-spec : {M : Type 1} → statement M
+read-tx-spec =
+    tie.close
+    (tie.spec
+    tx-cut-requires
+    refused-requires
+    returns
+    tx-len-requires
+    behind-wrong-requires
+    refused-requires-2
+    returns-2
+    read-part-requires
+    enum-told
+    enum-told-2
+    number-in-requires
+    refused-requires-3
+    returns-3
+    no-list-requires
+    returns-4)

@@ -1,0 +1,26 @@
+use Rattle.records.specs.Messages.{refusedReading}
+use native.Mathlib.Omega.{arith}
+use borrow.Author.Needs.{needs}
+use Rattle.reading.proofs.refused.Statement.{statement}
+use Rattle.reading.proofs.refused.Tie as tie
+use Rattle.reading.proofs.refused.Reads as reads
+use Rattle.reading.proofs.refused.Lts as lts
+use Rattle.reading.proofs.no_list.Reads as no-list-reads
+use Rattle.reading.proofs.no_tx.Reads as no-tx-reads
+use Rattle.terms.proofs.Refusal.of.Reads as of-reads
+
+no-tx-requires : tie.Need-no-tx-requires
+no-tx-requires c κs = search needs
+
+no-list-requires : tie.Need-no-list-requires
+no-list-requires c κs = search needs
+
+of-requires : tie.Need-of-requires
+of-requires c κs = search needs
+
+returns : tie.Need-returns
+unfolding refusedReading
+returns c = rw (c .of .ensures, c .before .no-list .ensures, c .before .before .no-tx .ensures)
+
+pub refused-spec : {M : Type 1} → statement M
+refused-spec = tie.close (tie.spec no-tx-requires no-list-requires of-requires returns)

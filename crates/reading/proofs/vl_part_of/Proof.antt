@@ -1,0 +1,25 @@
+use mathlib.Core.Path.{_∙_}
+use Rattle.reading.proofs.Cuts.{long, there, rest-is}
+use native.Mathlib.Omega.{arith}
+use borrow.Author.Needs.{needs}
+use Rattle.reading.proofs.vl_part_of.Statement.{statement}
+use Rattle.reading.proofs.vl_part_of.Tie as tie
+use Rattle.reading.proofs.vl_part_of.Reads as reads
+use Rattle.reading.proofs.vl_part_of.Lts as lts
+use Rattle.reading.proofs.behind.Reads as behind-reads
+use Rattle.records.proofs.tx_len.Reads as tx-len-reads
+
+behind-requires : tie.Need-behind-requires
+behind-requires c κs = search needs
+
+tx-len-requires : tie.Need-tx-len-requires
+tx-len-requires c κs = rw (c .behind .ensures) (long (c .before .before .args .m .now) (c .before .before .pre .1))
+
+behind-requires-2 : tie.Need-behind-requires-2
+behind-requires-2 c κs = rw (c .tx-len .ensures, c .before .behind .ensures) (there (c .before .before .before .args .m .now) (c .before .before .before .pre .1) .2)
+
+returns : tie.Need-returns
+returns c = c .behind2 .ensures ∙ rest-is _ _ _ (c .before .before .behind .ensures) (c .before .tx-len .ensures)
+
+pub vl-part-of-spec : {M : Type 1} → statement M
+vl-part-of-spec = tie.close (tie.spec behind-requires tx-len-requires behind-requires-2 returns)
