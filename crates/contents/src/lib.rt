@@ -141,16 +141,16 @@ pub fn tx_wrong(x: Transaction) -> u8
         return terms::RANGE;
     }
     if reads_wide(reads, x.r) {
-        return terms::RANGE;
+        return terms::RANGE; // a key read
     }
     if writes_wide(writes, x.w) {
-        return terms::RANGE;
+        return terms::RANGE; // a key written
     }
     if reads_fall(reads, x.r) {
-        return terms::ORDER;
+        return terms::ORDER; // of the reads
     }
     if writes_fall(writes, x.w) {
-        return terms::ORDER;
+        return terms::ORDER; // of the writes
     }
     if reads_too_new(reads, x.r, s) {
         return terms::MISBEHAVIOUR;

@@ -12,13 +12,14 @@ use Rattle.records.specs.declared.Transaction.{Transaction}
 use Rattle.records.specs.declared.VoteList.{VoteList}
 use Rattle.records.specs.Tx.{Tx, txOf, txIn, heldTx, noTx}
 use Rattle.records.specs.Vl.{Vl, vlOf, listIn, heldList, noList}
-use Rattle.records.specs.Contents.{txWrong}
+use Rattle.records.specs.Contents.{txWrong, listWrong}
 use Rattle.records.specs.Messages.{refusedReading, readingBy}
 use Rattle.records.proofs.Held.{tx-in, list-in}
-use Rattle.reading.specs.declared.TxAnswer.{TxAnswer}
-use Rattle.reading.specs.declared.TxAnswer.the-variants.{Tx as readTx, Refused as refusedTx}
-use Rattle.reading.specs.declared.TxReading.{TxReading}
-use Rattle.reading.specs.Part.{partReading, numberIn}
+use Rattle.answer.specs.declared.TxAnswer.{TxAnswer}
+use Rattle.answer.specs.declared.TxAnswer.the-variants.{Tx as readTx, Refused as refusedTx}
+use Rattle.answer.specs.declared.TxReading.{TxReading}
+use Rattle.answer.specs.Answer.{numberIn, judgedOf, judgedBy}
+use Rattle.reading.specs.Part.{partReading}
 
 -- a reading
 pub refused-by : (n N : ℕ) (w : Found) (x : Tx) (l : Vl) → n ≡ N → (n ≡ 0 → ⊥) → refusedReading n ≡ readingBy N w x l
@@ -63,6 +64,17 @@ passed-on N x r k n p q e =
     let w : n ≡ k = e ∙ ap numberIn q in
     let t : (k ≡ N) × (k ≡ 0 → ⊥) = taken-refusal N x r k p q in
     (w ∙ t .0, λ (z : n ≡ 0). t .1 (sym w ∙ z))
+
+-- judged with the list behind it: the transaction's refusal, then the list's
+pub judged-is : (N f : ℕ) (x : Tx) (l : Vl) (r : TxReading) → r ≡ partReading N x → judgedBy r f l ≡ orElse N (listWrong f l)
+unfolding partReading orElse
+judged-is zero f x l r p = ap (λ (y : TxReading). judgedBy y f l) p
+judged-is (suc N) f x l r p = ap (λ (y : TxReading). judgedBy y f l) p
+
+pub part-tx : (N : ℕ) (x : Tx) (r : TxReading) → r ≡ partReading N x → N ≡ 0 → r .tx ≡ heldTx x
+unfolding partReading
+part-tx zero x r p z = ap (λ (y : TxReading). y .tx) p
+part-tx (suc N) x r p z = absurd (omega arith)
 
 -- the answer for a part, by what the part is
 pub part-at : (s t : List ℕ) (r : TxReading) → s ≡ t → r ≡ partReading (txWrong (txOf s)) (txOf s) → r ≡ partReading (txWrong (txOf t)) (txOf t)

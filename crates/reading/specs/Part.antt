@@ -4,17 +4,12 @@ use Prim.Native.Nat.{ℕ, zero, suc}
 use Rattle.records.specs.Tx.{Tx, heldTx, noTx}
 use Rattle.records.specs.declared.Found.{Found}
 use Rattle.records.specs.declared.Found.the-variants.{TX, VL, PR, LG, DC, RD, Refused}
-use Rattle.reading.specs.declared.TxAnswer.{TxAnswer}
-use Rattle.reading.specs.declared.TxAnswer.the-variants.{Tx as readTx, Refused as refusedTx}
-use Rattle.reading.specs.declared.TxReading.{TxReading}
+use Rattle.answer.specs.declared.TxAnswer.the-variants.{Tx as readTx, Refused as refusedTx}
+use Rattle.answer.specs.declared.TxReading.{TxReading}
 
 unfoldable pub partReading : ℕ → Tx → TxReading
 partReading zero x = record { answer = readTx (record { 0 = x .stamp }); tx = heldTx x }
 partReading (suc n) x = record { answer = refusedTx (suc n); tx = heldTx noTx }
-
-abbrev pub numberIn : TxAnswer → ℕ
-numberIn (readTx s) = 0
-numberIn (refusedTx n) = n
 
 abbrev pub hasTx : Found → Bool
 hasTx TX = true

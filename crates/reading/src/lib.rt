@@ -9,7 +9,9 @@ ghost use Rattle.records.specs.Vl.{heldList, noList, VlThere};
 ghost use Rattle.records.specs.Contents.{txWrong};
 ghost use Rattle.records.specs.Cutting.{markWrong, txCut, vlCut, behindWrong, behindMark, txPart, vlPart, prCut, prLen, listedCut, listedLen, rdCut};
 ghost use Rattle.records.specs.Messages.{refusedReading, readTX, readVL, readPR, readLG, readDC, readRD, isMark, readMessage, handedBack};
-ghost use Rattle.reading.specs.Part.{partReading, numberIn, hasTx};
+ghost use Rattle.reading.specs.Part.{partReading, hasTx};
+use answer::TxAnswer;
+use answer::TxReading;
 use records::Found;
 use records::Pair;
 use records::Read;
@@ -230,17 +232,6 @@ fn refused(n: u8) -> Reading
     }
 }
 
-// What the reader of a TX part answers: the transaction, which stands beside it, or its refusal's number.
-pub enum TxAnswer {
-    Tx(Stamp),
-    Refused(u8),
-}
-
-pub struct TxReading {
-    pub answer: TxAnswer,
-    pub tx: Transaction,
-}
-
 // A TX that is cut, judged.
 fn read_part(s: &[u8]) -> TxReading
     requires { ⌜ TxThere (now s) ⌝ }
@@ -262,15 +253,6 @@ fn read_part(s: &[u8]) -> TxReading
     }
 }
 
-fn number_in(a: TxAnswer) -> u8
-    ensures { λ r. ⌜ r ≡ numberIn a ⌝ }
-{
-    match a {
-        TxAnswer::Tx(_) => 0,
-        TxAnswer::Refused(n) => n,
-    }
-}
-
 // ---- readers
 
 // A TX by itself.
@@ -288,7 +270,7 @@ pub fn read_tx(s: &[u8]) -> Reading
     let reading = read_part(s);
     let answer = reading.answer;
     let TxAnswer::Tx(_) = answer else {
-        return refused(number_in(answer));
+        return refused(answer::number_in(answer));
     };
     let tx = reading.tx;
     let list = no_list();
@@ -342,7 +324,7 @@ pub fn read_pr(m: &[u8]) -> Reading
     let reading = read_part(tx_part_of(m));
     let answer = reading.answer;
     let TxAnswer::Tx(_) = answer else {
-        return refused(number_in(answer));
+        return refused(answer::number_in(answer));
     };
     let tx = reading.tx;
     let list = no_list();
@@ -378,7 +360,7 @@ pub fn read_lg(f: u64, m: &[u8]) -> Reading
     let reading = read_part(tx_part_of(m));
     let answer = reading.answer;
     let TxAnswer::Tx(_) = answer else {
-        return refused(number_in(answer));
+        return refused(answer::number_in(answer));
     };
     let list = records::list_of(vl_part_of(m));
     let wrong = contents::log_list_wrong(Group { f: f as u8 }, list);
@@ -401,12 +383,8 @@ pub fn read_dc(f: u64, m: &[u8]) -> Reading
         return refused(early);
     }
     let reading = read_part(tx_part_of(m));
-    let answer = reading.answer;
-    let TxAnswer::Tx(_) = answer else {
-        return refused(number_in(answer));
-    };
     let list = records::list_of(vl_part_of(m));
-    let wrong = contents::list_wrong(Group { f: f as u8 }, list);
+    let wrong = answer::judged(reading, Group { f: f as u8 }, list);
     if wrong != 0 {
         return refused(wrong);
     }
@@ -444,7 +422,7 @@ pub fn read_rd(m: &[u8]) -> Reading
     }
 }
 
-fn is_mark(m: &[u8], mark: &[u8; 2]) -> bool
+pub fn is_mark(m: &[u8], mark: &[u8; 2]) -> bool
     requires { ⌜ 2 ≤ length (now m) ⌝ }
     ensures { λ r. ⌜ r ≡ isMark (now (mark .entry)) (now (m .entry)) ⌝ }
 {

@@ -1,21 +1,17 @@
-use mathlib.Core.Path.{sym, _∙_, ap, refl}
-use mathlib.Core.List.{List}
-use Prim.Native.Nat.{ℕ}
-use Rattle.records.specs.Contents.{listWrong}
-use Rattle.records.specs.Vl.{vlOf, heldList}
+use mathlib.Core.Path.{sym, _∙_, refl}
 use Rattle.records.specs.Messages.{readDC, dcRefusal}
-use Rattle.terms.proofs.Checks.{pass, stop}
+use Rattle.answer.specs.Answer.{judgedBy}
+use Rattle.terms.proofs.Checks.{first-none}
 use Rattle.reading.proofs.Cuts.{early-cuts, early-small, vl-there}
-use Rattle.reading.proofs.Answers.{refused-by, read-by, passed-on, taken-tx, part-at, wrong-list, list-at, three-stop, three-pass}
+use Rattle.reading.proofs.Answers.{refused-by, read-by, part-at, part-tx, judged-is, wrong-list, list-at, three-stop, three-pass}
 use native.Mathlib.Omega.{arith}
 use borrow.Author.Needs.{needs}
 use Rattle.reading.proofs.read_dc.Statement.{statement}
 use Rattle.reading.proofs.read_dc.Tie as tie
 use Rattle.reading.proofs.read_dc.Reads as reads
 use Rattle.reading.proofs.read_dc.Lts as lts
-use Rattle.contents.proofs.list_wrong.Reads as list-wrong-reads
+use Rattle.answer.proofs.judged.Reads as judged-reads
 use Rattle.reading.proofs.listed_wrong.Reads as listed-wrong-reads
-use Rattle.reading.proofs.number_in.Reads as number-in-reads
 use Rattle.reading.proofs.read_part.Reads as read-part-reads
 use Rattle.reading.proofs.refused.Reads as refused-reads
 use Rattle.reading.proofs.tx_part_of.Reads as tx-part-of-reads
@@ -38,47 +34,30 @@ tx-part-of-requires c κs = let h = early-cuts _ _ _ _ _ (c .before .listed-wron
 read-part-requires : tie.Need-read-part-requires
 read-part-requires c κs = c .tx-part-of .ensures .1
 
-enum-told : tie.Need-enum-told
-enum-told c = search needs
+vl-part-of-requires : tie.Need-vl-part-of-requires
+vl-part-of-requires c κs = let h = early-cuts _ _ _ _ _ (c .before .before .before .listed-wrong .ensures) (c .before .before .if1 .left) in (h .0, h .1)
 
-enum-told-2 : tie.Need-enum-told-2
-enum-told-2 c = search needs
+list-of-requires : tie.Need-list-of-requires
+list-of-requires c κs = rw (c .vl-part-of .ensures) (vl-there _ _ refl (early-cuts _ _ _ _ _ (c .before .before .before .before .listed-wrong .ensures) (c .before .before .before .if1 .left) .2))
 
-number-in-requires : tie.Need-number-in-requires
-number-in-requires c κs = search needs
+cast-t13 : tie.Need-cast-t13
+cast-t13 c = let h = early-small _ _ _ _ _ (c .before .before .before .before .before .listed-wrong .ensures) (c .before .before .before .before .if1 .left) in omega arith
+
+judged-requires : tie.Need-judged-requires
+judged-requires c κs = search needs
 
 refused-requires-2 : tie.Need-refused-requires-2
 refused-requires-2 c κs = search needs
 
 returns-2 : tie.Need-returns-2
 unfolding readDC dcRefusal
-returns-2 c = let t = passed-on _ _ _ _ _ (part-at _ _ _ (c .before .before .before .before .before .tx-part-of .ensures .0) (c .before .before .before .before .read-part .ensures)) (c .before .before .enum-told2 .given .1) (c .before .number-in .ensures) in
-    c .refused2 .ensures ∙ refused-by _ _ _ _ _ (three-pass _ _ _ _ _ _ (c .before .before .before .before .before .before .before .listed-wrong .ensures) (c .before .before .before .before .before .before .if1 .left) (stop _ _ _ (t .0) (t .1))) (t .1)
-
-vl-part-of-requires : tie.Need-vl-part-of-requires
-vl-part-of-requires c κs = let h = early-cuts _ _ _ _ _ (c .before .before .before .before .before .listed-wrong .ensures) (c .before .before .before .before .if1 .left) in (h .0, h .1)
-
-list-of-requires : tie.Need-list-of-requires
-list-of-requires c κs = rw (c .vl-part-of .ensures) (vl-there _ _ refl (early-cuts _ _ _ _ _ (c .before .before .before .before .before .before .listed-wrong .ensures) (c .before .before .before .before .before .if1 .left) .2))
-
-cast-t15 : tie.Need-cast-t15
-cast-t15 c = let h = early-small _ _ _ _ _ (c .before .before .before .before .before .before .before .listed-wrong .ensures) (c .before .before .before .before .before .before .if1 .left) in omega arith
-
-list-wrong-requires : tie.Need-list-wrong-requires
-list-wrong-requires c κs = search needs
-
-refused-requires-3 : tie.Need-refused-requires-3
-refused-requires-3 c κs = search needs
+returns-2 c = c .refused2 .ensures ∙ refused-by _ _ _ _ _ (three-pass _ _ _ _ _ _ (c .before .before .before .before .before .before .before .before .listed-wrong .ensures) (c .before .before .before .before .before .before .before .if1 .left) (wrong-list (judgedBy (c .before .before .before .before .before .read-part .result) (c .before .before .before .before .before .before .before .before .before .before .before .args .f)) _ _ _ (list-at (c .before .before .before .before .vl-part-of .ensures) (c .before .before .before .list-of .ensures .0)) (c .before .before .judged .ensures) ∙ judged-is _ _ _ _ _ (part-at _ _ _ (c .before .before .before .before .before .before .tx-part-of .ensures .0) (c .before .before .before .before .before .read-part .ensures)))) (c .before .if2 .taken)
 
 returns-3 : tie.Need-returns-3
 unfolding readDC dcRefusal
-returns-3 c = let t = taken-tx _ _ _ _ (part-at _ _ _ (c .before .before .before .before .before .before .before .before .tx-part-of .ensures .0) (c .before .before .before .before .before .before .before .read-part .ensures)) (c .before .before .before .before .before .enum-told .given .1) in
-    c .refused3 .ensures ∙ refused-by _ _ _ _ _ (three-pass _ _ _ _ _ _ (c .before .before .before .before .before .before .before .before .before .before .listed-wrong .ensures) (c .before .before .before .before .before .before .before .before .before .if1 .left) (pass (sym (t .0)) (wrong-list (listWrong _) _ _ _ (list-at (c .before .before .before .before .vl-part-of .ensures) (c .before .before .before .list-of .ensures .0)) (c .before .before .list-wrong .ensures)))) (c .before .if2 .taken)
-
-returns-4 : tie.Need-returns-4
-unfolding readDC dcRefusal
-returns-4 c = let t = taken-tx _ _ _ _ (part-at _ _ _ (c .before .before .before .before .before .before .before .before .tx-part-of .ensures .0) (c .before .before .before .before .before .before .before .read-part .ensures)) (c .before .before .before .before .before .enum-told .given .1) in
-    read-by _ _ _ _ _ _ (three-pass _ _ _ _ _ _ (c .before .before .before .before .before .before .before .before .before .before .listed-wrong .ensures) (c .before .before .before .before .before .before .before .before .before .if1 .left) (pass (sym (t .0)) (sym (c .before .if2 .left) ∙ wrong-list (listWrong _) _ _ _ (list-at (c .before .before .before .before .vl-part-of .ensures) (c .before .before .before .list-of .ensures .0)) (c .before .before .list-wrong .ensures)))) (t .1) (list-at (c .before .before .before .before .vl-part-of .ensures) (c .before .before .before .list-of .ensures .0))
+returns-3 c = let p = part-at _ _ _ (c .before .before .before .before .before .before .tx-part-of .ensures .0) (c .before .before .before .before .before .read-part .ensures) in
+    let j = sym (c .before .if2 .left) ∙ wrong-list (judgedBy (c .before .before .before .before .before .read-part .result) (c .before .before .before .before .before .before .before .before .before .before .before .args .f)) _ _ _ (list-at (c .before .before .before .before .vl-part-of .ensures) (c .before .before .before .list-of .ensures .0)) (c .before .before .judged .ensures) ∙ judged-is _ _ _ _ _ p in
+    read-by _ _ _ _ _ _ (three-pass _ _ _ _ _ _ (c .before .before .before .before .before .before .before .before .listed-wrong .ensures) (c .before .before .before .before .before .before .before .if1 .left) j) (part-tx _ _ _ p (first-none _ _ (sym j))) (list-at (c .before .before .before .before .vl-part-of .ensures) (c .before .before .before .list-of .ensures .0))
 
 pub read-dc-spec : {M : Type 1} → statement M
 read-dc-spec =
@@ -89,15 +68,10 @@ read-dc-spec =
     returns
     tx-part-of-requires
     read-part-requires
-    enum-told
-    enum-told-2
-    number-in-requires
-    refused-requires-2
-    returns-2
     vl-part-of-requires
     list-of-requires
-    cast-t15
-    list-wrong-requires
-    refused-requires-3
-    returns-3
-    returns-4)
+    cast-t13
+    judged-requires
+    refused-requires-2
+    returns-2
+    returns-3)

@@ -15,7 +15,7 @@ use Rattle.reading.proofs.read_lg.Reads as reads
 use Rattle.reading.proofs.read_lg.Lts as lts
 use Rattle.contents.proofs.log_list_wrong.Reads as log-list-wrong-reads
 use Rattle.reading.proofs.listed_wrong.Reads as listed-wrong-reads
-use Rattle.reading.proofs.number_in.Reads as number-in-reads
+use Rattle.answer.proofs.number_in.Reads as number-in-reads
 use Rattle.reading.proofs.read_part.Reads as read-part-reads
 use Rattle.reading.proofs.refused.Reads as refused-reads
 use Rattle.reading.proofs.tx_part_of.Reads as tx-part-of-reads

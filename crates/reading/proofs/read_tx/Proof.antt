@@ -11,7 +11,7 @@ use Rattle.reading.proofs.read_tx.Reads as reads
 use Rattle.reading.proofs.read_tx.Lts as lts
 use Rattle.reading.proofs.behind_wrong.Reads as behind-wrong-reads
 use Rattle.reading.proofs.no_list.Reads as no-list-reads
-use Rattle.reading.proofs.number_in.Reads as number-in-reads
+use Rattle.answer.proofs.number_in.Reads as number-in-reads
 use Rattle.reading.proofs.read_part.Reads as read-part-reads
 use Rattle.reading.proofs.refused.Reads as refused-reads
 use Rattle.reading.proofs.tx_cut.Reads as tx-cut-reads

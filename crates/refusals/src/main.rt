@@ -1,0 +1,350 @@
+// Each refusal of the readers at its smallest input, and two faults at once for each neighbouring pair of the order.
+use libc::STDOUT_FILENO;
+use records::Found;
+use records::Reading;
+
+fn print(n: u8) {
+    io::print_decimal(STDOUT_FILENO, n as u64);
+}
+
+// The refusal's number, 0 where the message was read.
+fn number(found: Found) -> u8 {
+    match found {
+        Found::Refused(r) => r.number(),
+        _ => 0,
+    }
+}
+
+// One line: what is tried, the refusal of the message, and how many bytes of a transaction are handed back.
+fn tried(what: &[u8], f: u64, m: &[u8]) {
+    let reading = reading::read(f, m);
+    let part = reading::tx_part(f, m);
+    let found = reading.found;
+    io::write_all(STDOUT_FILENO, what);
+    io::write_all(STDOUT_FILENO, b": ");
+    print(number(found));
+    io::write_all(STDOUT_FILENO, b", handed back ");
+    io::print_decimal(STDOUT_FILENO, part.len() as u64);
+    io::write_all(STDOUT_FILENO, b"\n");
+}
+
+// The whole message is cut first: mark, counts, rest, record by record, then what stands behind it.
+fn cutting_1() {
+    tried(b"1 nothing", 1, b"");
+    tried(b"1 one byte", 1, b"P");
+    tried(b"2 no such mark", 1, b"TX");
+    tried(b"1 no second mark", 1, b"PR");
+    tried(b"2 second mark wrong", 1, b"PRVL");
+    tried(b"1 one count missing", 1, b"PRTX\x01");
+}
+
+// The whole message is cut first: mark, counts, rest, record by record, then what stands behind it.
+fn cutting_2() {
+    tried(b"3 nine reads", 1, b"PRTX\x09\x00");
+    tried(b"3 nine writes", 1, b"PRTX\x00\x09");
+    tried(b"3 neither", 1, b"PRTX\x00\x00");
+    tried(b"1 stamp missing", 1, b"PRTX\x00\x01");
+    tried(
+        b"1 last byte missing",
+        1,
+        b"PRTX\x00\x01\x32\x00\x00\x00\x00\x00\x00\x00\x03\x00\x07\x00\x00\x00\x00\x00\x00",
+    );
+    tried(
+        b"1 no list",
+        1,
+        b"LGTX\x00\x01\x32\x00\x00\x00\x00\x00\x00\x00\x03\x00\x07\x00\x00\x00\x00\x00\x00\x00",
+    );
+}
+
+// The whole message is cut first: mark, counts, rest, record by record, then what stands behind it.
+fn cutting_3() {
+    tried(
+        b"2 list mark wrong",
+        1,
+        b"LGTX\x00\x01\x32\x00\x00\x00\x00\x00\x00\x00\x03\x00\x07\x00\x00\x00\x00\x00\x00\x00TX",
+    );
+    tried(
+        b"1 list count missing",
+        1,
+        b"LGTX\x00\x01\x32\x00\x00\x00\x00\x00\x00\x00\x03\x00\x07\x00\x00\x00\x00\x00\x00\x00VL\x01\x01",
+    );
+    tried(
+        b"3 list of none",
+        1,
+        b"LGTX\x00\x01\x32\x00\x00\x00\x00\x00\x00\x00\x03\x00\x07\x00\x00\x00\x00\x00\x00\x00VL\x01\x01\x00",
+    );
+    tried(
+        b"3 list of 27",
+        1,
+        b"LGTX\x00\x01\x32\x00\x00\x00\x00\x00\x00\x00\x03\x00\x07\x00\x00\x00\x00\x00\x00\x00VL\x01\x01\x1b",
+    );
+    tried(
+        b"1 pair cut",
+        1,
+        b"LGTX\x00\x01\x32\x00\x00\x00\x00\x00\x00\x00\x03\x00\x07\x00\x00\x00\x00\x00\x00\x00VL\x01\x01\x01\x00",
+    );
+    tried(b"1 RD cut", 1, b"RD\x03\x00\x3c\x00\x00\x00\x00\x00\x00");
+}
+
+// The whole message is cut first: mark, counts, rest, record by record, then what stands behind it.
+fn cutting_4() {
+    tried(
+        b"4 one byte behind",
+        1,
+        b"PRTX\x00\x01\x32\x00\x00\x00\x00\x00\x00\x00\x03\x00\x07\x00\x00\x00\x00\x00\x00\x00\x00",
+    );
+    tried(
+        b"4 behind an RD",
+        1,
+        b"RD\x03\x00\x3c\x00\x00\x00\x00\x00\x00\x00\x00",
+    );
+    tried(
+        b"ok PR",
+        1,
+        b"PRTX\x00\x01\x32\x00\x00\x00\x00\x00\x00\x00\x03\x00\x07\x00\x00\x00\x00\x00\x00\x00",
+    );
+    tried(
+        b"ok LG",
+        1,
+        b"LGTX\x00\x01\x32\x00\x00\x00\x00\x00\x00\x00\x03\x00\x07\x00\x00\x00\x00\x00\x00\x00VL\x01\x01\x01\x00\x01",
+    );
+    tried(
+        b"ok DC",
+        1,
+        b"DCTX\x00\x01\x32\x00\x00\x00\x00\x00\x00\x00\x03\x00\x07\x00\x00\x00\x00\x00\x00\x00VL\x01\x01\x01\x00\x01",
+    );
+    tried(b"ok RD", 1, b"RD\x03\x00\x3c\x00\x00\x00\x00\x00\x00\x00");
+}
+
+// All of the transaction for 5, then 6, then 7; then the list for 8, then 5, then 6.
+fn contents_1() {
+    tried(
+        b"5 stamp 0",
+        1,
+        b"PRTX\x00\x01\x00\x00\x00\x00\x00\x00\x00\x00\x03\x00\x07\x00\x00\x00\x00\x00\x00\x00",
+    );
+    tried(
+        b"5 key 512 read",
+        1,
+        b"PRTX\x01\x00\x32\x00\x00\x00\x00\x00\x00\x00\x00\x02\x00\x00\x00\x00\x00\x00\x00\x00",
+    );
+    tried(
+        b"5 key 512 written",
+        1,
+        b"PRTX\x00\x01\x32\x00\x00\x00\x00\x00\x00\x00\x00\x02\x00\x00\x00\x00\x00\x00\x00\x00",
+    );
+    tried(
+        b"ok key 511",
+        1,
+        b"PRTX\x00\x01\x32\x00\x00\x00\x00\x00\x00\x00\xff\x01\x00\x00\x00\x00\x00\x00\x00\x00",
+    );
+    tried(
+        b"6 reads fall",
+        1,
+        b"PRTX\x02\x00\x32\x00\x00\x00\x00\x00\x00\x00\x03\x00\x00\x00\x00\x00\x00\x00\x00\x00\x03\x00\x00\x00\x00\x00\x00\x00\x00\x00",
+    );
+    tried(
+        b"6 writes fall",
+        1,
+        b"PRTX\x00\x02\x32\x00\x00\x00\x00\x00\x00\x00\x04\x00\x00\x00\x00\x00\x00\x00\x00\x00\x03\x00\x00\x00\x00\x00\x00\x00\x00\x00",
+    );
+}
+
+// All of the transaction for 5, then 6, then 7; then the list for 8, then 5, then 6.
+fn contents_2() {
+    tried(
+        b"7 own stamp read",
+        1,
+        b"PRTX\x01\x00\x32\x00\x00\x00\x00\x00\x00\x00\x03\x00\x32\x00\x00\x00\x00\x00\x00\x00",
+    );
+    tried(
+        b"ok version below",
+        1,
+        b"PRTX\x01\x00\x32\x00\x00\x00\x00\x00\x00\x00\x03\x00\x31\x00\x00\x00\x00\x00\x00\x00",
+    );
+    tried(
+        b"8 kind 0",
+        1,
+        b"DCTX\x00\x01\x32\x00\x00\x00\x00\x00\x00\x00\x03\x00\x07\x00\x00\x00\x00\x00\x00\x00VL\x00\x01\x01\x00\x01",
+    );
+    tried(
+        b"8 kind 3",
+        1,
+        b"DCTX\x00\x01\x32\x00\x00\x00\x00\x00\x00\x00\x03\x00\x07\x00\x00\x00\x00\x00\x00\x00VL\x03\x01\x01\x00\x01",
+    );
+    tried(
+        b"8 decision 3",
+        1,
+        b"DCTX\x00\x01\x32\x00\x00\x00\x00\x00\x00\x00\x03\x00\x07\x00\x00\x00\x00\x00\x00\x00VL\x01\x03\x01\x00\x01",
+    );
+    tried(
+        b"8 answer 0",
+        1,
+        b"DCTX\x00\x01\x32\x00\x00\x00\x00\x00\x00\x00\x03\x00\x07\x00\x00\x00\x00\x00\x00\x00VL\x01\x01\x01\x00\x00",
+    );
+}
+
+// All of the transaction for 5, then 6, then 7; then the list for 8, then 5, then 6.
+fn contents_3() {
+    tried(
+        b"8 logs in an LG",
+        1,
+        b"LGTX\x00\x01\x32\x00\x00\x00\x00\x00\x00\x00\x03\x00\x07\x00\x00\x00\x00\x00\x00\x00VL\x02\x01\x01\x00\x01",
+    );
+    tried(
+        b"ok logs in a DC",
+        1,
+        b"DCTX\x00\x01\x32\x00\x00\x00\x00\x00\x00\x00\x03\x00\x07\x00\x00\x00\x00\x00\x00\x00VL\x02\x01\x01\x00\x01",
+    );
+    tried(
+        b"5 box 6 of 6",
+        1,
+        b"DCTX\x00\x01\x32\x00\x00\x00\x00\x00\x00\x00\x03\x00\x07\x00\x00\x00\x00\x00\x00\x00VL\x01\x01\x01\x06\x01",
+    );
+    tried(
+        b"ok box 5 of 6",
+        1,
+        b"DCTX\x00\x01\x32\x00\x00\x00\x00\x00\x00\x00\x03\x00\x07\x00\x00\x00\x00\x00\x00\x00VL\x01\x01\x01\x05\x01",
+    );
+    tried(
+        b"ok box 25 of 26",
+        5,
+        b"DCTX\x00\x01\x32\x00\x00\x00\x00\x00\x00\x00\x03\x00\x07\x00\x00\x00\x00\x00\x00\x00VL\x01\x01\x01\x19\x01",
+    );
+    tried(
+        b"5 box 26 of 26",
+        5,
+        b"DCTX\x00\x01\x32\x00\x00\x00\x00\x00\x00\x00\x03\x00\x07\x00\x00\x00\x00\x00\x00\x00VL\x01\x01\x01\x1a\x01",
+    );
+}
+
+// All of the transaction for 5, then 6, then 7; then the list for 8, then 5, then 6.
+fn contents_4() {
+    tried(
+        b"6 box 2 twice",
+        1,
+        b"DCTX\x00\x01\x32\x00\x00\x00\x00\x00\x00\x00\x03\x00\x07\x00\x00\x00\x00\x00\x00\x00VL\x01\x01\x02\x02\x01\x02\x01",
+    );
+    tried(
+        b"5 RD key 512",
+        1,
+        b"RD\x00\x02\x3c\x00\x00\x00\x00\x00\x00\x00",
+    );
+    tried(
+        b"5 RD stamp 0",
+        1,
+        b"RD\x03\x00\x00\x00\x00\x00\x00\x00\x00\x00",
+    );
+}
+
+// Two faults at once: the earlier in the order is told.
+fn pairs_1() {
+    tried(b"14 before 1", 0, b"");
+    tried(b"14 before 2", 6, b"TX");
+    tried(b"1 before 2", 1, b"T");
+    tried(b"2 before 1", 1, b"PRVL");
+    tried(b"1 before 3", 1, b"PRTX\x09");
+    tried(b"3 before 1", 1, b"PRTX\x09\x09");
+}
+
+// Two faults at once: the earlier in the order is told.
+fn pairs_2() {
+    tried(
+        b"1 before 5",
+        1,
+        b"PRTX\x00\x01\x00\x00\x00\x00\x00\x00\x00\x00\x03\x00\x07\x00\x00\x00\x00\x00\x00",
+    );
+    tried(
+        b"3 of the list before 5",
+        1,
+        b"LGTX\x00\x01\x00\x00\x00\x00\x00\x00\x00\x00\x03\x00\x07\x00\x00\x00\x00\x00\x00\x00VL\x01\x01\x00",
+    );
+    tried(
+        b"2 of the list before 5",
+        1,
+        b"LGTX\x00\x01\x00\x00\x00\x00\x00\x00\x00\x00\x03\x00\x07\x00\x00\x00\x00\x00\x00\x00XX\x01\x01\x01\x00\x01",
+    );
+    tried(
+        b"1 of the list before 5",
+        1,
+        b"LGTX\x00\x01\x00\x00\x00\x00\x00\x00\x00\x00\x03\x00\x07\x00\x00\x00\x00\x00\x00\x00VL\x01\x01\x01\x00",
+    );
+    tried(
+        b"4 before 5",
+        1,
+        b"PRTX\x00\x01\x00\x00\x00\x00\x00\x00\x00\x00\x03\x00\x07\x00\x00\x00\x00\x00\x00\x00\x00",
+    );
+    tried(
+        b"5 before 6",
+        1,
+        b"PRTX\x02\x01\x32\x00\x00\x00\x00\x00\x00\x00\x03\x00\x00\x00\x00\x00\x00\x00\x00\x00\x03\x00\x00\x00\x00\x00\x00\x00\x00\x00\x00\x02\x00\x00\x00\x00\x00\x00\x00\x00",
+    );
+}
+
+// Two faults at once: the earlier in the order is told.
+fn pairs_3() {
+    tried(
+        b"5 before 7",
+        1,
+        b"PRTX\x01\x00\x32\x00\x00\x00\x00\x00\x00\x00\x00\x02\x32\x00\x00\x00\x00\x00\x00\x00",
+    );
+    tried(
+        b"6 before 7",
+        1,
+        b"PRTX\x02\x00\x32\x00\x00\x00\x00\x00\x00\x00\x03\x00\x32\x00\x00\x00\x00\x00\x00\x00\x03\x00\x00\x00\x00\x00\x00\x00\x00\x00",
+    );
+    tried(
+        b"6 of the writes before 7",
+        1,
+        b"PRTX\x01\x02\x32\x00\x00\x00\x00\x00\x00\x00\x03\x00\x32\x00\x00\x00\x00\x00\x00\x00\x04\x00\x00\x00\x00\x00\x00\x00\x00\x00\x04\x00\x00\x00\x00\x00\x00\x00\x00\x00",
+    );
+    tried(
+        b"7 before 8",
+        1,
+        b"DCTX\x01\x00\x32\x00\x00\x00\x00\x00\x00\x00\x03\x00\x32\x00\x00\x00\x00\x00\x00\x00VL\x03\x01\x01\x00\x01",
+    );
+    tried(
+        b"8 before 5",
+        1,
+        b"DCTX\x00\x01\x32\x00\x00\x00\x00\x00\x00\x00\x03\x00\x07\x00\x00\x00\x00\x00\x00\x00VL\x03\x01\x01\x06\x01",
+    );
+    tried(
+        b"8 of an answer before 5",
+        1,
+        b"DCTX\x00\x01\x32\x00\x00\x00\x00\x00\x00\x00\x03\x00\x07\x00\x00\x00\x00\x00\x00\x00VL\x01\x01\x02\x06\x01\x07\x03",
+    );
+}
+
+// Two faults at once: the earlier in the order is told.
+fn pairs_4() {
+    tried(
+        b"8 of the LG before 5",
+        1,
+        b"LGTX\x00\x01\x32\x00\x00\x00\x00\x00\x00\x00\x03\x00\x07\x00\x00\x00\x00\x00\x00\x00VL\x02\x01\x01\x06\x01",
+    );
+    tried(
+        b"5 before 6 in a list",
+        1,
+        b"DCTX\x00\x01\x32\x00\x00\x00\x00\x00\x00\x00\x03\x00\x07\x00\x00\x00\x00\x00\x00\x00VL\x01\x01\x02\x06\x01\x06\x01",
+    );
+    tried(
+        b"4 before 5 in an RD",
+        1,
+        b"RD\x00\x02\x00\x00\x00\x00\x00\x00\x00\x00\x00",
+    );
+}
+
+fn main() {
+    cutting_1();
+    cutting_2();
+    cutting_3();
+    cutting_4();
+    contents_1();
+    contents_2();
+    contents_3();
+    contents_4();
+    pairs_1();
+    pairs_2();
+    pairs_3();
+    pairs_4();
+}

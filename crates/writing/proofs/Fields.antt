@@ -1,0 +1,142 @@
+-- Numbers, items and pairs: what was written is read, and what was read is written.
+use Prim.Native.Nat.{ℕ, zero, suc, _+_, _*_, _/_, _%_, _^_, _<_, _≤_}
+use native.Mathlib.Omega.{arith}
+use native.Mathlib.Nat.{pow-succ'}
+use mathlib.Core.Path.{_≡_, refl, ap, sym, _∙_}
+use mathlib.Core.List.{List, [], _∷_, _++_, append-assoc}
+use lib.ListN.{length, getD, take, drop, length-append, length-take, length-drop}
+use lib.Seq.{take-at, drop-at, getD-drop, take-add, drop-drop}
+use Rattle.terms.specs.Choice.{tab}
+use Rattle.terms.proofs.Scans.{tab-shift, tab-same}
+use Rattle.records.specs.Numbers.{leVal, leBytes, numAt}
+use Rattle.records.specs.Tx.{flat}
+use Rattle.records.specs.Vl.{flatPairs, pairAt}
+use Rattle.records.specs.declared.Pair.{Pair}
+use Rattle.writing.specs.OneForm.{Bytes, Each, more, Fits}
+
+-- ---- numbers
+pub bytes-long : (n x : ℕ) → length (leBytes n x) ≡ n
+bytes-long zero x = refl
+bytes-long (suc n) x = ap suc (bytes-long n (x / 256))
+
+pub number-back : (n x : ℕ) → x < 256 ^ n → leVal (leBytes n x) ≡ x
+number-back zero x h = omega arith
+number-back (suc n) x h =
+    let p : 256 ^ suc n ≡ 256 * 256 ^ n = pow-succ' 256 n in
+    let e : leVal (leBytes n (x / 256)) ≡ x / 256 = number-back n (x / 256) (omega arith) in
+    omega arith
+
+pub bytes-back : (s : List ℕ) → Bytes s → leBytes (length s) (leVal s) ≡ s
+bytes-back [] h = refl
+bytes-back (b ∷ s) h =
+    let l : b < 256 = h 0 in
+    let m : (b + 256 * leVal s) % 256 ≡ b = omega arith in
+    let d : (b + 256 * leVal s) / 256 ≡ leVal s = omega arith in
+    rw (m, d, bytes-back s (λ i. h (suc i)))
+
+pub bytes-take : (n : ℕ) (s : List ℕ) → Bytes s → Bytes (take n s)
+bytes-take zero s h i = omega arith
+bytes-take (suc n) [] h i = omega arith
+bytes-take (suc n) (x ∷ s) h zero = h 0
+bytes-take (suc n) (x ∷ s) h (suc i) = bytes-take n s (λ j. h (suc j)) i
+
+pub bytes-drop : (n : ℕ) (s : List ℕ) → Bytes s → Bytes (drop n s)
+bytes-drop n s h i = rw getD-drop (h (n + i))
+
+-- a number where it was written, and where it was read
+pub num-at : (n p x : ℕ) (pre post : List ℕ) → length pre ≡ p → x < 256 ^ n → numAt n p (pre ++ (leBytes n x ++ post)) ≡ x
+unfolding numAt
+num-at n p x pre post h l = rw (drop-at pre (leBytes n x ++ post) p h, take-at (leBytes n x) post n (bytes-long n x)) (number-back n x l)
+
+pub num-back : (n p : ℕ) (s : List ℕ) → Bytes s → p + n ≤ length s → leBytes n (numAt n p s) ≡ take n (drop p s)
+unfolding numAt
+num-back n p s h l =
+    let e : length (take n (drop p s)) ≡ n = simp (length-take, length-drop) (omega arith) in
+    ap (λ (m : ℕ). leBytes m (leVal (take n (drop p s)))) (sym e) ∙ bytes-back (take n (drop p s)) (bytes-take n (drop p s) (bytes-drop p s h))
+
+join : {a b c d e f : List ℕ} → a ≡ d → b ≡ e → c ≡ f → a ++ (b ++ c) ≡ d ++ (e ++ f)
+join p q r = cc
+
+-- ---- a key with what stands beside it: reads and writes alike
+module _ {A : Type 0} (k v : A → ℕ) (mk : ℕ → ℕ → A) where
+  abbrev pub item : List ℕ → ℕ → ℕ → A
+  item s p j = mk (numAt 2 (p + j * 10) s) (numAt 8 (p + j * 10 + 2) s)
+
+  item-next : (s : List ℕ) (p j : ℕ) → item s p (j + 1) ≡ item s (p + 10) j
+  item-next s p j =
+      let a : p + (j + 1) * 10 ≡ p + 10 + j * 10 = omega arith in
+      rw a
+
+  pub items-read : ((x : A) → mk (k x) (v x) ≡ x) → (xs : List A) (pre post : List ℕ) (p : ℕ) → length pre ≡ p → Each (Fits k v) xs → tab (item (pre ++ (flat k v xs ++ post)) p) 0 (length xs) ≡ xs
+  items-read eta [] pre post p h m = refl
+  items-read eta (x ∷ xs) pre post p h (more f m) =
+      let s : List ℕ = pre ++ (flat k v (x ∷ xs) ++ post) in
+      let pre2 : List ℕ = pre ++ leBytes 2 (k x) in
+      let pre3 : List ℕ = pre2 ++ leBytes 8 (v x) in
+      let l2 : length pre2 ≡ p + 2 = length-append pre (leBytes 2 (k x)) ∙ (omega arith) in
+      let l3 : length pre3 ≡ p + 10 = length-append pre2 (leBytes 8 (v x)) ∙ (omega (arith, bytes-long 8 (v x))) in
+      let s1 : s ≡ pre ++ (leBytes 2 (k x) ++ (leBytes 8 (v x) ++ (flat k v xs ++ post))) = simp append-assoc in
+      let s2 : s ≡ pre2 ++ (leBytes 8 (v x) ++ (flat k v xs ++ post)) = simp append-assoc in
+      let s3 : s ≡ pre3 ++ (flat k v xs ++ post) = simp append-assoc in
+      let z : p + 0 * 10 ≡ p = omega arith in
+      let e1 : numAt 2 p s ≡ k x = ap (numAt 2 p) s1 ∙ num-at 2 p (k x) pre (leBytes 8 (v x) ++ (flat k v xs ++ post)) h (f .0) in
+      let e2 : numAt 8 (p + 2) s ≡ v x = ap (numAt 8 (p + 2)) s2 ∙ num-at 8 (p + 2) (v x) pre2 (flat k v xs ++ post) l2 (f .1) in
+      let e0 : item s p 0 ≡ x = (rw (z, e1, e2)) ∙ eta x in
+      let t : tab (item s p) 1 (length xs) ≡ xs =
+      tab-shift (item s p) (item s (p + 10)) 0 (length xs) (item-next s p) ∙ ap (λ (q : List ℕ). tab (item q (p + 10)) 0 (length xs)) s3 ∙ items-read eta xs pre3 post (p + 10) l3 m in
+      cc
+
+  module _ (kmk : (a b : ℕ) → k (mk a b) ≡ a) (vmk : (a b : ℕ) → v (mk a b) ≡ b) where
+    pub items-written : (n p : ℕ) (s : List ℕ) → Bytes s → p + n * 10 ≤ length s → flat k v (tab (item s p) 0 n) ≡ take (n * 10) (drop p s)
+    items-written zero p s h l = refl
+    items-written (suc n) p s h l =
+        let z : p + 0 * 10 ≡ p = omega arith in
+        let m : suc n * 10 ≡ 2 + (8 + n * 10) = omega arith in
+        let d : p + 2 + 8 ≡ p + 10 = omega arith in
+        let e1 : leBytes 2 (numAt 2 p s) ≡ take 2 (drop p s) = num-back 2 p s h (omega arith) in
+        let e2 : leBytes 8 (numAt 8 (p + 2) s) ≡ take 8 (drop (p + 2) s) = num-back 8 (p + 2) s h (omega arith) in
+        let e3 : flat k v (tab (item s p) 1 n) ≡ take (n * 10) (drop (p + 10) s) = ap (flat k v) (tab-shift (item s p) (item s (p + 10)) 0 n (item-next s p)) ∙ items-written n (p + 10) s h (omega arith) in
+        let q : take (suc n * 10) (drop p s) ≡ take 2 (drop p s) ++ (take 8 (drop (p + 2) s) ++ take (n * 10) (drop (p + 10) s)) =
+        rw (m, take-add 2 (8 + n * 10) (drop p s), take-add 8 (n * 10) (drop 2 (drop p s)), drop-drop 2 p s, drop-drop 8 (p + 2) s, d) in
+        let g : flat k v (tab (item s p) 0 (suc n)) ≡ leBytes 2 (numAt 2 p s) ++ (leBytes 8 (numAt 8 (p + 2) s) ++ flat k v (tab (item s p) 1 n)) = rw (kmk, vmk, z) in
+        g ∙ join e1 e2 e3 ∙ sym q
+
+-- ---- pairs: the j-th of those that begin a list
+abbrev pairIn : List ℕ → ℕ → Pair
+pairIn q j = record { number = getD q (2 * j) 0; answer = getD q (2 * j + 1) 0 }
+
+pair-next : (a b : ℕ) (q : List ℕ) (j : ℕ) → pairIn (a ∷ b ∷ q) (j + 1) ≡ pairIn q j
+pair-next a b q j =
+    let e : 2 * (j + 1) ≡ suc (suc (2 * j)) = omega arith in
+    let g : suc (suc (2 * j)) + 1 ≡ suc (suc (2 * j + 1)) = omega arith in
+    rw (e, g)
+
+pair-at : (s : List ℕ) (j : ℕ) → pairAt s j ≡ pairIn (drop 5 s) j
+unfolding pairAt
+pair-at s j =
+    let e : 5 + (2 * j + 1) ≡ 6 + 2 * j = omega arith in
+    rw (getD-drop 5 s (2 * j) 0, getD-drop 5 s (2 * j + 1) 0, e)
+
+pairs-in : (ps : List Pair) → tab (pairIn (flatPairs ps)) 0 (length ps) ≡ ps
+pairs-in [] = refl
+pairs-in (p ∷ ps) = ap (λ (l : List Pair). p ∷ l) (tab-shift (pairIn (flatPairs (p ∷ ps))) (pairIn (flatPairs ps)) 0 (length ps) (pair-next (p .number) (p .answer) (flatPairs ps)) ∙ pairs-in ps)
+
+pairs-out : (n : ℕ) (q : List ℕ) → 2 * n ≡ length q → flatPairs (tab (pairIn q) 0 n) ≡ q
+pairs-out zero [] h = refl
+pairs-out zero (a ∷ q) h = absurd (omega arith)
+pairs-out (suc n) [] h = absurd (omega arith)
+pairs-out (suc n) (a ∷ []) h = absurd (omega arith)
+pairs-out (suc n) (a ∷ b ∷ q) h =
+    let t : flatPairs (tab (pairIn (a ∷ b ∷ q)) 1 n) ≡ q = ap flatPairs (tab-shift (pairIn (a ∷ b ∷ q)) (pairIn q) 0 n (pair-next a b q)) ∙ pairs-out n q (omega arith) in
+    rw t
+
+as-pairs : (s : List ℕ) (n : ℕ) → tab (pairAt s) 0 n ≡ tab (pairIn (drop 5 s)) 0 n
+as-pairs s n = tab-same (pairIn (drop 5 s)) (pairAt s) 0 n (λ j a b. pair-at s j)
+
+pub pairs-read : (s : List ℕ) (ps : List Pair) → drop 5 s ≡ flatPairs ps → tab (pairAt s) 0 (length ps) ≡ ps
+pairs-read s ps e = as-pairs s (length ps) ∙ ap (λ (q : List ℕ). tab (pairIn q) 0 (length ps)) e ∙ pairs-in ps
+
+pub pairs-written : (s : List ℕ) (n : ℕ) → 5 + 2 * n ≡ length s → flatPairs (tab (pairAt s) 0 n) ≡ drop 5 s
+pairs-written s n h =
+    let l : 2 * n ≡ length (drop 5 s) = rw (length-drop 5 s) (omega arith) in
+    ap flatPairs (as-pairs s n) ∙ pairs-out n (drop 5 s) l

@@ -1,0 +1,7 @@
+pub mod Front
+pub mod Laid
+pub mod Writes
+pub mod Fields
+pub mod Cut
+pub mod OneForm
+pub mod Accepted
