@@ -1,0 +1,97 @@
+-- The counts behind backed lists: proofs and lists for logging.
+use Prim.Native.Nat.{ℕ, _≤_, _<_}
+use mathlib.Core.Bool.{Bool, not, _&&_, _||_}
+use mathlib.Core.Path.{_≡_}
+use mathlib.Core.Logic.{_⊎_, inl, inr}
+use mathlib.Core.List.{List, _∷_, List·Memᴰ as In}
+use native.Mathlib.Omega.{arith}
+use lib.Dec.{T, eqb, eqb→eq, leb→le}
+use Rattle.terms.specs.Group.{boxes}
+use Rattle.records.specs.declared.Pair.{Pair}
+use Rattle.records.specs.Vl.{Vl}
+use Rattle.records.specs.Contents.{listWrong}
+use Rattle.rules.specs.Answers.{Decision, votes}
+use Rattle.rules.specs.Bodies.{Body}
+use Rattle.rules.specs.Lists.{kindOf, decisionOf, forLogging, forProof, tally, meets}
+use Rattle.rules.specs.System.{Event, Word, vote, word, gave, count, Sound, Backed, Proof}
+use Rattle.rules.proofs.Laws.{ands, or-cases, or-l, or-r, decideT, no-both, any-found}
+use Rattle.rules.proofs.Counting.{count-mono, says, rising, formed-rising, tally-count}
+use Rattle.rules.proofs.Moves.{Listing}
+use Rattle.rules.proofs.Trace.{gave-later}
+
+module _ (f : ℕ) (faulty : ℕ → Bool) where
+  -- the boxes that are faulty or gave it
+  unfoldable pub upheld : List Event → Body → Word → ℕ → Bool
+  upheld es b w i = faulty i || gave f i b w es
+
+  pub upheld-gave : (es : List Event) (b : Body) (w : Word) (i : ℕ) → T (upheld es b w i) → T (not (faulty i)) → T (gave f i b w es)
+  unfolding upheld
+  upheld-gave es b w i h s = go (or-cases (faulty i) (gave f i b w es) h)
+    where
+      go : T (faulty i) ⊎ T (gave f i b w es) → T (gave f i b w es)
+      go (inl y) = absurd (no-both (faulty i) y s)
+      go (inr y) = y
+
+  -- pairs that are what sound boxes gave: as many are upheld as are tallied
+  pub pairs-count : (es : List Event) (b : Body) (w : Word) (d : ℕ) (ps : List Pair) → T (rising 0 (boxes f) ps)
+      → ((p : Pair) → In p ps → Sound f faulty (p .number) → (p .answer) ≡ d → T (gave f (p .number) b w es))
+      → tally d ps ≤ count (upheld es b w) (boxes f)
+  unfolding says upheld
+  pairs-count es b w d ps r g = omega (arith, tally-count d 0 (boxes f) ps r, count-mono (says d ps) (upheld es b w) (boxes f) each)
+    where
+      each : (i : ℕ) → i < boxes f → T (says d ps i) → T (upheld es b w i)
+      each i n h = go (decideT (faulty i))
+        where
+          go : T (faulty i) ⊎ T (not (faulty i)) → T (upheld es b w i)
+          go (inl y) = or-l (faulty i) (gave f i b w es) y
+          go (inr y) =
+              let m = any-found (λ p. eqb (p .number) i && eqb (p .answer) d) ps h in
+              let k = m .2 in
+              let q : T (eqb (m .0 .number) i) = search ands in
+              let s : T (eqb (m .0 .answer) d) = search ands in
+              let q′ = eqb→eq (m .0 .number) i q in
+              let t = g (m .0) (m .1) (rw q′ (n, y)) (eqb→eq (m .0 .answer) d s) in
+              or-r (faulty i) (gave f i b w es) (rw q′ at t)
+
+  list-count : (es : List Event) (b : Body) (l : Vl) (need : ℕ) → listWrong f l ≡ 0 → T (meets need l) → Backed f faulty es b l
+      → need ≤ count (upheld es b (word (kindOf (l .kind)) (decisionOf (l .decision)))) (boxes f)
+  unfolding meets Backed
+  list-count es b l need wf h B =
+      omega (
+        arith,
+        leb→le need (tally (l .decision) (l .pairs)) h,
+        pairs-count es b (word (kindOf (l .kind)) (decisionOf (l .decision))) (l .decision) (l .pairs) (formed-rising f l wf)
+            (λ p m s q. rw (← q) (B p m s)),
+      )
+
+  -- the votes or logs behind a proof, and the votes behind a logged decision
+  pub proof-count : (es : List Event) (b : Body) (d : Decision) (P : Proof f faulty es b d)
+      → forProof f (kindOf (P .list .kind)) d ≤ count (upheld es b (word (kindOf (P .list .kind)) d)) (boxes f)
+  proof-count es b d P =
+      let n = list-count es b (P .list) (forProof f (kindOf (P .list .kind)) (decisionOf (P .list .decision))) (P .formed) (P .enough) (P .backed) in
+      rw (P .names) at n
+
+  pub record LogBehind (es : List Event) (b : Body) (d : Decision) : Type 0 where
+    pub list : Vl
+    pub kind : kindOf (list .kind) ≡ votes
+    pub names : decisionOf (list .decision) ≡ d
+    pub listing : Listing f list (forLogging f (decisionOf (list .decision)))
+    pub backed : Backed f faulty es b list
+
+  pub logged-count : (es : List Event) (b : Body) (d : Decision) → LogBehind es b d → forLogging f d ≤ count (upheld es b (vote d)) (boxes f)
+  unfolding word
+  logged-count es b d P =
+      let n = list-count es b (P .list) (forLogging f (decisionOf (P .list .decision))) (P .listing .formed) (P .listing .enough) (P .backed) in
+      rw (P .names, P .kind) at n
+
+  pub backed-later : (e : Event) (es : List Event) (b : Body) (l : Vl) → Backed f faulty es b l → Backed f faulty (e ∷ es) b l
+  unfolding Backed
+  backed-later e es b l h p m s = gave-later f (p .number) e es b (word (kindOf (l .kind)) (decisionOf (p .answer))) (h p m s)
+
+  pub logged-later : (e : Event) (es : List Event) (b : Body) (d : Decision) → LogBehind es b d → LogBehind (e ∷ es) b d
+  logged-later e es b d P =
+      record { list = P .list; kind = P .kind; names = P .names; listing = P .listing; backed = backed-later e es b (P .list) (P .backed) }
+
+  pub proof-later : (e : Event) (es : List Event) (b : Body) (d : Decision) → Proof f faulty es b d → Proof f faulty (e ∷ es) b d
+  proof-later e es b d P =
+      record { list = P .list; names = P .names; formed = P .formed; enough = P .enough; backed = backed-later e es b (P .list) (P .backed) }

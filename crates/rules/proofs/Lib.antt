@@ -1,0 +1,26 @@
+-- In the order of use. Of what the theorem rests on, only Tested, Called and Deeds look into the rules.
+pub mod Laws
+pub mod Counting
+pub mod Quorums
+pub mod Moves
+pub mod Tested
+pub mod Called
+pub mod Deeds
+pub mod Outcome
+pub mod Kept
+pub mod Room
+pub mod Said
+pub mod Fresh
+pub mod Trace
+pub mod Local
+pub mod Backing
+pub mod Rests
+pub mod Apart
+pub mod Global
+pub mod Serial
+pub mod Made
+pub mod Exist
+pub mod Safety
+pub mod Running
+pub mod Cases
+pub mod Traces

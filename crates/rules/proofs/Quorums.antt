@@ -1,0 +1,22 @@
+-- The threshold facts, for every f.
+use Prim.Native.Nat.{ℕ, _<_}
+use native.Mathlib.Omega.{arith}
+use Rattle.rules.specs.Answers.{Decision, commit, abort, logs}
+use Rattle.rules.specs.Lists.{forProof}
+use Rattle.rules.specs.Quorums.{EveryQuorum}
+
+log-sound : (f : ℕ) (d : Decision) → f < forProof f logs d
+log-sound f commit = omega arith
+log-sound f abort = omega arith
+
+pub quorums : EveryQuorum
+quorums f = record {
+  both-voted = omega arith;
+  abort-logged = omega arith;
+  commit-logged = omega arith;
+  both-logged = omega arith;
+  two-commits = omega arith;
+  proof-lists = omega arith;
+  log-sound = log-sound f;
+  commit-sound = omega arith;
+}

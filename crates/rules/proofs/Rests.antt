@@ -1,0 +1,155 @@
+-- What sound boxes rest on along a fair trace: proofs, lists of votes, committed versions.
+use Prim.Native.Nat.{ℕ, _<_}
+use mathlib.Core.Bool.{Bool}
+use mathlib.Core.Path.{_≡_, refl}
+use mathlib.Core.Logic.{_⊎_, inl, inr}
+use mathlib.Core.Option.{some}
+use mathlib.Core.List.{List, [], _∷_, List·Memᴰ as In}
+use native.Mathlib.Omega.{arith}
+use lib.Dec.{T}
+use Rattle.records.specs.declared.Read.{Read}
+use Rattle.records.specs.Tx.{readKey, readVersion}
+use Rattle.records.specs.Vl.{Vl}
+use Rattle.rules.specs.Answers.{Decision, commit, Vote, unvoted, waiting, voteCommit, voteAbort}
+use Rattle.rules.specs.Bodies.{Body, stampOf, readsOf, writesKey}
+use Rattle.rules.specs.Lists.{decisionOf}
+use Rattle.rules.specs.Table.{Entry, empty, find}
+use Rattle.rules.specs.Calls.{Act}
+use Rattle.rules.specs.Act.{bodyOf, answerIn}
+use Rattle.rules.specs.System.{Event, boxAt, vote, log, cast, gave, Sound, Backed, Honest, Fair, Proof}
+use Rattle.rules.proofs.Laws.{find-stamp, find-in}
+use Rattle.rules.proofs.Moves.{none-some, abort-commit, Names, start, here-held, Ready, Brings, Move}
+use Rattle.rules.proofs.Said.{Said, repeats, by-tests, by-list, said}
+use Rattle.rules.proofs.Fresh.{Fresh, after-cases}
+use Rattle.rules.proofs.Trace.{table, New, Idle, Moved, Step, still, arrives, step}
+use Rattle.rules.proofs.Local.{carried-gave, local}
+use Rattle.rules.proofs.Backing.{LogBehind, logged-later, proof-later}
+
+module _ (f : ℕ) (faulty : ℕ → Bool) where
+  -- a list that a message brings is backed
+  brought : (es : List Event) (m : List ℕ) (b : Body) (l : Vl) → Brings f m b l → Honest f faulty es m → Backed f faulty es b l
+  unfolding Honest
+  brought es m b l w h = rw (← w .body, ← w .list) (h (w .read) (w .carries))
+
+  -- a committed writer of a key at a version
+  pub record Writer (es : List Event) (k v : ℕ) : Type 0 where
+    pub body : Body
+    pub stamp : stampOf body ≡ v
+    pub writes : T (writesKey body k)
+    pub proof : Proof f faulty es body commit
+
+  pub record ReadOk (es : List Event) (b : Body) (r : Read) : Type 0 where
+    pub below : readVersion r < stampOf b
+    pub names : (readVersion r ≡ 0) ⊎ Writer es (readKey r) (readVersion r)
+
+  read-later : (e : Event) (es : List Event) (b : Body) (r : Read) → ReadOk es b r → ReadOk (e ∷ es) b r
+  read-later e es b r w = record { below = w .below; names = go (w .names) }
+    where
+      go : (readVersion r ≡ 0) ⊎ Writer es (readKey r) (readVersion r) → (readVersion r ≡ 0) ⊎ Writer (e ∷ es) (readKey r) (readVersion r)
+      go (inl z) = inl z
+      go (inr u) =
+          inr (record { body = u .body; stamp = u .stamp; writes = u .writes; proof = proof-later f faulty e es (u .body) commit (u .proof) })
+
+  -- of a sound box: what it decided has a proof, what it logged a list of votes, and what it voted to commit reads committed versions
+  pub record Rests (i : ℕ) (es : List Event) : Type 0 where
+    pub decided : (e : Entry) (d : Decision) → In e (table f i es) → e.decided ≡ some d → Proof f faulty es e.body d
+    pub logged : (b : Body) (d : Decision) → T (gave f i b (log d) es) → LogBehind f faulty es b d
+    pub reads : (b : Body) → T (gave f i b (vote commit) es) → (r : Read) → In r (readsOf b) → ReadOk es b r
+
+  rests-empty : (i : ℕ) → Rests i []
+  unfolding table boxAt empty gave find
+  rests-empty i = record { decided = λ e d p q. elim p [ ]; logged = λ b d h. absurd h; reads = λ b h r m. absurd h }
+
+  cast-commit : (v : Vote) → cast v ≡ some commit → v ≡ voteCommit
+  unfolding cast
+  cast-commit unvoted h = absurd (none-some refl h)
+  cast-commit waiting h = absurd (none-some refl h)
+  cast-commit voteCommit h = refl
+  cast-commit (voteAbort r) h = absurd (abort-commit refl h)
+
+  ready-read : (i : ℕ) (es : List Event) → Rests i es → (b : Body) (v : Vote) → cast v ≡ some commit → Ready (boxAt f i es) b v → (r : Read)
+      → In r (readsOf b) → ReadOk es b r
+  unfolding table
+  ready-read i es R b v q w r k = record { below = w .below r k; names = go (w .settled (cast-commit v q) r k) }
+    where
+      go : Names (boxAt f i es) r → (readVersion r ≡ 0) ⊎ Writer es (readKey r) (readVersion r)
+      go (start z) = inl z
+      go (here-held y) =
+          inr (record {
+            body = y .entry .body;
+            stamp = find-stamp (readVersion r) (table f i es) (y .entry) (y .at);
+            writes = y .writes;
+            proof = R .decided (y .entry) commit (find-in (readVersion r) (table f i es) (y .entry) (y .at)) (y .committed);
+          })
+
+  reads-said : (i : ℕ) (es : List Event) → Rests i es → (m : List ℕ) (b : Body) → Said f (boxAt f i es) m b (vote commit) → (r : Read)
+      → In r (readsOf b) → ReadOk es b r
+  unfolding table
+  reads-said i es R m b (repeats e p h) = R .reads b (carried-gave f i es (local f i es) b (vote commit) (record { entry = e; prior = p; holds = h }))
+  reads-said i es R m b (by-tests d v o q p n k w) = let a : d ≡ commit = cc in ready-read i es R b v (rw a at k) w
+  reads-said i es R m b (by-list l o q k y w p n) = let z : _≡_ {A = ℕ} 0 1 = cc in absurd (omega arith)
+
+  logged-said : (i : ℕ) (es : List Event) → Rests i es → (m : List ℕ) (b : Body) (d : Decision) → Honest f faulty es m
+      → Said f (boxAt f i es) m b (log d) → LogBehind f faulty es b d
+  unfolding Honest table
+  logged-said i es R m b d H (repeats e p h) =
+      R .logged b d (carried-gave f i es (local f i es) b (log d) (record { entry = e; prior = p; holds = h }))
+  logged-said i es R m b d H (by-tests d′ v o q p n k r) = let z : _≡_ {A = ℕ} 0 1 = cc in absurd (omega arith)
+  logged-said i es R m b d H (by-list l o q j k y p n) =
+      let a : decisionOf (l .decision) ≡ d = cc in
+      record { list = l; kind = k; names = a; listing = y; backed = brought es m b l j H }
+
+  rests-still : (i : ℕ) (e : Event) (es : List Event) → Idle f i e es → Rests i es → Rests i (e ∷ es)
+  rests-still i e es s R = record {
+    decided = λ x d p q. proof-later f faulty e es x.body d (R .decided x d (rw (s .table-now) at p) q);
+    logged = λ b d h. logged-later f faulty e es b d (R .logged b d (s .unsaid b (log d) h));
+    reads = λ b h r m. read-later e es b r (R .reads b (s .unsaid b (vote commit) h) r m);
+  }
+
+  rests-moved : (i : ℕ) (e : Event) (es : List Event) → Moved f i e es → Honest f faulty es e.message → Rests i es → Rests i (e ∷ es)
+  unfolding table
+  rests-moved i e es s hon R = record {
+    decided = λ x d p q. proof-later f faulty e es x.body d (decided-by x d q (after-cases a m x (rw (s .table-now) at p)));
+    logged = λ b d h. logged-later f faulty e es b d (logged-by b d (s .given b (log d) h));
+    reads = λ b h r k. read-later e es b r (reads-by b (s .given b (vote commit) h) r k);
+  }
+    where
+      b₀ : Body
+      b₀ = bodyOf e.message
+
+      a : Act
+      a = s .act
+
+      m : Move f (boxAt f i es) e.message b₀ a
+      m = s .move
+
+      decided-by : (x : Entry) (d : Decision) → x.decided ≡ some d → In x (table f i es) ⊎ Fresh f (boxAt f i es) e.message b₀ x (answerIn a)
+          → Proof f faulty es x.body d
+      decided-by x d q (inl o) = R .decided x d o q
+      decided-by x d q (inr w) =
+          let y = w .decided d q in
+          rw (w .owner)
+          (record {
+            list = y .0;
+            names = y .2;
+            formed = y .1 .listing .formed;
+            enough = y .1 .listing .enough;
+            backed = brought es e.message b₀ (y .0) (y .1 .brings) hon;
+          })
+
+      logged-by : (b : Body) (d : Decision) → New f i e es a b (log d) → LogBehind f faulty es b d
+      logged-by b d (inr u) = R .logged b d u
+      logged-by b d (inl u) = rw (← u .0) (logged-said i es R e.message b₀ d hon (said m (log d) (u .1)))
+
+      reads-by : (b : Body) → New f i e es a b (vote commit) → (r : Read) → In r (readsOf b) → ReadOk es b r
+      reads-by b (inr u) = R .reads b u
+      reads-by b (inl u) = rw (← u .0) (reads-said i es R e.message b₀ (said m (vote commit) (u .1)))
+
+  pub rests : (i : ℕ) → Sound f faulty i → (es : List Event) → Fair f faulty es → Rests i es
+  unfolding Fair
+  rests i h [] F = rests-empty i
+  rests i h (e ∷ es) F = go (step f i e es) (rests i h es (F .0))
+    where
+      go : Step f i e es → Rests i es → Rests i (e ∷ es)
+      go (still s) R = rests-still i e es s R
+      go (arrives s) R = rests-moved i e es s (F .1 (rw (s .here) h)) R

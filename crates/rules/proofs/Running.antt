@@ -1,0 +1,76 @@
+-- For proofs by computation: `unfolding running` opens all that a box computes with, `unfolding tracing` all that a trace does.
+use Prim.Native.Nat.{ℕ}
+use Rattle.terms.specs.Checks.{orElse, when, ifLess, ifSame, ifOther}
+use Rattle.terms.specs.Group.{groupWrong}
+use Rattle.terms.specs.Refusals.{refusalOf}
+use Rattle.records.specs.Numbers.{numAt}
+use Rattle.records.specs.Tx.{txOf, txBytes, readAt, writeAt}
+use Rattle.records.specs.Vl.{vlOf, vlBytes, pairAt}
+use Rattle.records.specs.Contents.{txWrong, listWrong, logListWrong, codeWrong, rdWrong, countsWrong, countWrong}
+use Rattle.records.specs.Cutting.{txPart, vlPart, txCut, vlCut, prCut, listedCut, listedLen, rdCut, behindWrong, prLen, markWrong}
+use Rattle.records.specs.Messages.{prRefusal, lgRefusal, dcRefusal, rdRefusal, messageRefusal, byMark, isMark}
+use Rattle.records.specs.Writing.{prBytes, lgBytes, dcBytes, rdBytes}
+use Rattle.rules.specs.Bodies.{stampOf, readsOf, writesOf, sameBody, writesKey}
+use Rattle.rules.specs.Lists.{kindOf, decisionOf, bit, tally, meets}
+use Rattle.rules.specs.Table.{empty, find, put, liveBy, live}
+use Rattle.rules.specs.Tests.{test1, liveWriter, test2, undercut, test3, test4, test5, statusBy, statusOf, status, waitingRule, firstVote}
+use Rattle.rules.specs.Calls.{guarded, isFull, roomFor, sameDecision, castAct, prByVote, prByDecision, prByEntry, prRule, logAct, lgByLog}
+use Rattle.rules.specs.Calls.{lgByDecision, lgByEntry, lgRule, decideAct, dcSame, dcOther, dcByEntry, dcRule, better, newest, valueAt}
+use Rattle.rules.specs.Calls.{versionOf, valueOf, isCommitted, isUndecided, rdFound, rdAnswer, rdRule}
+use Rattle.rules.specs.Act.{configWrong, rule, act, answerIn, tableAfter, raise, marksBy, boxAfter, after}
+use Rattle.rules.specs.System.{boxAt, answerTo, word, cast, voteWord, wordIn, sameWord, isWord, givesNow, gave, count, carriesList}
+use Rattle.rules.specs.Cases.{replay, given, due, line, case, read, write, tx, writes, reads, pairs, list, PR, LG, DC, RD, commits, waits}
+use Rattle.rules.specs.Cases.{aborts}
+use Rattle.rules.specs.Vectors.{told, box, lent, entry, zeros, stores, run, held, wanted}
+
+unfoldable checks : ℕ
+unfolding orElse when ifLess ifSame ifOther refusalOf groupWrong
+checks = 0
+
+unfoldable bytes : ℕ
+unfolding numAt readAt writeAt txOf txBytes pairAt vlOf vlBytes prBytes lgBytes dcBytes rdBytes
+bytes = 0
+
+unfoldable reading : ℕ
+unfolding countsWrong countWrong txWrong codeWrong listWrong logListWrong rdWrong markWrong txCut vlCut behindWrong txPart vlPart
+reading = 0
+
+unfoldable messages : ℕ
+unfolding prCut prLen listedCut listedLen rdCut prRefusal lgRefusal dcRefusal rdRefusal isMark byMark messageRefusal
+messages = 0
+
+unfoldable tables : ℕ
+unfolding stampOf readsOf writesOf sameBody writesKey kindOf decisionOf bit tally meets empty find put liveBy live
+tables = 0
+
+unfoldable testing : ℕ
+unfolding test1 liveWriter test2 undercut test3 test4 test5 statusBy statusOf status waitingRule firstVote
+testing = 0
+
+unfoldable calling : ℕ
+unfolding guarded isFull roomFor sameDecision castAct prByVote prByDecision prByEntry prRule logAct lgByLog lgByDecision lgByEntry lgRule
+calling = 0
+
+unfoldable deciding : ℕ
+unfolding decideAct dcSame dcOther dcByEntry dcRule better newest valueAt versionOf valueOf isCommitted isUndecided rdFound rdAnswer rdRule
+deciding = 0
+
+unfoldable acting : ℕ
+unfolding configWrong rule act answerIn tableAfter raise marksBy boxAfter after
+acting = 0
+
+unfoldable sending : ℕ
+unfolding replay given due line case read write tx writes reads pairs list PR LG DC RD commits waits aborts
+sending = 0
+
+unfoldable lending : ℕ
+unfolding told box lent entry zeros run held wanted stores
+lending = 0
+
+unfoldable pub running : ℕ
+unfolding checks bytes reading messages tables testing calling deciding acting sending lending
+running = 0
+
+unfoldable pub tracing : ℕ
+unfolding running boxAt answerTo word cast voteWord wordIn sameWord isWord givesNow gave count carriesList
+tracing = 0

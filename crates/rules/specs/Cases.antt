@@ -1,0 +1,131 @@
+-- "Both sides of each line": cases 1 to 12 as one statement over a list, over real message bytes.
+use Prim.Native.Nat.{ℕ, zero, suc}
+use mathlib.Core.Path.{_≡_}
+use mathlib.Core.List.{List, [], _∷_, map}
+use Rattle.terms.specs.declared.Refusal.the-variants.{Misbehaviour, TooFew}
+use Rattle.records.specs.declared.Read.{Read}
+use Rattle.records.specs.declared.Write.{Write}
+use Rattle.records.specs.declared.Pair.{Pair}
+use Rattle.records.specs.Tx.{Tx}
+use Rattle.records.specs.Vl.{Vl}
+use Rattle.records.specs.Writing.{prBytes, lgBytes, dcBytes, rdBytes}
+use Rattle.rules.specs.Answers.{Answer, Decision, Done, Found, Kind, Logged, Refused, Voted, abort, commit, logs, voteAbort, voteCommit, votes}
+use Rattle.rules.specs.Answers.{Reason, Ahead, Dependency, NoVersion, Overwritten, ReadMark, Undercuts, decisionNumber, kindNumber, waiting}
+use Rattle.rules.specs.Table.{Box, Config, empty}
+use Rattle.rules.specs.Act.{act, after, answerIn}
+
+-- ---- a case: messages that one box gets, one after another, and the answers that are due
+pub record Case : Type 0 where
+  pub config : Config
+  pub start : Box
+  pub sent : List (List ℕ)
+  pub due : List Answer
+
+unfoldable pub replay : Config → Box → List (List ℕ) → List Answer
+replay cf x [] = []
+replay cf x (m ∷ ms) = answerIn (act cf x m) ∷ replay cf (after cf x m) ms
+
+unfoldable pub given : Case → List Answer
+given c = replay (c .config) (c .start) (c .sent)
+
+unfoldable pub due : Case → List Answer
+due c = c .due
+
+-- "f = 1, δ = 10, clock 100, capacity 8; each starts empty"
+unfoldable pub line : Config
+line = record { f = 1; capacity = 8; clock = 100; delta = 10 }
+
+unfoldable pub case : List (List ℕ) → List Answer → Case
+case sent due = record { config = line; start = empty; sent = sent; due = due }
+
+-- ---- the messages, as bytes
+unfoldable pub read : ℕ → ℕ → Read
+read k v = record { key = record { 0 = k }; version = record { 0 = v } }
+
+unfoldable pub write : ℕ → ℕ → Write
+write k v = record { key = record { 0 = k }; value = v }
+
+unfoldable pub tx : ℕ → List Read → List Write → Tx
+tx s rs ws = record { stamp = s; reads = rs; writes = ws }
+
+-- s writes key k (the value 7); s reads key k at v
+unfoldable pub writes : ℕ → ℕ → Tx
+writes s k = tx s [] (write k 7 ∷ [])
+
+unfoldable pub reads : ℕ → ℕ → ℕ → Tx
+reads s k v = tx s (read k v ∷ []) []
+
+-- n equal answers, from box i on
+unfoldable pub pairs : ℕ → ℕ → Decision → List Pair
+pairs i zero d = []
+pairs i (suc n) d = record { number = i; answer = decisionNumber d } ∷ pairs (suc i) n d
+
+unfoldable pub list : Kind → Decision → List Pair → Vl
+list k d ps = record { kind = kindNumber k; decision = decisionNumber d; pairs = ps }
+
+unfoldable pub PR : Tx → List ℕ
+PR t = prBytes t
+
+-- with n votes, or n logs, of the boxes 0 to n − 1
+unfoldable pub LG : Tx → Decision → ℕ → List ℕ
+LG t d n = lgBytes t (list votes d (pairs 0 n d))
+
+unfoldable pub DC : Tx → Kind → Decision → ℕ → List ℕ
+DC t k d n = dcBytes t (list k d (pairs 0 n d))
+
+unfoldable pub RD : ℕ → ℕ → List ℕ
+RD k s = rdBytes k s
+
+-- ---- the answers of a PR
+unfoldable pub commits : Answer
+commits = Voted voteCommit
+
+unfoldable pub waits : Answer
+waits = Voted waiting
+
+unfoldable pub aborts : Reason → Answer
+aborts r = Voted (voteAbort r)
+
+-- ---- the twelve
+unfoldable pub cases : List Case
+cases =
+    -- "1. 50 writes key 3: commit. 60 reads key 3 at 50: wait."
+    case (PR (writes 50 3) ∷ PR (reads 60 3 50) ∷ [])
+    (commits ∷ waits ∷ [])
+    -- "2. Then 50 gets six commit votes in a DC; PR 60 again: commit."
+    ∷ case (PR (writes 50 3) ∷ PR (reads 60 3 50) ∷ DC (writes 50 3) votes commit 6 ∷ PR (reads 60 3 50) ∷ [])
+    (commits ∷ waits ∷ Done ∷ commits ∷ [])
+    -- "3. Instead four abort votes: PR 60 again, abort 6."
+    ∷ case (PR (writes 50 3) ∷ PR (reads 60 3 50) ∷ DC (writes 50 3) votes abort 4 ∷ PR (reads 60 3 50) ∷ [])
+    (commits ∷ waits ∷ Done ∷ aborts Dependency ∷ [])
+    -- "4. 50 writes key 3, commit; 60 reads key 3 at 0: abort 3."
+    ∷ case (PR (writes 50 3) ∷ PR (reads 60 3 0) ∷ [])
+    (commits ∷ aborts Overwritten ∷ [])
+    -- "5. 60 reads key 3 at 0, commit; 50 writes key 3: abort 4."
+    ∷ case (PR (reads 60 3 0) ∷ PR (writes 50 3) ∷ [])
+    (commits ∷ aborts Undercuts ∷ [])
+    -- "6. RD key 3 at 70; 60 writes it: abort 5."
+    ∷ case (RD 3 70 ∷ PR (writes 60 3) ∷ [])
+    (Found 0 0 0 0 ∷ aborts ReadMark ∷ [])
+    -- "7. As 6, but 70 writes it: commit."
+    ∷ case (RD 3 70 ∷ PR (writes 70 3) ∷ [])
+    (Found 0 0 0 0 ∷ commits ∷ [])
+    -- "8. Stamp 110 writing key 3: commit. Stamp 111: abort 1."
+    ∷ case (PR (writes 110 3) ∷ PR (writes 111 3) ∷ [])
+    (commits ∷ aborts Ahead ∷ [])
+    -- "9. 60 reads key 3 at 40, nothing held: abort 2."
+    ∷ case (PR (reads 60 3 40) ∷ [])
+    (aborts NoVersion ∷ [])
+    -- "10. 60 reads key 3 at 60: refusal 7."
+    ∷ case (PR (reads 60 3 60) ∷ [])
+    (Refused Misbehaviour ∷ [])
+    -- "11. Held 50: LG with four commit votes, logged commit; LG with two abort votes, logged commit again."
+    ∷ case (PR (writes 50 3) ∷ LG (writes 50 3) commit 4 ∷ LG (writes 50 3) abort 2 ∷ [])
+    (commits ∷ Logged commit ∷ Logged commit ∷ [])
+    -- "12. DC commit with five votes: 11; with five logs: done."
+    ∷ case (DC (writes 50 3) votes commit 5 ∷ DC (writes 50 3) logs commit 5 ∷ [])
+    (Refused TooFew ∷ Done ∷ [])
+    ∷ []
+
+abbrev pub Twelve : Type 0
+Twelve = map given cases ≡ map due cases

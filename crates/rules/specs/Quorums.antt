@@ -1,0 +1,25 @@
+-- What the five thresholds are for. Two sets of boxes that come to more than n + f answers share a sound box, since at most f are faulty.
+use Prim.Native.Nat.{ℕ, _+_, _≤_, _<_}
+use Rattle.terms.specs.Group.{boxes}
+use Rattle.rules.specs.Answers.{Decision, abort, commit, logs, votes}
+use Rattle.rules.specs.Lists.{forLogging, forProof}
+
+pub record Quorums (f : ℕ) : Type 0 where
+  -- a commit proof and an abort proof from votes
+  pub both-voted : boxes f + f < forProof f votes commit + forProof f votes abort
+  -- a commit proof from votes and an abort list behind a log
+  pub abort-logged : boxes f + f < forProof f votes commit + forLogging f abort
+  -- a commit list behind a log and an abort proof from votes
+  pub commit-logged : boxes f + f < forLogging f commit + forProof f votes abort
+  -- two proofs from logs
+  pub both-logged : boxes f + f < forProof f logs commit + forProof f logs abort
+  -- the votes behind any two commits: as many as a list for logging has, and a commit proof has as many
+  pub two-commits : boxes f + f < forLogging f commit + forLogging f commit
+  pub proof-lists : forLogging f commit ≤ forProof f votes commit
+  -- a sound box is behind each log proof, and behind each commit
+  pub log-sound : (d : Decision) → f < forProof f logs d
+  pub commit-sound : f < forLogging f commit
+
+-- "Prove threshold facts once for all f, not per f."
+abbrev pub EveryQuorum : Type 0
+EveryQuorum = (f : ℕ) → Quorums f

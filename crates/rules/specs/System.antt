@@ -1,0 +1,157 @@
+-- DEMAND 3: many boxes under the rules, any messages in any order, and what is claimed of them. A trace lists what happened, the newest first.
+use Prim.Native.Nat.{ℕ, zero, suc, _+_, _≤_, _<_}
+use mathlib.Core.Bool.{Bool, false, not, _&&_, _||_}
+use mathlib.Core.Path.{_≡_}
+use mathlib.Core.List.{List, [], _∷_, List·Memᴰ as In}
+use mathlib.Core.Option.{Option, some, none}
+use lib.Dec.{T, eqb}
+use Rattle.terms.specs.Choice.{pick}
+use Rattle.terms.specs.Group.{boxes}
+use Rattle.records.specs.declared.Read.{Read}
+use Rattle.records.specs.declared.Pair.{Pair}
+use Rattle.records.specs.Tx.{readKey, readVersion}
+use Rattle.records.specs.Vl.{Vl}
+use Rattle.records.specs.Contents.{listWrong}
+use Rattle.records.specs.Cutting.{markDC, markLG}
+use Rattle.records.specs.Messages.{isMark, messageRefusal}
+use Rattle.rules.specs.Answers.{Answer, Decided, Decision, Done, Found, Kind, Logged, Refused, Voted, abort, commit, logs, votes}
+use Rattle.rules.specs.Answers.{Vote, unvoted, voteAbort, voteCommit, waiting}
+use Rattle.rules.specs.Bodies.{Body, readsOf, sameBody, stampOf, writesKey}
+use Rattle.rules.specs.Lists.{bit, decisionOf, forProof, kindOf, meets}
+use Rattle.rules.specs.Table.{Box, Config, empty}
+use Rattle.rules.specs.Calls.{sameDecision}
+use Rattle.rules.specs.Act.{act, after, answerIn, bodyOf, listOf}
+
+-- any bytes that reach a box: "their capacities, clocks and δ may differ", from one message to the next too
+pub record Event : Type 0 where
+  pub box : ℕ
+  pub capacity : ℕ
+  pub clock : ℕ
+  pub delta : ℕ
+  pub message : List ℕ
+
+-- "All sound boxes have the same f"
+abbrev pub configAt : ℕ → Event → Config
+configAt f e = record { f = f; capacity = e .capacity; clock = e .clock; delta = e .delta }
+
+-- box i after a trace
+unfoldable pub boxAt : ℕ → ℕ → List Event → Box
+boxAt f i [] = empty
+boxAt f i (e ∷ es) = pick (eqb (e .box) i) (after (configAt f e) (boxAt f i es) (e .message)) (boxAt f i es)
+
+-- what is answered to a message that comes after a trace
+unfoldable pub answerTo : ℕ → Event → List Event → Answer
+answerTo f e es = answerIn (act (configAt f e) (boxAt f (e .box) es) (e .message))
+
+-- what a box can be held to
+pub data Word : Type 0 where
+  vote log : Decision → Word
+
+unfoldable pub word : Kind → Decision → Word
+word votes d = vote d
+word logs d = log d
+
+-- "The answers Decided, wait and Done are neither votes nor logged decisions."
+unfoldable pub cast : Vote → Option Decision
+cast unvoted = none
+cast waiting = none
+cast voteCommit = some commit
+cast (voteAbort r) = some abort
+
+unfoldable pub voteWord : Option Decision → Option Word
+voteWord none = none
+voteWord (some d) = some (vote d)
+
+unfoldable pub wordIn : Answer → Option Word
+wordIn (Voted v) = voteWord (cast v)
+wordIn (Logged d) = some (log d)
+wordIn (Decided d) = none
+wordIn Done = none
+wordIn (Found version value undecided its) = none
+wordIn (Refused r) = none
+
+unfoldable pub sameWord : Word → Word → Bool
+sameWord (vote a) (vote b) = sameDecision a b
+sameWord (vote a) (log b) = false
+sameWord (log a) (vote b) = false
+sameWord (log a) (log b) = sameDecision a b
+
+unfoldable pub isWord : Word → Option Word → Bool
+isWord w none = false
+isWord w (some said) = sameWord said w
+
+-- with this message box i gives this word "for exactly this body"; it gave it somewhere in the trace
+unfoldable pub givesNow : ℕ → ℕ → Body → Word → Event → List Event → Bool
+givesNow f i b w e es = eqb (e .box) i && (sameBody (bodyOf (e .message)) b && isWord w (wordIn (answerTo f e es)))
+
+unfoldable pub gave : ℕ → ℕ → Body → Word → List Event → Bool
+gave f i b w [] = false
+gave f i b w (e ∷ es) = givesNow f i b w e es || gave f i b w es
+
+-- how many of the numbers below n pass a test
+unfoldable pub count : (ℕ → Bool) → ℕ → ℕ
+count p zero = 0
+count p (suc n) = bit (p n) + count p n
+
+-- the messages that carry a list
+unfoldable pub carriesList : List ℕ → Bool
+carriesList m = isMark markLG m || isMark markDC m
+
+module _ (f : ℕ) (faulty : ℕ → Bool) where
+  abbrev pub Sound : ℕ → Type 0
+  Sound i = (i < boxes f) × T (not (faulty i))
+
+  -- a list "made of votes, or of logged decisions, that sound boxes have given for exactly this body, with anything under the faulty boxes' numbers"
+  unfoldable pub Backed : List Event → Body → Vl → Type 0
+  Backed es b l =
+      (p : Pair) → In p (l .pairs) → Sound (p .number) → T (gave f (p .number) b (word (kindOf (l .kind)) (decisionOf (p .answer))) es)
+
+  -- asked of a message only if it is read without refusal and carries a list
+  unfoldable pub Honest : List Event → List ℕ → Type 0
+  Honest es m = messageRefusal f m ≡ 0 → T (carriesList m) → Backed es (bodyOf m) (listOf m)
+
+  -- the premise ("signatures (checked before a message arrives)"): the lists that reach sound boxes are backed by what was given before
+  unfoldable pub Fair : List Event → Type 0
+  Fair [] = Unit {0}
+  Fair (e ∷ es) = Fair es × (Sound (e .box) → Honest es (e .message))
+
+  -- "a transaction has a proof from the moment when a list meeting a proof's threshold can be made": the same predicate on lists
+  pub record Proof (es : List Event) (b : Body) (d : Decision) : Type 0 where
+    pub list : Vl
+    pub names : decisionOf (list .decision) ≡ d
+    pub formed : listWrong f list ≡ 0
+    pub enough : T (meets (forProof f (kindOf (list .kind)) (decisionOf (list .decision))) list)
+    pub backed : Backed es b list
+
+-- the version that stands at each key after a transaction has run
+unfoldable pub written : (ℕ → ℕ) → Body → ℕ → ℕ
+written at b k = pick (writesKey b k) (stampOf b) (at k)
+
+-- transactions run one after another: each read names the version that stands there
+unfoldable pub Serial : (ℕ → ℕ) → List Body → Type 0
+Serial at [] = Unit {0}
+Serial at (b ∷ bs) = ((r : Read) → In r (readsOf b) → at (readKey r) ≡ readVersion r) × Serial (written at b) bs
+
+unfoldable pub InOrder : List Body → Type 0
+InOrder [] = Unit {0}
+InOrder (b ∷ bs) = ((c : Body) → In c bs → stampOf b < stampOf c) × InOrder bs
+
+-- just the committed ones, in stamp order
+pub record Lists (f : ℕ) (faulty : ℕ → Bool) (es : List Event) (bs : List Body) : Type 0 where
+  pub order : InOrder bs
+  pub only : (b : Body) → In b bs → Proof f faulty es b commit
+  pub every : (b : Body) → Proof f faulty es b commit → In b bs
+
+pub record Safe (f : ℕ) (faulty : ℕ → Bool) (es : List Event) : Type 0 where
+  -- no transaction has both a commit proof and an abort proof
+  pub one-outcome : (b : Body) → Proof f faulty es b commit → Proof f faulty es b abort → ⊥
+  -- no two bodies under one stamp both commit
+  pub one-body : (b c : Body) → stampOf b ≡ stampOf c → Proof f faulty es b commit → Proof f faulty es c commit → b ≡ c
+  -- the committed ones can be listed in stamp order
+  pub listed : (bs : List Body) × Lists f faulty es bs
+  -- and every such list runs, from version 0 at every key, with each read naming the version that stands there
+  pub serial : (bs : List Body) → Lists f faulty es bs → Serial (λ k. 0) bs
+
+-- the claim, for every f, so for 1 to 5 too, and for every set of at most f faulty boxes; at every moment, since each tail of a fair trace is fair
+abbrev pub Safety : Type 0
+Safety = (f : ℕ) (faulty : ℕ → Bool) → count faulty (boxes f) ≤ f → (es : List Event) → Fair f faulty es → Safe f faulty es

@@ -1,0 +1,68 @@
+-- "A box's entries": an entry, the table that holds them, and what a box is told beside a message.
+use Prim.Native.Nat.{ℕ, _+_}
+use mathlib.Core.Bool.{Bool, true, false}
+use mathlib.Core.List.{List, [], _∷_}
+use mathlib.Core.Option.{Option, some, none}
+use lib.Dec.{eqb}
+use lib.ListN.{replicate}
+use Rattle.terms.specs.Choice.{pick}
+use Rattle.rules.specs.Answers.{Decision, Vote, abort, commit, unvoted, voteAbort, voteCommit, waiting}
+use Rattle.rules.specs.Bodies.{Body, stampOf}
+
+-- "An entry holds body, vote (waiting, commit, abort with reason, or none), logged decision or none, decision or none"
+pub record Entry : Type 0 where
+  pub body : Body
+  pub vote : Vote
+  pub log : Option Decision
+  pub decided : Option Decision
+
+-- a box: its entries in their places, and the read mark of each of the 512 keys
+pub record Box : Type 0 where
+  pub table : List Entry
+  pub marks : List ℕ
+
+-- a box before its first message
+unfoldable pub empty : Box
+empty = record { table = []; marks = replicate 512 0 }
+
+-- what a box is told beside a message: f, capacity, clock and δ. All are told anew each time: "The clock may go back."
+pub record Config : Type 0 where
+  pub f : ℕ
+  pub capacity : ℕ
+  pub clock : ℕ
+  pub delta : ℕ
+
+-- "Clock + δ is a sum of whole numbers and never wraps"
+abbrev pub limit : Config → ℕ
+limit cf = cf .clock + cf .delta
+
+-- "If it holds one stamp twice, a look-up by stamp takes the first such entry"
+unfoldable pub find : ℕ → List Entry → Option Entry
+find s [] = none
+find s (e ∷ es) = pick (eqb (stampOf (e .body)) s) (some e) (find s es)
+
+-- "in its place": where the first entry of that stamp stands, else behind the others
+unfoldable pub put : Entry → List Entry → List Entry
+put e [] = e ∷ []
+put e (x ∷ xs) = pick (eqb (stampOf (x .body)) (stampOf (e .body))) (e ∷ xs) (x ∷ put e xs)
+
+-- the vote and the log that are held; none where nothing is held
+abbrev pub voteIn : Option Entry → Vote
+voteIn none = unvoted
+voteIn (some e) = e .vote
+
+abbrev pub logIn : Option Entry → Option Decision
+logIn none = none
+logIn (some e) = e .log
+
+-- "An entry is live if it is decided commit, or undecided with vote commit or waiting"
+unfoldable pub liveBy : Option Decision → Vote → Bool
+liveBy (some commit) v = true
+liveBy (some abort) v = false
+liveBy none unvoted = false
+liveBy none waiting = true
+liveBy none voteCommit = true
+liveBy none (voteAbort r) = false
+
+unfoldable pub live : Entry → Bool
+live e = liveBy (e .decided) (e .vote)

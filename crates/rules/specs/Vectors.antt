@@ -1,0 +1,251 @@
+-- What cases 1 to 12 and demand 3 leave open: answers, and what a box holds afterwards, over message bytes and lent tables.
+use Prim.Native.Nat.{ℕ}
+use mathlib.Core.Path.{_≡_}
+use mathlib.Core.List.{List, [], _∷_, _++_, map}
+use mathlib.Core.Option.{Option, some, none}
+use lib.ListN.{replicate}
+use Rattle.terms.specs.declared.Refusal.the-variants.{Ahead as AheadOfClock, Code, Contradiction, Full, Group, Mark, Order, OtherBody}
+use Rattle.terms.specs.declared.Refusal.the-variants.{Short, TooFew, Trailing, Unknown}
+use Rattle.records.specs.Tx.{Tx, txBytes}
+use Rattle.records.specs.Writing.{lgBytes, dcBytes}
+use Rattle.rules.specs.Answers.{Answer, Decided, Decision, Done, Found, Logged, Refused, Vote, abort, commit, logs, unvoted, votes, waiting}
+use Rattle.rules.specs.Answers.{Ahead, Dependency, NoVersion, Overwritten, ReadMark, Undercuts, voteAbort, voteCommit}
+use Rattle.rules.specs.Table.{Box, Config, Entry, empty}
+use Rattle.rules.specs.Act.{after}
+use Rattle.rules.specs.Cases.{Case, DC, LG, PR, RD, aborts, case, commits, due, given, line, list, pairs, read, reads, tx, waits, write, writes}
+
+-- with another f or capacity; from a table that is lent
+unfoldable pub told : ℕ → ℕ → List (List ℕ) → List Answer → Case
+told f capacity sent due =
+    record { config = record { f = f; capacity = capacity; clock = 100; delta = 10 }; start = empty; sent = sent; due = due }
+
+-- entries, and the read mark of key 0
+unfoldable pub box : List Entry → ℕ → Box
+box table mark = record { table = table; marks = mark ∷ replicate 511 0 }
+
+unfoldable pub lent : List Entry → List (List ℕ) → List Answer → Case
+lent table sent due = record { config = line; start = box table 0; sent = sent; due = due }
+
+unfoldable pub entry : Tx → Vote → Option Decision → Option Decision → Entry
+entry t v log decided = record { body = txBytes t; vote = v; log = log; decided = decided }
+
+unfoldable pub zeros : ℕ → List ℕ
+zeros n = replicate n 0
+
+-- "Input in hex": its three messages, byte by byte
+unfoldable pub inHex : List Case
+inHex =
+    case
+    ((80 ∷ 82 ∷ 84 ∷ 88 ∷ 0 ∷ 1 ∷ 50 ∷ (zeros 7 ++ (3 ∷ 0 ∷ 7 ∷ zeros 7)))
+    ∷ (80 ∷ 82 ∷ 84 ∷ 88 ∷ 1 ∷ 0 ∷ 60 ∷ (zeros 7 ++ (3 ∷ 0 ∷ 50 ∷ zeros 7)))
+    ∷ (82 ∷ 68 ∷ 3 ∷ 0 ∷ 60 ∷ zeros 7)
+    ∷ [])
+    (commits ∷ waits ∷ Found 0 0 50 7 ∷ [])
+    ∷ []
+
+-- the five thresholds, each from both sides, with f = 1 and with f = 5
+unfoldable pub thresholds : List Case
+thresholds =
+    case (PR (writes 50 3) ∷ LG (writes 50 3) commit 3 ∷ LG (writes 50 3) commit 4 ∷ []) (commits ∷ Refused TooFew ∷ Logged commit ∷ [])
+    ∷ case (PR (writes 50 3) ∷ LG (writes 50 3) abort 1 ∷ LG (writes 50 3) abort 2 ∷ []) (commits ∷ Refused TooFew ∷ Logged abort ∷ [])
+    ∷ case (DC (writes 50 3) votes commit 5 ∷ DC (writes 50 3) votes commit 6 ∷ []) (Refused TooFew ∷ Done ∷ [])
+    ∷ case (DC (writes 50 3) votes abort 3 ∷ DC (writes 50 3) votes abort 4 ∷ []) (Refused TooFew ∷ Done ∷ [])
+    ∷ case (DC (writes 50 3) logs commit 4 ∷ DC (writes 50 3) logs commit 5 ∷ []) (Refused TooFew ∷ Done ∷ [])
+    ∷ case (DC (writes 50 3) logs abort 4 ∷ DC (writes 50 3) logs abort 5 ∷ []) (Refused TooFew ∷ Done ∷ [])
+    ∷ told 5 8 (PR (writes 50 3) ∷ LG (writes 50 3) commit 15 ∷ LG (writes 50 3) commit 16 ∷ []) (commits ∷ Refused TooFew ∷ Logged commit ∷ [])
+    ∷ told 5 8 (PR (writes 50 3) ∷ LG (writes 50 3) abort 5 ∷ LG (writes 50 3) abort 6 ∷ []) (commits ∷ Refused TooFew ∷ Logged abort ∷ [])
+    ∷ told 5 8 (DC (writes 50 3) votes commit 25 ∷ DC (writes 50 3) votes commit 26 ∷ []) (Refused TooFew ∷ Done ∷ [])
+    ∷ told 5 8 (DC (writes 50 3) votes abort 15 ∷ DC (writes 50 3) votes abort 16 ∷ []) (Refused TooFew ∷ Done ∷ [])
+    ∷ told 5 8 (DC (writes 50 3) logs commit 20 ∷ DC (writes 50 3) logs commit 21 ∷ []) (Refused TooFew ∷ Done ∷ [])
+    ∷ told 5 8 (DC (writes 50 3) logs abort 20 ∷ DC (writes 50 3) logs abort 21 ∷ []) (Refused TooFew ∷ Done ∷ [])
+    ∷ []
+
+-- a list
+unfoldable pub lists : List Case
+lists =
+    -- "only entries with that answer are counted"
+    case (dcBytes (writes 50 3) (list votes commit (pairs 0 5 commit ++ pairs 5 1 abort)) ∷ []) (Refused TooFew ∷ [])
+    -- "13. A list naming box 2 twice: 6."
+    ∷ case (dcBytes (writes 50 3) (list votes abort (pairs 0 3 abort ++ pairs 2 1 abort)) ∷ []) (Refused Order ∷ [])
+    -- "kind 2 in an LG"
+    ∷ case (PR (writes 50 3) ∷ lgBytes (writes 50 3) (list logs commit (pairs 0 5 commit)) ∷ []) (commits ∷ Refused Code ∷ [])
+    ∷ []
+
+-- "Each test runs over all its keys before the next.": of two that fail the first gives the reason, whatever the order of the keys
+unfoldable pub orders : List Case
+orders =
+    -- 1 and 2; 2 and 3, twice; 3 and 4; 4 and 5
+    case (PR (reads 111 3 40) ∷ []) (aborts Ahead ∷ [])
+    ∷ case (PR (writes 50 3) ∷ PR (tx 60 (read 3 0 ∷ read 4 40 ∷ []) []) ∷ []) (commits ∷ aborts NoVersion ∷ [])
+    ∷ case (PR (writes 50 4) ∷ PR (tx 60 (read 3 40 ∷ read 4 0 ∷ []) []) ∷ []) (commits ∷ aborts NoVersion ∷ [])
+    ∷ case (PR (writes 50 3) ∷ PR (reads 70 4 0) ∷ PR (tx 60 (read 3 0 ∷ []) (write 4 7 ∷ [])) ∷ []) (commits ∷ commits ∷ aborts Overwritten ∷ [])
+    ∷ case (PR (reads 70 4 0) ∷ RD 3 80 ∷ PR (tx 60 [] (write 3 7 ∷ write 4 7 ∷ [])) ∷ []) (commits ∷ Found 0 0 0 0 ∷ aborts Undercuts ∷ [])
+    ∷ []
+
+-- 60 reads key 3 at 50 and key 4 at 51
+unfoldable pub readsBoth : Tx
+readsBoth = tx 60 (read 3 50 ∷ read 4 51 ∷ []) []
+
+-- the waiting rule
+unfoldable pub waitings : List Case
+waitings =
+    -- reason 6 beats wait, whichever of the two it is
+    case (PR (writes 50 3) ∷ PR (writes 51 4) ∷ PR readsBoth ∷ DC (writes 51 4) votes abort 4 ∷ PR readsBoth ∷ [])
+    (commits ∷ commits ∷ waits ∷ Done ∷ aborts Dependency ∷ [])
+    ∷ case (PR (writes 50 3) ∷ PR (writes 51 4) ∷ PR readsBoth ∷ DC (writes 50 3) votes abort 4 ∷ PR readsBoth ∷ [])
+    (commits ∷ commits ∷ waits ∷ Done ∷ aborts Dependency ∷ [])
+    -- "Else any undecided: wait."
+    ∷ case (PR (writes 50 3) ∷ PR (writes 51 4) ∷ PR readsBoth ∷ DC (writes 50 3) votes commit 6 ∷ PR readsBoth ∷ [])
+    (commits ∷ commits ∷ waits ∷ Done ∷ waits ∷ [])
+    -- "waiting, the waiting rule": no test runs again
+    ∷ case
+    (PR (writes 50 3) ∷ PR (tx 60 (read 3 50 ∷ []) (write 4 7 ∷ [])) ∷ RD 4 70 ∷ DC (writes 50 3) votes commit 6
+    ∷ PR (tx 60 (read 3 50 ∷ []) (write 4 7 ∷ [])) ∷ [])
+    (commits ∷ waits ∷ Found 0 0 60 7 ∷ Done ∷ commits ∷ [])
+    -- "Deciding a wait by stamp alone after the body under it was replaced."
+    ∷ case (PR (writes 50 3) ∷ PR (reads 60 3 50) ∷ DC (writes 50 4) votes commit 6 ∷ PR (reads 60 3 50) ∷ [])
+    (commits ∷ waits ∷ Done ∷ aborts Dependency ∷ [])
+    -- "Dropping a waiting entry from the live set, so that a later write slips under its read."
+    ∷ case (PR (writes 50 3) ∷ PR (tx 60 (read 3 50 ∷ read 4 0 ∷ []) []) ∷ PR (writes 55 4) ∷ [])
+    (commits ∷ waits ∷ aborts Undercuts ∷ [])
+    ∷ []
+
+-- what is held: 9 to 13, Decided, and what a DC replaces
+unfoldable pub helds : List Case
+helds =
+    -- "vote cast, the same vote again", though the tests would say otherwise now
+    case (PR (reads 60 3 40) ∷ PR (writes 40 3) ∷ PR (reads 60 3 40) ∷ []) (aborts NoVersion ∷ commits ∷ aborts NoVersion ∷ [])
+    ∷ case (PR (writes 60 3) ∷ RD 3 70 ∷ PR (writes 60 3) ∷ []) (commits ∷ Found 0 0 60 7 ∷ commits ∷ [])
+    -- another body, undecided: 9 of PR, LG and an abort DC
+    ∷ case (PR (writes 50 3) ∷ PR (writes 50 3) ∷ PR (writes 50 4) ∷ LG (writes 50 4) commit 4 ∷ DC (writes 50 4) votes abort 4 ∷ PR (writes 50 3) ∷ [])
+    (commits ∷ commits ∷ Refused OtherBody ∷ Refused OtherBody ∷ Refused OtherBody ∷ commits ∷ [])
+    -- "14. 50 held undecided, another body: PR 9; a DC commit proof for that body replaces it."
+    ∷ case (PR (writes 50 3) ∷ PR (writes 50 4) ∷ DC (writes 50 4) votes commit 6 ∷ PR (writes 50 4) ∷ PR (writes 50 3) ∷ [])
+    (commits ∷ Refused OtherBody ∷ Done ∷ Decided commit ∷ Refused OtherBody ∷ [])
+    -- of a committed one: another committed body 12, too few 11 first, the opposite decision 12, the equal one Done
+    ∷ case
+    (DC (writes 50 4) votes commit 6 ∷ DC (writes 50 3) votes commit 6 ∷ DC (writes 50 3) votes commit 5 ∷ DC (writes 50 4) votes abort 4
+    ∷ DC (writes 50 4) logs commit 5 ∷ PR (writes 50 4) ∷ [])
+    (Done ∷ Refused Contradiction ∷ Refused TooFew ∷ Refused Contradiction ∷ Done ∷ Decided commit ∷ [])
+    -- of an aborted one: Decided before 11, the opposite decision 12, and another body replaces it
+    ∷ case
+    (DC (writes 50 3) votes abort 4 ∷ PR (writes 50 3) ∷ LG (writes 50 3) commit 1 ∷ DC (writes 50 3) votes commit 6
+    ∷ DC (writes 50 4) votes commit 6 ∷ PR (writes 50 4) ∷ [])
+    (Done ∷ Decided abort ∷ Decided abort ∷ Refused Contradiction ∷ Done ∷ Decided commit ∷ [])
+    -- "Not held: 10."; "The box's own vote does not matter."
+    ∷ case (LG (writes 50 3) commit 4 ∷ []) (Refused Unknown ∷ [])
+    ∷ case (PR (reads 60 3 40) ∷ LG (reads 60 3 40) commit 4 ∷ PR (reads 60 3 40) ∷ []) (aborts NoVersion ∷ Logged commit ∷ aborts NoVersion ∷ [])
+    -- 13, before the tests; a body that replaces another needs no room
+    ∷ told 1 1 (PR (writes 50 3) ∷ PR (writes 111 3) ∷ DC (writes 60 3) votes commit 6 ∷ DC (writes 50 4) votes commit 6 ∷ [])
+    (commits ∷ Refused Full ∷ Refused Full ∷ Done ∷ [])
+    ∷ []
+
+-- RD
+unfoldable pub lookings : List Case
+lookings =
+    -- "highest stamp strictly below", each half by itself; an aborted one is in neither
+    case
+    (DC (tx 50 [] (write 3 8 ∷ [])) votes commit 6 ∷ PR (writes 60 3) ∷ DC (writes 55 3) votes abort 4 ∷ RD 3 50 ∷ RD 3 51 ∷ RD 3 61 ∷ RD 4 61 ∷ [])
+    (Done ∷ commits ∷ Done ∷ Found 0 0 0 0 ∷ Found 50 8 0 0 ∷ Found 50 8 60 7 ∷ Found 0 0 0 0 ∷ [])
+    -- 15 raises no mark; a mark never falls
+    ∷ case (RD 3 111 ∷ PR (writes 105 3) ∷ RD 3 110 ∷ PR (writes 106 3) ∷ [])
+    (Refused AheadOfClock ∷ commits ∷ Found 0 0 105 7 ∷ aborts ReadMark ∷ [])
+    ∷ case (RD 3 70 ∷ RD 3 60 ∷ PR (writes 65 3) ∷ []) (Found 0 0 0 0 ∷ Found 0 0 0 0 ∷ aborts ReadMark ∷ [])
+    ∷ []
+
+-- 14 before any byte of the message; then 1, 2 and 4
+unfoldable pub refusals : List Case
+refusals =
+    told 0 8 ([] ∷ []) (Refused Group ∷ [])
+    ∷ told 6 8 ([] ∷ []) (Refused Group ∷ [])
+    ∷ told 1 0 ([] ∷ []) (Refused Group ∷ [])
+    ∷ told 1 256 ([] ∷ []) (Refused Group ∷ [])
+    ∷ told 5 255 ([] ∷ (80 ∷ []) ∷ txBytes (writes 50 3) ∷ (PR (writes 50 3) ++ (0 ∷ [])) ∷ [])
+    (Refused Short ∷ Refused Short ∷ Refused Mark ∷ Refused Trailing ∷ [])
+    ∷ []
+
+-- what only a lent table holds
+unfoldable pub lents : List Case
+lents =
+    -- "If it holds one stamp twice, a look-up by stamp takes the first such entry, tests 3 and 4 look at every entry"
+    lent (entry (writes 50 4) voteCommit none none ∷ entry (writes 50 3) voteCommit none none ∷ []) (PR (writes 50 3) ∷ PR (reads 60 3 0) ∷ [])
+    (Refused OtherBody ∷ aborts Overwritten ∷ [])
+    ∷ lent (entry (reads 60 4 0) voteCommit none none ∷ entry (reads 60 3 0) voteCommit none none ∷ []) (PR (writes 50 3) ∷ [])
+    (aborts Undercuts ∷ [])
+    -- "undecided with vote none (only in a lent table), the tests as if new, in its place": its log stays
+    ∷ lent (entry (writes 50 3) unvoted (some commit) none ∷ []) (PR (writes 50 3) ∷ LG (writes 50 3) abort 1 ∷ []) (commits ∷ Logged commit ∷ [])
+    -- "or not held (only in a lent table)"
+    ∷ lent (entry (reads 60 3 50) waiting none none ∷ []) (PR (reads 60 3 50) ∷ []) (aborts Dependency ∷ [])
+    -- "committed by a body that lacks the key"; "any undecided: wait", whether it lacks the key or not
+    ∷ lent (entry (writes 50 4) unvoted none (some commit) ∷ entry (reads 60 3 50) waiting none none ∷ []) (PR (reads 60 3 50) ∷ [])
+    (aborts Dependency ∷ [])
+    ∷ lent (entry (writes 50 4) voteCommit none none ∷ entry (reads 60 3 50) waiting none none ∷ []) (PR (reads 60 3 50) ∷ []) (waits ∷ [])
+    -- "A version on which this box itself voted abort but which is undecided is still waited for."; a new reader of it fails test 2
+    ∷ lent (entry (writes 50 3) (voteAbort ReadMark) none none ∷ entry (reads 60 3 50) waiting none none ∷ [])
+    (PR (reads 60 3 50) ∷ PR (reads 70 3 50) ∷ [])
+    (waits ∷ aborts NoVersion ∷ [])
+    -- test 4: "at a version below this stamp", so not at this stamp
+    ∷ lent (entry (reads 60 3 50) voteCommit none none ∷ []) (PR (writes 50 3) ∷ []) (commits ∷ [])
+    -- "RD takes the first among equals, in an entry the first write of the key"
+    ∷ lent (entry (tx 50 [] (write 3 8 ∷ write 3 9 ∷ [])) unvoted none (some commit) ∷ entry (writes 50 3) unvoted none (some commit) ∷ [])
+    (RD 3 60 ∷ [])
+    (Found 50 8 0 0 ∷ [])
+    ∷ []
+
+unfoldable pub further : List Case
+further = inHex ++ (thresholds ++ (lists ++ (orders ++ (waitings ++ (helds ++ (lookings ++ (refusals ++ lents)))))))
+
+abbrev pub Further : Type 0
+Further = map given further ≡ map due further
+
+-- ---- what a box holds afterwards: the entries that it begins with, the messages, and then its entries and the read mark of key 0
+pub record Storing : Type 0 where
+  pub start : List Entry
+  pub sent : List (List ℕ)
+  pub table : List Entry
+  pub mark : ℕ
+
+unfoldable pub stores : List Entry → List (List ℕ) → List Entry → ℕ → Storing
+stores start sent table mark = record { start = start; sent = sent; table = table; mark = mark }
+
+unfoldable pub run : Config → Box → List (List ℕ) → Box
+run cf x [] = x
+run cf x (m ∷ ms) = run cf (after cf x m) ms
+
+unfoldable pub held : Storing → Box
+held c = run line (box (c .start) 0) (c .sent)
+
+unfoldable pub wanted : Storing → Box
+wanted c = box (c .table) (c .mark)
+
+unfoldable pub storings : List Storing
+storings =
+    -- a vote is stored behind the others, and changed in its place
+    stores []
+    (PR (writes 50 3) ∷ PR (reads 60 3 50) ∷ PR (writes 70 3) ∷ DC (writes 50 3) votes commit 6 ∷ PR (reads 60 3 50) ∷ [])
+    (entry (writes 50 3) voteCommit none (some commit) ∷ entry (reads 60 3 50) voteCommit none none ∷ entry (writes 70 3) voteCommit none none ∷ [])
+    0
+    -- "An abort vote carries one of six reasons, and it is stored."; a log stands beside it
+    ∷ stores [] (PR (reads 60 3 40) ∷ LG (reads 60 3 40) abort 2 ∷ []) (entry (reads 60 3 40) (voteAbort NoVersion) (some abort) none ∷ []) 0
+    -- "a new entry with vote none and this decision"
+    ∷ stores [] (DC (writes 50 3) votes abort 4 ∷ []) (entry (writes 50 3) unvoted none (some abort) ∷ []) 0
+    -- "the new body replaces it, vote and log become none, decision commit"
+    ∷ stores [] (PR (writes 50 3) ∷ LG (writes 50 3) commit 4 ∷ PR (writes 60 3) ∷ DC (writes 50 4) votes commit 6 ∷ [])
+    (entry (writes 50 4) unvoted none (some commit) ∷ entry (writes 60 3) voteCommit none none ∷ [])
+    0
+    -- "undecided takes it", with its vote and its log; "equal decision changes nothing"; nor does a refusal
+    ∷ stores []
+    (PR (writes 50 3) ∷ LG (writes 50 3) commit 4 ∷ DC (writes 50 3) votes abort 4 ∷ DC (writes 50 3) logs abort 5
+    ∷ DC (writes 50 3) votes commit 6 ∷ [])
+    (entry (writes 50 3) voteCommit (some commit) (some abort) ∷ [])
+    0
+    -- "Raises the key's read mark to the stamp if it is lower."
+    ∷ stores [] (RD 0 60 ∷ RD 0 50 ∷ RD 0 111 ∷ []) [] 60
+    -- "in its place": only the vote changes
+    ∷ stores (entry (writes 50 3) unvoted (some commit) none ∷ entry (writes 60 4) unvoted none none ∷ []) (PR (writes 50 3) ∷ [])
+    (entry (writes 50 3) voteCommit (some commit) none ∷ entry (writes 60 4) unvoted none none ∷ [])
+    0
+    ∷ []
+
+abbrev pub Stored : Type 0
+Stored = map held storings ≡ map wanted storings

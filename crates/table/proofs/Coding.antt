@@ -1,0 +1,90 @@
+-- What an entry holds beside the body: as a state, and as codes that are read back as they were put down.
+use Prim.Native.Nat.{ℕ, _≤_}
+use native.Mathlib.Omega.{arith}
+use mathlib.Core.Path.{_≡_, refl, ap}
+use mathlib.Core.List.{List}
+use mathlib.Core.Bool.{Bool, true, false}
+use mathlib.Core.Option.{some, none}
+use lib.Dec.{eqb}
+use lib.ListN.{getD}
+use Rattle.terms.specs.Choice.{pick}
+use Rattle.terms.specs.declared.Decision.the-variants.{Commit as commit, Abort as abort}
+use Rattle.terms.specs.Checks.{orElse, ifLess, ifSame}
+use Rattle.rules.specs.Answers.{reasonNumber, voteNumber, voteReason}
+use Rattle.rules.specs.declared.Reason.{Reason}
+use Rattle.rules.specs.declared.Reason.the-variants.{Ahead, NoVersion, Overwritten, Undercuts, ReadMark, Dependency}
+use Rattle.rules.specs.declared.Vote.{Vote}
+use Rattle.rules.specs.declared.Vote.the-variants.{None as unvoted, Waiting as waiting, Commit as voteCommit, Abort as voteAbort}
+use Rattle.table.specs.declared.Settled.{Settled}
+use Rattle.table.specs.declared.Settled.the-variants.{None as unsettled, Is as settled}
+use Rattle.table.specs.Table.{voteOf, reasonOf, settledOf, settledBy, settledIn, settledNumber, reasonWrong, entryOf, stateOf, entryWith, logAt, decidedAt}
+
+-- ---- codes
+reason-back : (r : Reason) → reasonOf (reasonNumber r) ≡ r
+reason-back Ahead = refl
+reason-back NoVersion = refl
+reason-back Overwritten = refl
+reason-back Undercuts = refl
+reason-back ReadMark = refl
+reason-back Dependency = refl
+
+pub vote-back : (v : Vote) → voteOf (voteNumber v) (voteReason v) ≡ v
+vote-back unvoted = refl
+vote-back waiting = refl
+vote-back voteCommit = refl
+vote-back (voteAbort r) = ap voteAbort (reason-back r)
+
+pub settled-back : (x : Settled) → settledOf (settledNumber x) ≡ settledIn x
+settled-back unsettled = refl
+settled-back (settled commit) = refl
+settled-back (settled abort) = refl
+
+-- each is in its list
+pub vote-small : (v : Vote) → voteNumber v ≤ 3
+vote-small unvoted = omega arith
+vote-small waiting = omega arith
+vote-small voteCommit = omega arith
+vote-small (voteAbort r) = omega arith
+
+pub reason-right : (v : Vote) → reasonWrong (voteNumber v) (voteReason v) ≡ 0
+unfolding reasonWrong orElse ifLess ifSame
+reason-right unvoted = refl
+reason-right waiting = refl
+reason-right voteCommit = refl
+reason-right (voteAbort Ahead) = refl
+reason-right (voteAbort NoVersion) = refl
+reason-right (voteAbort Overwritten) = refl
+reason-right (voteAbort Undercuts) = refl
+reason-right (voteAbort ReadMark) = refl
+reason-right (voteAbort Dependency) = refl
+
+pub settled-small : (x : Settled) → settledNumber x ≤ 2
+settled-small unsettled = omega arith
+settled-small (settled commit) = omega arith
+settled-small (settled abort) = omega arith
+
+-- ---- the state of a row is its entry's
+by-tests : (a b : Bool) → settledIn (pick a (settled commit) (pick b (settled abort) unsettled)) ≡ pick a (some commit) (pick b (some abort) none)
+by-tests true b = refl
+by-tests false true = refl
+by-tests false false = refl
+
+settled-in : (x : ℕ) → settledIn (settledBy x) ≡ settledOf x
+settled-in x = by-tests (eqb x 1) (eqb x 2)
+
+module _ (r : List ℕ) where
+  pub state-vote : stateOf r .vote ≡ entryOf r .vote
+  unfolding stateOf entryOf
+  state-vote = refl
+
+  pub state-log : settledIn (stateOf r .log) ≡ entryOf r .log
+  unfolding stateOf entryOf
+  state-log = settled-in (getD r logAt 0)
+
+  pub state-decided : settledIn (stateOf r .decided) ≡ entryOf r .decided
+  unfolding stateOf entryOf
+  state-decided = settled-in (getD r decidedAt 0)
+
+  pub state-entry : entryWith (entryOf r .body) (stateOf r) ≡ entryOf r
+  unfolding entryWith stateOf entryOf
+  state-entry = rw (settled-in (getD r logAt 0), settled-in (getD r decidedAt 0))

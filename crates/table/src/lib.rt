@@ -1,0 +1,395 @@
+// The table that the caller lends: a byte that counts the entries, then a row for each; the check that gives 16, look-up, store.
+ghost use mathlib.Core.Path.{_≡_};
+ghost use Prim.Native.Nat.{ℕ, _+_, _*_, _<_, _≤_};
+ghost use lib.ListN.{length, drop};
+ghost use Rattle.terms.specs.Choice.{tab, any};
+ghost use Rattle.records.specs.Tx.{rCount, wCount, readAt, writeAt, writesFrom, TxThere};
+ghost use Rattle.rules.specs.Answers.{decisionNumber};
+ghost use Rattle.rules.specs.Bodies.{stampOf, writesKey, sameBody};
+ghost use Rattle.rules.specs.Table.{live};
+ghost use Rattle.table.specs.Table.{rowLen, voteAt, countOf, rowAt, entryOf, entries, Wf, place};
+ghost use Rattle.table.specs.Table.{reasonWrong, rowWrong, rowBad, tableWrong, reasonOf, voteOf, settledBy, settledNumber, stateOf};
+ghost use Rattle.table.specs.Table.{copied, newRow, newCount, stored};
+use records::Read;
+use records::Write;
+use rules::Reason;
+use rules::Vote;
+use terms::Decision;
+use terms::Key;
+use terms::Stamp;
+
+// How many bytes a row has, and where in it the codes of vote, reason, log and decision stand.
+pub const ROW: usize = 176;
+
+pub const VOTE_AT: usize = 172;
+
+pub const REASON_AT: usize = 173;
+
+pub const LOG_AT: usize = 174;
+
+pub const DECIDED_AT: usize = 175;
+
+// A decision, or none.
+pub enum Settled {
+    None,
+    Is(Decision),
+}
+
+// What an entry holds beside the body.
+pub struct Entry {
+    pub vote: Vote,
+    pub log: Settled,
+    pub decided: Settled,
+}
+
+// The rows of a table.
+pub fn rows(t: &[u8]) -> &[u8]
+    requires { ⌜ 1 ≤ length (now t) ⌝ }
+    ensures { λ r. ⌜ now r ≡ drop 1 (now (t .entry)) ⌝ }
+{
+    &t[1..]
+}
+
+// How many entries a table has.
+pub fn count_of(t: &[u8]) -> usize
+    requires { ⌜ 1 ≤ length (now t) ⌝ }
+    ensures { λ r. ⌜ (r ≡ countOf (now (t .entry))) × (r < 256) ⌝ }
+{
+    records::wide(t[0])
+}
+
+// Row `i` of the rows.
+pub fn row(t: &[u8], i: usize) -> &[u8]
+    requires { ⌜ i * rowLen + rowLen ≤ length (now t) ⌝ }
+    ensures { λ r. ⌜ (now r ≡ rowAt (now (t .entry)) i) × (length (now r) ≡ rowLen) ⌝ }
+{
+    let b = i * ROW;
+    &t[b..b + ROW]
+}
+
+// Whether the entry of a row is live: decided commit, or undecided with vote commit or waiting.
+pub fn live(e: &[u8]) -> bool
+    requires { ⌜ length (now e) ≡ rowLen ⌝ }
+    ensures { λ r. ⌜ r ≡ live (entryOf (now (e .entry))) ⌝ }
+{
+    let d = e[DECIDED_AT];
+    if d == 1 {
+        return true;
+    }
+    if d == 2 {
+        return false;
+    }
+    let v = e[VOTE_AT];
+    if v == 1 {
+        return true;
+    }
+    if v == 2 {
+        return true;
+    }
+    false
+}
+
+// The stamp of a row's transaction, or of a TX.
+pub fn stamp_of(s: &[u8]) -> u64
+    requires { ⌜ TxThere (now s) ⌝ }
+    ensures { λ r. ⌜ r ≡ stampOf (now (s .entry)) ⌝ }
+{
+    records::u64_at(s, 4)
+}
+
+// How many reads it has.
+pub fn read_count(s: &[u8]) -> usize
+    requires { ⌜ TxThere (now s) ⌝ }
+    ensures { λ r. ⌜ (r ≡ rCount (now (s .entry))) × (r ≤ 8) ⌝ }
+{
+    records::wide(s[2])
+}
+
+// How many writes it has.
+pub fn write_count(s: &[u8]) -> usize
+    requires { ⌜ TxThere (now s) ⌝ }
+    ensures { λ r. ⌜ (r ≡ wCount (now (s .entry))) × (r ≤ 8) ⌝ }
+{
+    records::wide(s[3])
+}
+
+// Its j-th read.
+pub fn read_at(s: &[u8], j: usize) -> Read
+    requires { ⌜ TxThere (now s) × (j < rCount (now s)) ⌝ }
+    ensures { λ r. ⌜ r ≡ readAt (now (s .entry)) 12 j ⌝ }
+{
+    let key = Key(records::u16_at(s, 12 + j * 10));
+    let version = Stamp(records::u64_at(s, 12 + j * 10 + 2));
+    Read { key, version }
+}
+
+// Its j-th write.
+pub fn write_at(s: &[u8], j: usize) -> Write
+    requires { ⌜ TxThere (now s) × (j < wCount (now s)) ⌝ }
+    ensures { λ r. ⌜ r ≡ writeAt (now (s .entry)) (writesFrom (now (s .entry))) j ⌝ }
+{
+    let p = 12 + records::wide(s[2]) * 10;
+    let key = Key(records::u16_at(s, p + j * 10));
+    let value = records::u64_at(s, p + j * 10 + 2);
+    Write { key, value }
+}
+
+// Whether it writes the key.
+pub fn writes_key(s: &[u8], k: Key) -> bool
+    requires { ⌜ TxThere (now s) ⌝ }
+    ensures { λ r. ⌜ r ≡ writesKey (now (s .entry)) (k .0) ⌝ }
+{
+    let p = 12 + records::wide(s[2]) * 10;
+    let n = records::wide(s[3]);
+    let mut j = 0;
+    while j < n {
+        if records::u16_at(s, p + j * 10) == k.0 {
+            return true;
+        }
+        j += 1;
+    }
+    false
+}
+
+// The place of the first entry with a stamp among the first `n` rows, or `n`.
+pub fn place(t: &[u8], n: usize, s: Stamp) -> usize
+    requires { ⌜ Wf (now t) n ⌝ }
+    ensures { λ r. ⌜ (r ≡ place (s .0) (entries (now (t .entry)) n)) × (r ≤ n) ⌝ }
+{
+    let mut at = 0;
+    while at < n {
+        if stamp_of(row(t, at)) == s.0 {
+            return at;
+        }
+        at += 1;
+    }
+    at
+}
+
+// 16 unless the reason is 1 to 6 beside an abort, and 0 beside any other vote.
+fn reason_wrong(v: u8, r: u8) -> u8
+    ensures { λ n. ⌜ n ≡ reasonWrong v r ⌝ }
+{
+    if v == 3 {
+        if r == 0 {
+            return terms::TABLE;
+        }
+        if 6 < r {
+            return terms::TABLE;
+        }
+        return 0;
+    }
+    if 0 < r {
+        return terms::TABLE;
+    }
+    0
+}
+
+// 16 where r or w is above 8, or a code is outside its list.
+fn row_wrong(e: &[u8]) -> u8
+    requires { ⌜ length (now e) ≡ rowLen ⌝ }
+    ensures { λ n. ⌜ n ≡ rowWrong (now (e .entry)) ⌝ }
+{
+    if 8 < e[2] {
+        return terms::TABLE;
+    }
+    if 8 < e[3] {
+        return terms::TABLE;
+    }
+    if 3 < e[VOTE_AT] {
+        return terms::TABLE;
+    }
+    let wrong = reason_wrong(e[VOTE_AT], e[REASON_AT]);
+    if wrong != 0 {
+        return wrong;
+    }
+    if 2 < e[LOG_AT] {
+        return terms::TABLE;
+    }
+    if 2 < e[DECIDED_AT] {
+        return terms::TABLE;
+    }
+    0
+}
+
+// Whether one of the first `n` rows is wrong.
+fn any_bad(t: &[u8], n: usize) -> bool
+    requires { ⌜ n * rowLen ≤ length (now t) ⌝ }
+    ensures { λ r. ⌜ r ≡ any rowBad (tab (rowAt (now (t .entry))) 0 n) ⌝ }
+{
+    let mut i = 0;
+    while i < n {
+        if 0 < row_wrong(row(t, i)) {
+            return true;
+        }
+        i += 1;
+    }
+    false
+}
+
+// 16 where the table cannot be taken, else 0.
+pub fn table_wrong(t: &[u8], capacity: usize) -> u8
+    requires { ⌜ capacity ≤ 255 ⌝ }
+    ensures { λ r. ⌜ r ≡ tableWrong capacity (now (t .entry)) ⌝ }
+{
+    if t.len() < 1 + capacity * ROW {
+        return terms::TABLE;
+    }
+    let n = count_of(t);
+    if capacity < n {
+        return terms::TABLE;
+    }
+    if any_bad(rows(t), n) {
+        return terms::TABLE;
+    }
+    0
+}
+
+// The reason that a number says.
+fn reason_of(x: u8) -> Reason
+    ensures { λ r. ⌜ r ≡ reasonOf x ⌝ }
+{
+    match x {
+        1 => Reason::Ahead,
+        2 => Reason::NoVersion,
+        3 => Reason::Overwritten,
+        4 => Reason::Undercuts,
+        5 => Reason::ReadMark,
+        _ => Reason::Dependency,
+    }
+}
+
+// The vote that a code and its reason's say.
+pub fn vote_of(code: u8, reason: u8) -> Vote
+    ensures { λ r. ⌜ r ≡ voteOf code reason ⌝ }
+{
+    match code {
+        1 => Vote::Waiting,
+        2 => Vote::Commit,
+        3 => Vote::Abort(reason_of(reason)),
+        _ => Vote::None,
+    }
+}
+
+// The decision that a code says, or none.
+pub fn settled_of(code: u8) -> Settled
+    ensures { λ r. ⌜ r ≡ settledBy code ⌝ }
+{
+    match code {
+        1 => Settled::Is(Decision::Commit),
+        2 => Settled::Is(Decision::Abort),
+        _ => Settled::None,
+    }
+}
+
+// The code of a decision: 1 commit, 2 abort.
+fn decision_code(d: Decision) -> u8
+    ensures { λ r. ⌜ r ≡ decisionNumber d ⌝ }
+{
+    match d {
+        Decision::Commit => 1,
+        Decision::Abort => 2,
+    }
+}
+
+// The code of a decision or none: 0 is none.
+pub fn settled_code(x: Settled) -> u8
+    ensures { λ r. ⌜ r ≡ settledNumber x ⌝ }
+{
+    match x {
+        Settled::None => 0,
+        Settled::Is(d) => decision_code(d),
+    }
+}
+
+// What a row holds beside the body.
+pub fn entry_of(e: &[u8]) -> Entry
+    requires { ⌜ length (now e) ≡ rowLen ⌝ }
+    ensures { λ x. ⌜ x ≡ stateOf (now (e .entry)) ⌝ }
+{
+    let vote = vote_of(e[VOTE_AT], e[REASON_AT]);
+    let log = settled_of(e[LOG_AT]);
+    let decided = settled_of(e[DECIDED_AT]);
+    Entry { vote, log, decided }
+}
+
+// The body of a row.
+pub fn row_body(e: &[u8]) -> &[u8]
+    requires { ⌜ TxThere (now e) ⌝ }
+    ensures { λ r. ⌜ now r ≡ entryOf (now (e .entry)) .body ⌝ }
+{
+    &e[..records::tx_len(e)]
+}
+
+// Whether two bodies are the same, byte for byte.
+pub fn same(a: &[u8], b: &[u8]) -> bool
+    ensures { λ r. ⌜ r ≡ sameBody (now (a .entry)) (now (b .entry)) ⌝ }
+{
+    if a.len() != b.len() {
+        return false;
+    }
+    let mut i = 0;
+    while i < a.len() {
+        if a[i] != b[i] {
+            return false;
+        }
+        i += 1;
+    }
+    true
+}
+
+// The body's bytes, over the front of a row.
+fn put_body(e: &mut [u8], body: &[u8])
+    requires { ⌜ length (now body) ≤ length (now e) ⌝ }
+    ensures { λ r. ⌜ now (e .exit) ≡ copied (now (e .entry)) (now (body .entry)) (length (now (body .entry))) ⌝ }
+{
+    let mut i = 0;
+    while i < body.len() {
+        e[i] = body[i];
+        i += 1;
+    }
+}
+
+// A row of this body and these codes.
+fn put_row(e: &mut [u8], body: &[u8], vote: u8, reason: u8, log: u8, decided: u8)
+    requires { ⌜ (length (now e) ≡ rowLen) × (length (now body) ≤ voteAt) ⌝ }
+    ensures { λ r. ⌜ now (e .exit) ≡ newRow (now (e .entry)) (now (body .entry)) vote reason log decided ⌝ }
+{
+    put_body(e, body);
+    e[VOTE_AT] = vote;
+    e[REASON_AT] = reason;
+    e[LOG_AT] = log;
+    e[DECIDED_AT] = decided;
+}
+
+// The count once row `i` is stored: one more where `i` is behind the last.
+fn new_count(n: u8, i: usize) -> u8
+    requires { ⌜ i < 255 ⌝ }
+    ensures { λ r. ⌜ r ≡ newCount n i ⌝ }
+{
+    if i == records::wide(n) {
+        return n + 1;
+    }
+    n
+}
+
+// Row `i`, an entry's own or the one behind the last, becomes this body and what is held beside it.
+pub fn store(t: &mut [u8], i: usize, body: &[u8], e: Entry)
+    requires { ⌜ (1 + i * rowLen + rowLen ≤ length (now t)) × (i < 255) × (length (now body) ≤ voteAt) ⌝ }
+    ensures { λ r. ⌜ now (t .exit) ≡ stored (now (t .entry)) i (now (body .entry)) e ⌝ }
+{
+    let vote = e.vote;
+    let log = e.log;
+    let decided = e.decided;
+    let n = new_count(t[0], i);
+    let b = 1 + i * ROW;
+    put_row(
+        &mut t[b..b + ROW],
+        body,
+        vote.number(),
+        vote.reason(),
+        settled_code(log),
+        settled_code(decided),
+    );
+    t[0] = n;
+}
