@@ -1,0 +1,30 @@
+use Rattle.table.specs.Table.{entries}
+use Rattle.table.proofs.Looking.{find-none}
+use Rattle.scans.proofs.Outcomes.{find-held}
+use Rattle.scans.proofs.Waiting.{status-zero, status-free, status-held}
+use native.Mathlib.Omega.{arith}
+use borrow.Author.Needs.{needs}
+use Rattle.scans.proofs.status.Statement.{statement}
+use Rattle.scans.proofs.status.Tie as tie
+
+returns : tie.Need-returns
+returns c = let a = c .before .before .before .before .before .args in status-zero (entries (a .t .now) (a .n)) (a .p) (c .if1 .taken)
+
+place-requires : tie.Need-place-requires
+place-requires c κs = search needs
+
+row-requires : tie.Need-row-requires
+row-requires c κs = search needs
+
+status-of-requires : tie.Need-status-of-requires
+status-of-requires c κs = rw (c .row .ensures .0) (c .before .before .before .before .before .before .before .before .pre .rows (c .before .before .place .result) (omega arith))
+
+returns-2 : tie.Need-returns-2
+returns-2 c = let a = c .before .before .before .before .before .before .before .before .before .args in status-held (entries (a .t .now) (a .n)) (a .p) (c .before .before .before .before .if1 .left) (c .before .row .result .now) (find-held (a .t .now) (a .p .version .0) (a .n) (c .before .before .before .place .result) (c .before .row .result .now) (c .before .before .before .place .ensures .0) (c .before .before .if2 .taken) (c .before .row .ensures .0)) (c .status-of .ensures)
+
+returns-3 : tie.Need-returns-3
+returns-3 c = let a = c .before .before .before .before .before .before .before .args in status-free (entries (a .t .now) (a .n)) (a .p) (c .before .before .if1 .left) (find-none (a .p .version .0) (a .t .now) (a .n) (c .before .place .result) (c .before .place .ensures .0) (c .if2 .left) (c .before .place .ensures .1))
+
+pub status-spec : {M : Type 1} → statement M
+status-spec =
+    tie.close (tie.spec returns place-requires row-requires status-of-requires returns-2 returns-3)

@@ -1,0 +1,94 @@
+-- What the scans say: the tests at one read and at one entry, and the newest writers as numbers.
+use Prim.Native.Nat.{ℕ}
+use mathlib.Core.Bool.{Bool, not, _&&_, _||_}
+use mathlib.Core.List.{List, []}
+use mathlib.Core.Option.{Option, some}
+use lib.Dec.{eqb, ltb}
+use lib.ListN.{getD}
+use Rattle.terms.specs.Choice.{pick, any}
+use Rattle.records.specs.declared.Read.{Read}
+use Rattle.records.specs.declared.Write.{Write}
+use Rattle.records.specs.Tx.{readKey, readVersion, writeKey}
+use Rattle.rules.specs.declared.Reason.the-variants.{Dependency}
+use Rattle.rules.specs.declared.Vote.{Vote}
+use Rattle.rules.specs.declared.Vote.the-variants.{Waiting as waiting, Commit as voteCommit, Abort as voteAbort}
+use Rattle.rules.specs.Bodies.{Body, stampOf, writesKey}
+use Rattle.rules.specs.Table.{Box, Config, Entry, find, live}
+use Rattle.rules.specs.Tests.{Status, bad, pending, fine, isBad, isPending, liveWriter, undercut, status}
+use Rattle.rules.specs.Calls.{newest, versionOf, valueOf, isCommitted, isUndecided}
+use Rattle.scans.specs.declared.Best.{Best}
+use Rattle.scans.specs.declared.Writers.{Writers}
+
+-- ---- boxes
+abbrev pub boxOf : List Entry → List ℕ → Box
+boxOf es ms = record { table = es; marks = ms }
+
+-- tests 2, 3 and 4, the waiting rule and RD do not look at the read marks
+abbrev pub over : List Entry → Box
+over es = boxOf es []
+
+-- the tests look at clock and δ only
+abbrev pub told : ℕ → ℕ → Config
+told clock delta = record { f = 0; capacity = 0; clock = clock; delta = delta }
+
+-- ---- tests
+-- test 2 at one read
+unfoldable pub unnamed : List Entry → Read → Bool
+unnamed es r = not (eqb (readVersion r) 0) && not (liveWriter (readKey r) (find (readVersion r) es))
+
+-- tests 3 and 4 at one read, where the stamps are in order
+unfoldable pub below : Body → Read → Bool
+below b r = writesKey b (readKey r) && ltb (readVersion r) (stampOf b)
+
+-- test 3 at one entry
+unfoldable pub hit3 : Body → Entry → Bool
+hit3 b e = live e && undercut b (e .body)
+
+-- test 4 at one entry
+unfoldable pub hit4 : Body → Entry → Bool
+hit4 b e = live e && undercut (e .body) b
+
+-- test 5 at one write
+unfoldable pub marked : List ℕ → ℕ → Write → Bool
+marked ms s w = ltb s (getD ms (writeKey w) 0)
+
+-- ---- the waiting rule
+abbrev pub statusNumber : Status → ℕ
+statusNumber fine = 0
+statusNumber pending = 1
+statusNumber bad = 2
+
+-- the waiting rule over the reads that are left, w where an undecided version stood before them
+unfoldable pub waitBy : List Entry → Bool → List Read → Vote
+waitBy es w rs =
+    pick (any (λ r. isBad (status (over es) r)) rs) (voteAbort Dependency)
+    (pick (w || any (λ r. isPending (status (over es) r)) rs) waiting voteCommit)
+
+-- ---- the newest writers
+abbrev pub committed : Entry → Bool
+committed e = isCommitted (e .decided)
+
+abbrev pub undecided : Entry → Bool
+undecided e = isUndecided (e .decided) && live e
+
+-- "version and value"; "0 0 where there is none"
+unfoldable pub bestOf : ℕ → Option Entry → Best
+bestOf k o = record { version = versionOf o; value = valueOf k o }
+
+-- the better of an entry and of what was best behind it
+unfoldable pub bestBy : ℕ → ℕ → Entry → Best → Best
+bestBy k s e x =
+    pick (writesKey (e .body) k && ltb (stampOf (e .body)) s)
+    (pick (ltb (stampOf (e .body)) (x .version)) x (bestOf k (some e))) x
+
+-- both halves, one entry more in front
+unfoldable pub nextPair : ℕ → ℕ → Entry → Writers → Writers
+nextPair k s e x =
+    record {
+      committed = pick (committed e) (bestBy k s e (x .committed)) (x .committed);
+      undecided = pick (undecided e) (bestBy k s e (x .undecided)) (x .undecided);
+    }
+
+-- "of the committed writer with the highest stamp strictly below, and likewise of the live undecided one"
+unfoldable pub bestPair : ℕ → ℕ → List Entry → Writers
+bestPair k s es = record { committed = bestOf k (newest committed k s es); undecided = bestOf k (newest undecided k s es) }

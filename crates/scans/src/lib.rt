@@ -1,0 +1,426 @@
+// The scans of a box's table that the rules need: the five tests of a PR, the waiting rule, the first vote, and what RD finds.
+ghost use mathlib.Core.Path.{_≡_};
+ghost use mathlib.Core.Bool.{_||_};
+ghost use mathlib.Core.Option.{some};
+ghost use Prim.Native.Nat.{_+_};
+ghost use lib.Dec.{ltb, eqb};
+ghost use lib.ListN.{getD};
+ghost use mathlib.Core.List.{[]};
+ghost use Rattle.terms.specs.Choice.{any};
+ghost use Rattle.records.specs.Tx.{TxThere};
+ghost use Rattle.rules.specs.Bodies.{readsOf, writesOf};
+ghost use Rattle.rules.specs.Table.{find};
+ghost use Rattle.rules.specs.Tests.{test1, test2, test3, test4, test5, liveWriter, undercut, statusOf, status, waitingRule, firstVote};
+ghost use Rattle.rules.specs.Calls.{valueAt, rdAnswer};
+ghost use Rattle.table.specs.Table.{WfRow, Wf, entryOf, entries};
+ghost use Rattle.scans.specs.Scans.{told, over, boxOf, unnamed, below, hit3, hit4, statusNumber, bestBy, bestPair, nextPair};
+use records::Read;
+use rules::Answer;
+use rules::Reason;
+use rules::Vote;
+use terms::Key;
+use terms::Stamp;
+
+// What a version read is to the waiting rule.
+const FINE: u8 = 0;
+
+const PENDING: u8 = 1;
+
+const BAD: u8 = 2;
+
+// Version and value of a writer, 0 and 0 where there is none.
+pub struct Best {
+    pub version: u64,
+    pub value: u64,
+}
+
+// The newest committed writer, and the newest live undecided one.
+pub struct Writers {
+    pub committed: Best,
+    pub undecided: Best,
+}
+
+// Whether a stamp is above clock + δ, a sum that never wraps.
+pub fn ahead(s: u64, clock: u64, delta: u64) -> bool
+    ensures { λ r. ⌜ r ≡ ltb (clock + delta) s ⌝ }
+{
+    if s <= clock {
+        return false;
+    }
+    if delta < s - clock {
+        return true;
+    }
+    false
+}
+
+// Test 1: stamp above clock + δ.
+pub fn test_1(b: &[u8], clock: u64, delta: u64) -> bool
+    requires { ⌜ TxThere (now b) ⌝ }
+    ensures { λ r. ⌜ r ≡ test1 (told clock delta) (now (b .entry)) ⌝ }
+{
+    ahead(table::stamp_of(b), clock, delta)
+}
+
+// Whether the version is a live entry writing the key.
+fn live_writer(t: &[u8], n: usize, k: Key, v: Stamp) -> bool
+    requires { ⌜ Wf (now t) n ⌝ }
+    ensures { λ r. ⌜ r ≡ liveWriter (k .0) (find (v .0) (entries (now (t .entry)) n)) ⌝ }
+{
+    let i = table::place(t, n, v);
+    if i < n {
+        let e = table::row(t, i);
+        if table::live(e) {
+            return table::writes_key(e, k);
+        }
+        return false;
+    }
+    false
+}
+
+// Test 2 at one read.
+fn unnamed(t: &[u8], n: usize, p: Read) -> bool
+    requires { ⌜ Wf (now t) n ⌝ }
+    ensures { λ r. ⌜ r ≡ unnamed (entries (now (t .entry)) n) p ⌝ }
+{
+    let v = p.version;
+    let k = p.key;
+    if v.0 == 0 {
+        return false;
+    }
+    if live_writer(t, n, k, v) {
+        return false;
+    }
+    true
+}
+
+// Test 2: a read names a nonzero version that is not a live entry writing that key.
+pub fn test_2(t: &[u8], n: usize, b: &[u8]) -> bool
+    requires { ⌜ Wf (now t) n × TxThere (now b) ⌝ }
+    ensures { λ r. ⌜ r ≡ test2 (over (entries (now (t .entry)) n)) (now (b .entry)) ⌝ }
+{
+    let m = table::read_count(b);
+    let mut j = 0;
+    while j < m {
+        let p = table::read_at(b, j);
+        if unnamed(t, n, p) {
+            return true;
+        }
+        j += 1;
+    }
+    false
+}
+
+// Whether a read lies below what the other transaction writes there.
+fn below(b: &[u8], p: Read) -> bool
+    requires { ⌜ TxThere (now b) ⌝ }
+    ensures { λ r. ⌜ r ≡ below (now (b .entry)) p ⌝ }
+{
+    let v = p.version;
+    let k = p.key;
+    if v.0 < table::stamp_of(b) {
+        return table::writes_key(b, k);
+    }
+    false
+}
+
+// Whether some read of `a` lies below what `b` writes there.
+fn any_below(a: &[u8], b: &[u8]) -> bool
+    requires { ⌜ TxThere (now a) × TxThere (now b) ⌝ }
+    ensures { λ r. ⌜ r ≡ any (below (now (b .entry))) (readsOf (now (a .entry))) ⌝ }
+{
+    let m = table::read_count(a);
+    let mut j = 0;
+    while j < m {
+        let p = table::read_at(a, j);
+        if below(b, p) {
+            return true;
+        }
+        j += 1;
+    }
+    false
+}
+
+// What tests 3 and 4 look for: the stamps first, then the keys.
+fn undercut(a: &[u8], b: &[u8]) -> bool
+    requires { ⌜ TxThere (now a) × TxThere (now b) ⌝ }
+    ensures { λ r. ⌜ r ≡ undercut (now (a .entry)) (now (b .entry)) ⌝ }
+{
+    if table::stamp_of(b) < table::stamp_of(a) {
+        return any_below(a, b);
+    }
+    false
+}
+
+// Test 3 at one row.
+fn hit_3(e: &[u8], b: &[u8]) -> bool
+    requires { ⌜ WfRow (now e) × TxThere (now b) ⌝ }
+    ensures { λ r. ⌜ r ≡ hit3 (now (b .entry)) (entryOf (now (e .entry))) ⌝ }
+{
+    if table::live(e) {
+        return undercut(b, e);
+    }
+    false
+}
+
+// Test 3: a live entry writes a key read here, its stamp above the version read and below this stamp.
+pub fn test_3(t: &[u8], n: usize, b: &[u8]) -> bool
+    requires { ⌜ Wf (now t) n × TxThere (now b) ⌝ }
+    ensures { λ r. ⌜ r ≡ test3 (over (entries (now (t .entry)) n)) (now (b .entry)) ⌝ }
+{
+    let mut i = 0;
+    while i < n {
+        let e = table::row(t, i);
+        if hit_3(e, b) {
+            return true;
+        }
+        i += 1;
+    }
+    false
+}
+
+// Test 4 at one row.
+fn hit_4(e: &[u8], b: &[u8]) -> bool
+    requires { ⌜ WfRow (now e) × TxThere (now b) ⌝ }
+    ensures { λ r. ⌜ r ≡ hit4 (now (b .entry)) (entryOf (now (e .entry))) ⌝ }
+{
+    if table::live(e) {
+        return undercut(e, b);
+    }
+    false
+}
+
+// Test 4: a live entry with a higher stamp read a key written here at a version below this stamp.
+pub fn test_4(t: &[u8], n: usize, b: &[u8]) -> bool
+    requires { ⌜ Wf (now t) n × TxThere (now b) ⌝ }
+    ensures { λ r. ⌜ r ≡ test4 (over (entries (now (t .entry)) n)) (now (b .entry)) ⌝ }
+{
+    let mut i = 0;
+    while i < n {
+        let e = table::row(t, i);
+        if hit_4(e, b) {
+            return true;
+        }
+        i += 1;
+    }
+    false
+}
+
+// The read mark of a key, 0 past the end.
+fn mark_at(marks: &[u64], k: Key) -> u64
+    ensures { λ r. ⌜ r ≡ getD (now (marks .entry)) (k .0) 0 ⌝ }
+{
+    let i = k.0 as usize;
+    if i < marks.len() {
+        return marks[i];
+    }
+    0
+}
+
+// Test 5: a written key's read mark is above this stamp.
+pub fn test_5(marks: &[u64], b: &[u8]) -> bool
+    requires { ⌜ TxThere (now b) ⌝ }
+    ensures { λ r. ⌜ r ≡ test5 (boxOf [] (now (marks .entry))) (now (b .entry)) ⌝ }
+{
+    let s = table::stamp_of(b);
+    let m = table::write_count(b);
+    let mut j = 0;
+    while j < m {
+        let w = table::write_at(b, j);
+        if s < mark_at(marks, w.key) {
+            return true;
+        }
+        j += 1;
+    }
+    false
+}
+
+// The waiting rule of a held version: committed by a body that has the key, undecided, or bad.
+fn status_of(e: &[u8], k: Key) -> u8
+    requires { ⌜ WfRow (now e) ⌝ }
+    ensures { λ r. ⌜ r ≡ statusNumber (statusOf (k .0) (some (entryOf (now (e .entry))))) ⌝ }
+{
+    let d = e[table::DECIDED_AT];
+    if d == 1 {
+        if table::writes_key(e, k) {
+            return FINE;
+        }
+        return BAD;
+    }
+    if d == 2 {
+        return BAD;
+    }
+    PENDING
+}
+
+// The waiting rule of one version read; one that is not held is bad.
+fn status(t: &[u8], n: usize, p: Read) -> u8
+    requires { ⌜ Wf (now t) n ⌝ }
+    ensures { λ r. ⌜ r ≡ statusNumber (status (over (entries (now (t .entry)) n)) p) ⌝ }
+{
+    let v = p.version;
+    let k = p.key;
+    if v.0 == 0 {
+        return FINE;
+    }
+    let i = table::place(t, n, v);
+    if i < n {
+        let e = table::row(t, i);
+        return status_of(e, k);
+    }
+    BAD
+}
+
+// Whether to wait, one version more looked at.
+fn waits_too(waits: bool, s: u8) -> bool
+    ensures { λ r. ⌜ r ≡ (waits || eqb s 1) ⌝ }
+{
+    if waits {
+        return true;
+    }
+    if s == PENDING {
+        return true;
+    }
+    false
+}
+
+// The waiting rule: any bad, abort with reason 6; else any undecided, wait; else commit.
+pub fn waiting_rule(t: &[u8], n: usize, b: &[u8]) -> Vote
+    requires { ⌜ Wf (now t) n × TxThere (now b) ⌝ }
+    ensures { λ v. ⌜ v ≡ waitingRule (over (entries (now (t .entry)) n)) (now (b .entry)) ⌝ }
+{
+    let m = table::read_count(b);
+    let mut waits = false;
+    let mut j = 0;
+    while j < m {
+        let p = table::read_at(b, j);
+        let s = status(t, n, p);
+        if s == BAD {
+            return Vote::Abort(Reason::Dependency);
+        }
+        waits = waits_too(waits, s);
+        j += 1;
+    }
+    if waits {
+        return Vote::Waiting;
+    }
+    Vote::Commit
+}
+
+// The vote of a PR not held: the first failing test aborts, else the waiting rule.
+pub fn first_vote(t: &[u8], n: usize, marks: &[u64], b: &[u8], clock: u64, delta: u64) -> Vote
+    requires { ⌜ Wf (now t) n × TxThere (now b) ⌝ }
+    ensures { λ v. ⌜ v ≡ firstVote (told clock delta) (boxOf (entries (now (t .entry)) n) (now (marks .entry))) (now (b .entry)) ⌝ }
+{
+    if test_1(b, clock, delta) {
+        return Vote::Abort(Reason::Ahead);
+    }
+    if test_2(t, n, b) {
+        return Vote::Abort(Reason::NoVersion);
+    }
+    if test_3(t, n, b) {
+        return Vote::Abort(Reason::Overwritten);
+    }
+    if test_4(t, n, b) {
+        return Vote::Abort(Reason::Undercuts);
+    }
+    if test_5(marks, b) {
+        return Vote::Abort(Reason::ReadMark);
+    }
+    waiting_rule(t, n, b)
+}
+
+// The value of the first write of a key, 0 where there is none.
+fn value_of(e: &[u8], k: Key) -> u64
+    requires { ⌜ TxThere (now e) ⌝ }
+    ensures { λ r. ⌜ r ≡ valueAt (k .0) (writesOf (now (e .entry))) ⌝ }
+{
+    let m = table::write_count(e);
+    let mut j = 0;
+    while j < m {
+        let w = table::write_at(e, j);
+        if w.key.0 == k.0 {
+            return w.value;
+        }
+        j += 1;
+    }
+    0
+}
+
+// The better of a row and of what was best behind it: the stamps first, then the key.
+fn better(e: &[u8], k: Key, s: Stamp, x: Best) -> Best
+    requires { ⌜ TxThere (now e) ⌝ }
+    ensures { λ r. ⌜ r ≡ bestBy (k .0) (s .0) (entryOf (now (e .entry))) x ⌝ }
+{
+    let v = table::stamp_of(e);
+    if s.0 <= v {
+        return x;
+    }
+    if v < x.version {
+        return x;
+    }
+    if table::writes_key(e, k) {
+        return Best {
+            version: v,
+            value: value_of(e, k),
+        };
+    }
+    x
+}
+
+// One row more, in front.
+fn next(e: &[u8], k: Key, s: Stamp, x: Writers) -> Writers
+    requires { ⌜ WfRow (now e) ⌝ }
+    ensures { λ r. ⌜ r ≡ nextPair (k .0) (s .0) (entryOf (now (e .entry))) x ⌝ }
+{
+    let committed = x.committed;
+    let undecided = x.undecided;
+    if e[table::DECIDED_AT] == 1 {
+        return Writers {
+            committed: better(e, k, s, committed),
+            undecided,
+        };
+    }
+    if table::live(e) {
+        return Writers {
+            committed,
+            undecided: better(e, k, s, undecided),
+        };
+    }
+    x
+}
+
+// The committed writer of a key with the highest stamp strictly below, and likewise the live undecided one.
+pub fn newest(t: &[u8], n: usize, k: Key, s: Stamp) -> Writers
+    requires { ⌜ Wf (now t) n ⌝ }
+    ensures { λ r. ⌜ r ≡ bestPair (k .0) (s .0) (entries (now (t .entry)) n) ⌝ }
+{
+    let none = Best {
+        version: 0,
+        value: 0,
+    };
+    let mut x = Writers {
+        committed: none,
+        undecided: none,
+    };
+    let mut i = n;
+    while 0 < i {
+        i -= 1;
+        let e = table::row(t, i);
+        x = next(e, k, s, x);
+    }
+    x
+}
+
+// What RD answers: version and value of both.
+pub fn found(t: &[u8], n: usize, k: Key, s: Stamp) -> Answer
+    requires { ⌜ Wf (now t) n ⌝ }
+    ensures { λ r. ⌜ r ≡ rdAnswer (over (entries (now (t .entry)) n)) (k .0) (s .0) ⌝ }
+{
+    let x = newest(t, n, k, s);
+    Answer::Found(
+        x.committed.version,
+        x.committed.value,
+        x.undecided.version,
+        x.undecided.value,
+    )
+}

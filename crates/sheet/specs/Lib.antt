@@ -1,0 +1,4 @@
+pub mod Masks
+pub mod Sheets
+pub mod Listing
+pub mod Arrivals

@@ -1,0 +1,356 @@
+// The gateway's tally sheet: for one transaction and one kind, which box has answered what. Counts are always taken from the masks.
+ghost use mathlib.Core.Path.{_≡_};
+ghost use mathlib.Core.Bool.{false};
+ghost use Prim.Native.Nat.{_<_, _≤_, _^_};
+ghost use lib.Dec.{leb};
+ghost use Rattle.terms.specs.Choice.{any};
+ghost use Rattle.records.specs.Vl.{heldList};
+ghost use Rattle.rules.specs.Lists.{bit};
+ghost use Rattle.rules.specs.System.{count};
+ghost use Rattle.sheet.specs.Masks.{has, withBox};
+ghost use Rattle.sheet.specs.Sheets.{twice, sheetDamaged, sheetWrong, answerWrong, on, joined, reached, sheetAfter, replyTo, replyValues, emptySheet, numbers};
+ghost use Rattle.sheet.specs.Listing.{listOf, listFrom};
+use records::Pair;
+use records::VoteList;
+use terms::Decision;
+use terms::Group;
+use terms::Kind;
+use terms::Refusal;
+
+// Bit b of a mask says that box b gave this answer.
+pub struct Sheet {
+    pub kind: u8,
+    pub commits: u32,
+    pub aborts: u32,
+}
+
+// Which thresholds of a sheet of votes are reached.
+pub struct VotesReached {
+    pub commit_list: bool,
+    pub abort_list: bool,
+    pub commit_proof: bool,
+    pub abort_proof: bool,
+}
+
+// The same of a sheet of logs: the proof of each decision.
+pub struct LogsReached {
+    pub commit: bool,
+    pub abort: bool,
+}
+
+pub enum Reply {
+    Votes(VotesReached),
+    Logs(LogsReached),
+    Repeat,
+    Refused(Refusal),
+}
+
+fn bit_of(b: bool) -> u8
+    ensures { λ r. ⌜ r ≡ bit b ⌝ }
+{
+    if b {
+        return 1;
+    }
+    0
+}
+
+impl Reply {
+    // The reply as numbers: 1 votes, 2 logs, 3 Repeat or 4 refused, and then its values.
+    pub fn values(self) -> [u8; 5]
+        ensures { λ r. ⌜ r ≡ replyValues self ⌝ }
+    {
+        match self {
+            Reply::Votes(v) => [
+                1,
+                bit_of(v.commit_list),
+                bit_of(v.abort_list),
+                bit_of(v.commit_proof),
+                bit_of(v.abort_proof),
+            ],
+            Reply::Logs(v) => [2, bit_of(v.commit), bit_of(v.abort), 0, 0],
+            Reply::Repeat => [3, 0, 0, 0, 0],
+            Reply::Refused(why) => [4, why.number(), 0, 0, 0],
+        }
+    }
+}
+
+// A sheet with no box on it.
+pub fn empty(kind: Kind) -> Sheet
+    ensures { λ r. ⌜ r ≡ emptySheet kind ⌝ }
+{
+    match kind {
+        Kind::Votes => Sheet {
+            kind: 1,
+            commits: 0,
+            aborts: 0,
+        },
+        Kind::Logs => Sheet {
+            kind: 2,
+            commits: 0,
+            aborts: 0,
+        },
+    }
+}
+
+fn has_box(m: u32, b: usize) -> bool
+    requires { ⌜ b < 32 ⌝ }
+    ensures { λ r. ⌜ r ≡ has m b ⌝ }
+{
+    (m >> b) % 2 == 1
+}
+
+// The mask with a box that is not on it.
+fn with_box(m: u32, b: usize) -> u32
+    requires { ⌜ (b < 32) × (has m b ≡ false) ⌝ }
+    ensures { λ r. ⌜ r ≡ withBox m b ⌝ }
+{
+    m + (1 << b)
+}
+
+// How many of the first n boxes are on a mask.
+fn counted(m: u32, n: usize) -> usize
+    requires { ⌜ n ≤ 32 ⌝ }
+    ensures { λ r. ⌜ r ≡ count (has m) n ⌝ }
+{
+    let mut c = 0;
+    let mut i = 0;
+    while i < n {
+        if has_box(m, i) {
+            c += 1;
+            i += 1;
+        } else {
+            i += 1;
+        }
+    }
+    c
+}
+
+fn under_both(s: Sheet, b: usize) -> bool
+    requires { ⌜ b < 32 ⌝ }
+    ensures { λ r. ⌜ r ≡ twice s b ⌝ }
+{
+    if has_box(s.commits, b) {
+        return has_box(s.aborts, b);
+    }
+    false
+}
+
+// Whether one of the first n boxes is under both answers.
+fn both(s: Sheet, n: usize) -> bool
+    requires { ⌜ n ≤ 32 ⌝ }
+    ensures { λ r. ⌜ r ≡ any (twice s) (numbers n) ⌝ }
+{
+    let mut b = 0;
+    while b < n {
+        if under_both(s, b) {
+            return true;
+        }
+        b += 1;
+    }
+    false
+}
+
+// Whether a box n or more is on a mask.
+fn mask_wide(m: u32, n: usize) -> bool
+    requires { ⌜ n < 32 ⌝ }
+    ensures { λ r. ⌜ r ≡ leb (2 ^ n) m ⌝ }
+{
+    (1 << n) <= m
+}
+
+// 16 if a lent sheet is damaged, else 0.
+fn sheet_damaged(s: Sheet, g: Group) -> u8
+    requires { ⌜ g .f ≤ 5 ⌝ }
+    ensures { λ r. ⌜ r ≡ sheetDamaged (g .f) s ⌝ }
+{
+    let n = g.n();
+    if s.kind == 0 {
+        return terms::TABLE;
+    }
+    if 2 < s.kind {
+        return terms::TABLE;
+    }
+    if mask_wide(s.commits, n) {
+        return terms::TABLE;
+    }
+    if mask_wide(s.aborts, n) {
+        return terms::TABLE;
+    }
+    if both(s, n) {
+        return terms::TABLE;
+    }
+    0
+}
+
+// 14, then 16.
+pub fn sheet_wrong(s: Sheet, f: u64) -> u8
+    ensures { λ r. ⌜ r ≡ sheetWrong f s ⌝ }
+{
+    let wrong = terms::group_wrong(f);
+    if wrong != 0 {
+        return wrong;
+    }
+    sheet_damaged(s, Group { f: f as u8 })
+}
+
+// 14, 16, then 5 and 8 of the answer.
+pub fn answer_wrong(s: Sheet, f: u64, number: u64, answer: u64) -> u8
+    ensures { λ r. ⌜ r ≡ answerWrong s f number answer ⌝ }
+{
+    let wrong = sheet_wrong(s, f);
+    if wrong != 0 {
+        return wrong;
+    }
+    let g = Group { f: f as u8 };
+    let n = g.n();
+    if n as u64 <= number {
+        return terms::RANGE;
+    }
+    if answer == 0 {
+        return terms::CODE;
+    }
+    if 2 < answer {
+        return terms::CODE;
+    }
+    0
+}
+
+fn on_sheet(s: Sheet, b: usize) -> bool
+    requires { ⌜ b < 32 ⌝ }
+    ensures { λ r. ⌜ r ≡ on s b ⌝ }
+{
+    if has_box(s.commits, b) {
+        return true;
+    }
+    has_box(s.aborts, b)
+}
+
+// The box joins under its answer, and nothing else changes.
+fn join(s: Sheet, b: usize, answer: u64) -> Sheet
+    requires { ⌜ (b < 32) × (on s b ≡ false) ⌝ }
+    ensures { λ r. ⌜ r ≡ joined s b answer ⌝ }
+{
+    if answer == 1 {
+        let commits = with_box(s.commits, b);
+        return Sheet {
+            kind: s.kind,
+            commits,
+            aborts: s.aborts,
+        };
+    }
+    let aborts = with_box(s.aborts, b);
+    Sheet {
+        kind: s.kind,
+        commits: s.commits,
+        aborts,
+    }
+}
+
+// Which of the kind's thresholds are reached.
+fn reached_of(s: Sheet, g: Group) -> Reply
+    requires { ⌜ g .f ≤ 5 ⌝ }
+    ensures { λ r. ⌜ r ≡ reached (g .f) s ⌝ }
+{
+    let n = g.n();
+    let commits = counted(s.commits, n);
+    let aborts = counted(s.aborts, n);
+    if s.kind == 1 {
+        return Reply::Votes(VotesReached {
+            commit_list: g.commit_list() <= commits,
+            abort_list: g.abort_list() <= aborts,
+            commit_proof: g.commit_proof() <= commits,
+            abort_proof: g.abort_proof() <= aborts,
+        });
+    }
+    Reply::Logs(LogsReached {
+        commit: g.log_proof() <= commits,
+        abort: g.log_proof() <= aborts,
+    })
+}
+
+// The sheet after an answer.
+pub fn added(s: Sheet, f: u64, number: u64, answer: u64) -> Sheet
+    ensures { λ r. ⌜ r ≡ sheetAfter s f number answer ⌝ }
+{
+    let wrong = answer_wrong(s, f, number, answer);
+    if wrong != 0 {
+        return s;
+    }
+    let b = number as usize;
+    if on_sheet(s, b) {
+        return s;
+    }
+    join(s, b, answer)
+}
+
+// The reply to an answer, of the sheet before it.
+pub fn reply_to(s: Sheet, f: u64, number: u64, answer: u64) -> Reply
+    ensures { λ r. ⌜ r ≡ replyTo s f number answer ⌝ }
+{
+    let wrong = answer_wrong(s, f, number, answer);
+    if wrong != 0 {
+        return Reply::Refused(Refusal::of(wrong));
+    }
+    let b = number as usize;
+    if on_sheet(s, b) {
+        return Reply::Repeat;
+    }
+    reached_of(join(s, b, answer), Group { f: f as u8 })
+}
+
+// A sheet takes one answer.
+pub fn take(s: &mut Sheet, f: u64, number: u64, answer: u64) -> Reply
+    ensures { λ r. ⌜ (r ≡ replyTo (now (s .entry)) f number answer) × (now (s .exit) ≡ sheetAfter (now (s .entry)) f number answer) ⌝ }
+{
+    let old = *s;
+    *s = added(old, f, number, answer);
+    reply_to(old, f, number, answer)
+}
+
+// The first n boxes on a mask, in rising order, each with this answer.
+fn list_of_mask(kind: u8, answer: u8, m: u32, n: usize) -> VoteList
+    requires { ⌜ n ≤ 26 ⌝ }
+    ensures { λ r. ⌜ r ≡ heldList (listOf kind answer m n) ⌝ }
+{
+    let z = Pair {
+        number: 0,
+        answer: 0,
+    };
+    let mut pairs = [z; 26];
+    let mut count = 0;
+    let mut b = 0;
+    while b < n {
+        if has_box(m, b) {
+            pairs[count] = Pair {
+                number: b as u8,
+                answer,
+            };
+            count += 1;
+            b += 1;
+        } else {
+            b += 1;
+        }
+    }
+    VoteList {
+        kind,
+        decision: answer,
+        count,
+        pairs,
+    }
+}
+
+// The list of the boxes under a decision; only they count for it, so a list of them is the shortest. A sheet that is refused gives a list of none.
+pub fn list_from(s: Sheet, f: u64, decision: Decision) -> VoteList
+    ensures { λ r. ⌜ r ≡ heldList (listFrom s f decision) ⌝ }
+{
+    let wrong = sheet_wrong(s, f);
+    if wrong != 0 {
+        return list_of_mask(0, 0, 0, 0);
+    }
+    let g = Group { f: f as u8 };
+    let n = g.n();
+    match decision {
+        Decision::Commit => list_of_mask(s.kind, 1, s.commits, n),
+        Decision::Abort => list_of_mask(s.kind, 2, s.aborts, n),
+    }
+}

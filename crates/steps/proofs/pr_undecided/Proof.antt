@@ -1,0 +1,58 @@
+use mathlib.Core.Path.{_∙_}
+use Rattle.steps.proofs.Voting.{pr-commit, pr-abort, pr-waiting, pr-unvoted}
+use borrow.Author.Needs.{needs}
+use Rattle.steps.proofs.pr_undecided.Statement.{statement}
+use Rattle.steps.proofs.pr_undecided.Tie as tie
+
+enum-told : tie.Need-enum-told
+enum-told c = search needs
+
+enum-told-2 : tie.Need-enum-told-2
+enum-told-2 c = search needs
+
+enum-told-3 : tie.Need-enum-told-3
+enum-told-3 c = search needs
+
+waiting-rule-requires : tie.Need-waiting-rule-requires
+waiting-rule-requires c κs = search needs
+
+cast-requires : tie.Need-cast-requires
+cast-requires c κs = search needs
+
+enum-told-4 : tie.Need-enum-told-4
+enum-told-4 c = search needs
+
+first-vote-requires : tie.Need-first-vote-requires
+first-vote-requires c κs = search needs
+
+cast-requires-2 : tie.Need-cast-requires-2
+cast-requires-2 c κs = search needs
+
+returns : tie.Need-returns
+returns c = pr-commit _ _ _ _ _ (c .enum-told .given .1)
+
+returns-2 : tie.Need-returns-2
+returns-2 c = pr-abort _ _ _ _ _ _ (c .enum-told2 .given .1)
+
+returns-3 : tie.Need-returns-3
+returns-3 c = c .cast .ensures ∙ pr-waiting _ _ _ _ _ _ (c .before .before .enum-told3 .given .1) (c .before .waiting-rule .ensures)
+
+returns-4 : tie.Need-returns-4
+returns-4 c = c .cast2 .ensures ∙ pr-unvoted _ _ _ _ _ _ (c .before .before .enum-told4 .given .1) (c .before .first-vote .ensures)
+
+pub pr-undecided-spec : {M : Type 1} → statement M
+pr-undecided-spec =
+    tie.close
+    (tie.spec
+    enum-told
+    enum-told-2
+    enum-told-3
+    waiting-rule-requires
+    cast-requires
+    enum-told-4
+    first-vote-requires
+    cast-requires-2
+    returns
+    returns-2
+    returns-3
+    returns-4)
