@@ -1,6 +1,6 @@
 // The contents of what was read or is to be written, judged: each check gives its refusal's number, or 0.
 ghost use mathlib.Core.Path.{_≡_};
-ghost use Prim.Native.Nat.{ℕ, _≤_};
+ghost use Prim.Native.Nat.{_≤_};
 ghost use Rattle.terms.specs.Choice.{tab, any, falls};
 ghost use Rattle.records.specs.Tx.{txIn, readsIn, writesIn, readKey, writeKey};
 ghost use Rattle.records.specs.Vl.{listIn, pairsIn};

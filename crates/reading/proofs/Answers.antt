@@ -4,10 +4,8 @@ use mathlib.Core.Path.{_≡_, refl, ap, sym, _∙_}
 use mathlib.Core.List.{List}
 use native.Mathlib.Omega.{arith}
 use Rattle.terms.specs.Checks.{orElse}
-use Rattle.terms.proofs.Checks.{pass, stop}
 use Rattle.records.specs.declared.Found.{Found}
 use Rattle.records.specs.declared.Found.the-variants.{RD}
-use Rattle.records.specs.declared.Reading.{Reading}
 use Rattle.records.specs.declared.Transaction.{Transaction}
 use Rattle.records.specs.declared.VoteList.{VoteList}
 use Rattle.records.specs.Tx.{Tx, txOf, txIn, heldTx, noTx}
@@ -15,10 +13,9 @@ use Rattle.records.specs.Vl.{Vl, vlOf, listIn, heldList, noList}
 use Rattle.records.specs.Contents.{txWrong, listWrong}
 use Rattle.records.specs.Messages.{refusedReading, readingBy}
 use Rattle.records.proofs.Held.{tx-in, list-in}
-use Rattle.answer.specs.declared.TxAnswer.{TxAnswer}
 use Rattle.answer.specs.declared.TxAnswer.the-variants.{Tx as readTx, Refused as refusedTx}
 use Rattle.answer.specs.declared.TxReading.{TxReading}
-use Rattle.answer.specs.Answer.{numberIn, judgedOf, judgedBy}
+use Rattle.answer.specs.Answer.{numberIn, judgedBy}
 use Rattle.reading.specs.Part.{partReading}
 
 -- a reading

@@ -1,9 +1,9 @@
 -- What a cut that passed tells: the bytes are there, and the counts fit.
-use Prim.Native.Nat.{ℕ, zero, suc, _+_, _*_, _<_, _≤_}
+use Prim.Native.Nat.{ℕ, _≤_}
 use native.Mathlib.Omega.{arith}
-use mathlib.Core.Path.{_≡_, refl, ap, sym, _∙_}
-use mathlib.Core.List.{List, [], _∷_}
-use lib.ListN.{length, take, drop, getD, length-take, length-drop}
+use mathlib.Core.Path.{_≡_, refl, sym, _∙_}
+use mathlib.Core.List.{List}
+use lib.ListN.{length, take, drop, length-take}
 use lib.Seq.{getD-take}
 use Rattle.terms.specs.Checks.{orElse, ifLess, short}
 use Rattle.terms.specs.Group.{groupWrong, largestF}

@@ -5,7 +5,7 @@ use mathlib.Core.Bool.{Bool, true, false}
 use mathlib.Core.Path.{_≡_, refl, ap, sym, _∙_}
 use mathlib.Core.List.{List, []}
 use lib.ListN.{length}
-use Rattle.terms.specs.Checks.{orElse, short, mark}
+use Rattle.terms.specs.Checks.{short, mark}
 use Rattle.terms.specs.Group.{groupWrong}
 use Rattle.terms.proofs.Checks.{pass, stop, halt, less-no, less-yes, first-none, rest-none}
 use Rattle.records.specs.declared.Found.{Found}

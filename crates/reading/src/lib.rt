@@ -1,11 +1,11 @@
 // Any bytes read as a record: cut in the paper's order, then the contents judged; the value, or the first refusal.
 ghost use mathlib.Core.Path.{_≡_};
-ghost use Prim.Native.Nat.{ℕ, _+_, _≤_};
+ghost use Prim.Native.Nat.{_+_, _≤_};
 ghost use lib.ListN.{length, drop};
 ghost use Rattle.terms.specs.Checks.{orElse};
 ghost use Rattle.terms.specs.Group.{groupWrong};
 ghost use Rattle.records.specs.Tx.{txOf, heldTx, noTx, TxThere};
-ghost use Rattle.records.specs.Vl.{heldList, noList, VlThere};
+ghost use Rattle.records.specs.Vl.{heldList, noList};
 ghost use Rattle.records.specs.Contents.{txWrong};
 ghost use Rattle.records.specs.Cutting.{markWrong, txCut, vlCut, behindWrong, behindMark, txPart, vlPart, prCut, prLen, listedCut, listedLen, rdCut};
 ghost use Rattle.records.specs.Messages.{refusedReading, readTX, readVL, readPR, readLG, readDC, readRD, isMark, readMessage, handedBack};

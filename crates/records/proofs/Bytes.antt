@@ -1,13 +1,11 @@
 -- A number's bytes, one by one, at any width.
-use Prim.Native.Nat.{ℕ, zero, suc, _+_, _*_, _-_, _<_, _≤_, _/_, _%_}
+use Prim.Native.Nat.{ℕ, zero, suc, _+_, _-_, _<_, _≤_}
 use native.Mathlib.Omega.{arith}
-use native.Mathlib.Numerals.{add-one}
-use native.Mathlib.Nat.{add-suc, add-zero}
+use native.Mathlib.Nat.{add-zero}
 use mathlib.Core.Path.{_≡_, refl, ap, sym, _∙_}
-use mathlib.Core.List.{List, [], _∷_, _++_, append-nil}
+use mathlib.Core.List.{List, [], _∷_, append-nil}
 use lib.ListN.{length, getD, take, drop, length-drop}
 use lib.Seq.{drop-cons, sets, sets-eq}
-use Rattle.records.specs.Numbers.{leVal, leBytes}
 
 -- the n elements from p + k on, by their places
 abbrev pub elems : List ℕ → ℕ → ℕ → ℕ → List ℕ

@@ -1,6 +1,6 @@
 -- A transaction and a list in their structs, and out of them again.
-use Prim.Native.Nat.{ℕ, _+_, _*_, _-_, _≤_}
-use mathlib.Core.Path.{_≡_, refl, ap, sym, _∙_}
+use Prim.Native.Nat.{ℕ, _+_, _*_, _-_}
+use mathlib.Core.Path.{_≡_}
 use mathlib.Core.List.{List, _++_}
 use lib.ListN.{length, getD, replicate}
 use Rattle.terms.specs.Choice.{tab}
@@ -11,8 +11,6 @@ use Rattle.records.specs.Vl.{Vl, vlOf, listIn, heldList, pairAt, vlCount
 use Rattle.records.specs.declared.Read.{Read}
 use Rattle.records.specs.declared.Write.{Write}
 use Rattle.records.specs.declared.Pair.{Pair}
-use Rattle.records.specs.declared.Transaction.{Transaction}
-use Rattle.records.specs.declared.VoteList.{VoteList}
 
 -- a struct that is filled from the bytes
 pub tx-held : (s : List ℕ) (st r w : ℕ) (a : List Read) (b : List Write)

@@ -1,6 +1,6 @@
 // The records' values: a transaction, a list of answers, and what reading and writing answer. Numbers are little-endian.
 ghost use mathlib.Core.Path.{_≡_};
-ghost use Prim.Native.Nat.{ℕ, _+_, _*_, _<_, _≤_};
+ghost use Prim.Native.Nat.{_+_, _*_, _<_, _≤_};
 ghost use lib.ListN.{length};
 ghost use Rattle.records.specs.Numbers.{numAt, leBytes};
 ghost use Rattle.records.specs.Tx.{readAt, writeAt, padded, zeroRead, zeroWrite, txLen, txOf, heldTx, TxThere};

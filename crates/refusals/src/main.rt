@@ -1,7 +1,6 @@
 // Each refusal of the readers at its smallest input, and two faults at once for each neighbouring pair of the order.
 use libc::STDOUT_FILENO;
 use records::Found;
-use records::Reading;
 
 fn print(n: u8) {
     io::print_decimal(STDOUT_FILENO, n as u64);

@@ -1,7 +1,6 @@
 -- Laws of a group and its refusal.
 use Prim.Native.Nat.{ℕ, zero, suc, _≤_}
-use mathlib.Core.Path.{_≡_, refl, ap, sym, _∙_}
-use Rattle.terms.specs.declared.GroupAnswer.{GroupAnswer}
+use mathlib.Core.Path.{_≡_, refl, sym, _∙_}
 use Rattle.terms.specs.declared.GroupAnswer.the-variants.{Of, Refused}
 use Rattle.terms.specs.Refusals.{refusalOf}
 use Rattle.terms.specs.Group.{groupWrong, groupBy, groupOf, largestF}

@@ -1,7 +1,7 @@
 // The records written: 14 where f matters, then 3, the contents, 17; then the record's bytes at the buffer's front and no others.
 ghost use mathlib.Core.Path.{_≡_};
 ghost use mathlib.Core.List.{[], _∷_, _++_};
-ghost use Prim.Native.Nat.{ℕ, _+_, _*_, _≤_};
+ghost use Prim.Native.Nat.{_+_, _*_, _≤_};
 ghost use lib.ListN.{length, getD};
 ghost use Rattle.terms.specs.Choice.{tab};
 ghost use Rattle.records.specs.Numbers.{leBytes};

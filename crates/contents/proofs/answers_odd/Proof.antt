@@ -8,8 +8,6 @@ use native.Mathlib.Omega.{arith}
 use borrow.Author.Needs.{needs}
 use Rattle.contents.proofs.answers_odd.Statement.{statement}
 use Rattle.contents.proofs.answers_odd.Tie as tie
-use Rattle.contents.proofs.answers_odd.Reads as reads
-use Rattle.contents.proofs.answers_odd.Lts as lts
 
 abbrev Inv-loop : tie.InvT-loop
 Inv-loop n a j₀ j = Rest answerOdd (pairsIn a) n (any answerOdd (tab (pairsIn a) 0 n)) j

@@ -7,9 +7,6 @@ use native.Mathlib.Omega.{arith}
 use borrow.Author.Needs.{needs}
 use Rattle.contents.proofs.boxes_fall.Statement.{statement}
 use Rattle.contents.proofs.boxes_fall.Tie as tie
-use Rattle.contents.proofs.boxes_fall.Reads as reads
-use Rattle.contents.proofs.boxes_fall.Lts as lts
-use Rattle.records.proofs.wide.Reads as wide-reads
 
 abbrev Inv-loop : tie.InvT-loop
 Inv-loop n a lo₀ j₀ lo j = Rise boxOf (pairsIn a) n (falls boxOf 0 (tab (pairsIn a) 0 n)) lo j

@@ -1,6 +1,5 @@
 use borrow.Author.Tests.{le-leb, lt-leb}
 use mathlib.Core.Bool.{Bool}
-use mathlib.Core.Path.{ap, _∙_, sym}
 use Prim.Native.Nat.{ℕ, _-_}
 use lib.Dec.{leb}
 use Rattle.records.specs.declared.Pair.{Pair}
@@ -11,10 +10,6 @@ use native.Mathlib.Omega.{arith}
 use borrow.Author.Needs.{needs}
 use Rattle.contents.proofs.boxes_wide.Statement.{statement}
 use Rattle.contents.proofs.boxes_wide.Tie as tie
-use Rattle.contents.proofs.boxes_wide.Reads as reads
-use Rattle.contents.proofs.boxes_wide.Lts as lts
-use Rattle.records.proofs.wide.Reads as wide-reads
-use Rattle.terms.proofs.Group.n.Reads as n-reads
 
 abbrev atLeast : ℕ → Pair → Bool
 atLeast n p = leb n (p .number)

@@ -5,8 +5,6 @@ use native.Mathlib.Omega.{arith}
 use borrow.Author.Needs.{needs}
 use Rattle.contents.proofs.counts_wrong.Statement.{statement}
 use Rattle.contents.proofs.counts_wrong.Tie as tie
-use Rattle.contents.proofs.counts_wrong.Reads as reads
-use Rattle.contents.proofs.counts_wrong.Lts as lts
 
 returns : tie.Need-returns
 unfolding countsWrong

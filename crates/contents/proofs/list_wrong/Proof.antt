@@ -6,12 +6,6 @@ use native.Mathlib.Omega.{arith}
 use borrow.Author.Needs.{needs}
 use Rattle.contents.proofs.list_wrong.Statement.{statement}
 use Rattle.contents.proofs.list_wrong.Tie as tie
-use Rattle.contents.proofs.list_wrong.Reads as reads
-use Rattle.contents.proofs.list_wrong.Lts as lts
-use Rattle.contents.proofs.answers_odd.Reads as answers-odd-reads
-use Rattle.contents.proofs.boxes_fall.Reads as boxes-fall-reads
-use Rattle.contents.proofs.boxes_wide.Reads as boxes-wide-reads
-use Rattle.contents.proofs.code_wrong.Reads as code-wrong-reads
 
 code-wrong-requires : tie.Need-code-wrong-requires
 code-wrong-requires c κs = search needs

@@ -5,9 +5,6 @@ use native.Mathlib.Omega.{arith}
 use borrow.Author.Needs.{needs}
 use Rattle.contents.proofs.log_list_wrong.Statement.{statement}
 use Rattle.contents.proofs.log_list_wrong.Tie as tie
-use Rattle.contents.proofs.log_list_wrong.Reads as reads
-use Rattle.contents.proofs.log_list_wrong.Lts as lts
-use Rattle.contents.proofs.list_wrong.Reads as list-wrong-reads
 
 returns : tie.Need-returns
 unfolding logListWrong listIn

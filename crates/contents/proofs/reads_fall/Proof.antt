@@ -1,13 +1,11 @@
 use Rattle.terms.proofs.Scans.{Rise, rise-begin, rise-falls, rise-go, rise-end}
 use Rattle.records.specs.Tx.{readKey, readsIn}
 use Rattle.terms.specs.Choice.{tab, falls}
-use Prim.Native.Nat.{_+_, _*_, _-_, _≤_}
+use Prim.Native.Nat.{_-_}
 use native.Mathlib.Omega.{arith}
 use borrow.Author.Needs.{needs}
 use Rattle.contents.proofs.reads_fall.Statement.{statement}
 use Rattle.contents.proofs.reads_fall.Tie as tie
-use Rattle.contents.proofs.reads_fall.Reads as reads
-use Rattle.contents.proofs.reads_fall.Lts as lts
 
 abbrev Inv-loop : tie.InvT-loop
 Inv-loop n a lo₀ j₀ lo j = Rise readKey (readsIn a) n (falls readKey 0 (tab (readsIn a) 0 n)) lo j

@@ -3,13 +3,11 @@ use Rattle.records.specs.Contents.{tooNew}
 use Rattle.records.specs.Tx.{readsIn}
 use Rattle.terms.proofs.Scans.{Rest, begin, found, go, end}
 use Rattle.terms.specs.Choice.{any, tab}
-use Prim.Native.Nat.{_+_, _*_, _-_, _≤_}
+use Prim.Native.Nat.{_-_}
 use native.Mathlib.Omega.{arith}
 use borrow.Author.Needs.{needs}
 use Rattle.contents.proofs.reads_too_new.Statement.{statement}
 use Rattle.contents.proofs.reads_too_new.Tie as tie
-use Rattle.contents.proofs.reads_too_new.Reads as reads
-use Rattle.contents.proofs.reads_too_new.Lts as lts
 
 abbrev Inv-loop : tie.InvT-loop
 Inv-loop n s a j₀ j = Rest (tooNew (s .0)) (readsIn a) n (any (tooNew (s .0)) (tab (readsIn a) 0 n)) j

@@ -3,13 +3,11 @@ use Rattle.records.specs.Contents.{readWide}
 use Rattle.records.specs.Tx.{readsIn}
 use Rattle.terms.proofs.Scans.{Rest, begin, found, go, end}
 use Rattle.terms.specs.Choice.{any, tab}
-use Prim.Native.Nat.{_+_, _*_, _-_, _≤_}
+use Prim.Native.Nat.{_-_}
 use native.Mathlib.Omega.{arith}
 use borrow.Author.Needs.{needs}
 use Rattle.contents.proofs.reads_wide.Statement.{statement}
 use Rattle.contents.proofs.reads_wide.Tie as tie
-use Rattle.contents.proofs.reads_wide.Reads as reads
-use Rattle.contents.proofs.reads_wide.Lts as lts
 
 abbrev Inv-loop : tie.InvT-loop
 Inv-loop n a j₀ j = Rest readWide (readsIn a) n (any readWide (tab (readsIn a) 0 n)) j

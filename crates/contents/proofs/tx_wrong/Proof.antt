@@ -1,18 +1,11 @@
 use Rattle.records.specs.Contents.{txWrong}
 use Rattle.records.specs.Tx.{txIn}
-use mathlib.Core.Path.{sym, _∙_, ap}
+use mathlib.Core.Path.{sym, _∙_}
 use Rattle.terms.proofs.Checks.{pass, halt, same-no, same-yes, when-no, when-yes}
 use native.Mathlib.Omega.{arith}
 use borrow.Author.Needs.{needs}
 use Rattle.contents.proofs.tx_wrong.Statement.{statement}
 use Rattle.contents.proofs.tx_wrong.Tie as tie
-use Rattle.contents.proofs.tx_wrong.Reads as reads
-use Rattle.contents.proofs.tx_wrong.Lts as lts
-use Rattle.contents.proofs.reads_fall.Reads as reads-fall-reads
-use Rattle.contents.proofs.reads_too_new.Reads as reads-too-new-reads
-use Rattle.contents.proofs.reads_wide.Reads as reads-wide-reads
-use Rattle.contents.proofs.writes_fall.Reads as writes-fall-reads
-use Rattle.contents.proofs.writes_wide.Reads as writes-wide-reads
 
 returns : tie.Need-returns
 unfolding txWrong txIn

@@ -1,13 +1,11 @@
 use Rattle.terms.proofs.Scans.{Rise, rise-begin, rise-falls, rise-go, rise-end}
 use Rattle.records.specs.Tx.{writeKey, writesIn}
 use Rattle.terms.specs.Choice.{tab, falls}
-use Prim.Native.Nat.{_+_, _*_, _-_, _≤_}
+use Prim.Native.Nat.{_-_}
 use native.Mathlib.Omega.{arith}
 use borrow.Author.Needs.{needs}
 use Rattle.contents.proofs.writes_fall.Statement.{statement}
 use Rattle.contents.proofs.writes_fall.Tie as tie
-use Rattle.contents.proofs.writes_fall.Reads as reads
-use Rattle.contents.proofs.writes_fall.Lts as lts
 
 abbrev Inv-loop : tie.InvT-loop
 Inv-loop n a lo₀ j₀ lo j = Rise writeKey (writesIn a) n (falls writeKey 0 (tab (writesIn a) 0 n)) lo j

@@ -3,13 +3,11 @@ use Rattle.records.specs.Contents.{writeWide}
 use Rattle.records.specs.Tx.{writesIn}
 use Rattle.terms.proofs.Scans.{Rest, begin, found, go, end}
 use Rattle.terms.specs.Choice.{any, tab}
-use Prim.Native.Nat.{_+_, _*_, _-_, _≤_}
+use Prim.Native.Nat.{_-_}
 use native.Mathlib.Omega.{arith}
 use borrow.Author.Needs.{needs}
 use Rattle.contents.proofs.writes_wide.Statement.{statement}
 use Rattle.contents.proofs.writes_wide.Tie as tie
-use Rattle.contents.proofs.writes_wide.Reads as reads
-use Rattle.contents.proofs.writes_wide.Lts as lts
 
 abbrev Inv-loop : tie.InvT-loop
 Inv-loop n a j₀ j = Rest writeWide (writesIn a) n (any writeWide (tab (writesIn a) 0 n)) j

@@ -5,8 +5,6 @@ use native.Mathlib.Omega.{arith}
 use borrow.Author.Needs.{needs}
 use Rattle.reading.proofs.behind.Statement.{statement}
 use Rattle.reading.proofs.behind.Tie as tie
-use Rattle.reading.proofs.behind.Reads as reads
-use Rattle.reading.proofs.behind.Lts as lts
 
 sub-result : tie.Need-sub-result
 sub-result c = search needs

@@ -1,12 +1,8 @@
 use mathlib.Core.Path.{sym}
 use Rattle.records.specs.Cutting.{behindWrong}
 use Rattle.terms.proofs.Checks.{less-no, less-yes}
-use native.Mathlib.Omega.{arith}
-use borrow.Author.Needs.{needs}
 use Rattle.reading.proofs.behind_wrong.Statement.{statement}
 use Rattle.reading.proofs.behind_wrong.Tie as tie
-use Rattle.reading.proofs.behind_wrong.Reads as reads
-use Rattle.reading.proofs.behind_wrong.Lts as lts
 
 returns : tie.Need-returns
 unfolding behindWrong

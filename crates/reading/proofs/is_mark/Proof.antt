@@ -1,11 +1,8 @@
 use borrow.Author.Tests.{eq-eqb, ne-eqb}
 use Rattle.records.specs.Messages.{isMark}
-use native.Mathlib.Omega.{arith}
 use borrow.Author.Needs.{needs}
 use Rattle.reading.proofs.is_mark.Statement.{statement}
 use Rattle.reading.proofs.is_mark.Tie as tie
-use Rattle.reading.proofs.is_mark.Reads as reads
-use Rattle.reading.proofs.is_mark.Lts as lts
 
 shared-slice-read-if1 : tie.Need-shared-slice-read-if1
 shared-slice-read-if1 c = search needs

@@ -1,21 +1,11 @@
 use mathlib.Core.Path.{sym, _∙_, ap}
-use lib.ListN.{drop}
-use Prim.Native.Nat.{ℕ}
-use Rattle.records.specs.Tx.{txLen}
-use Rattle.records.specs.Cutting.{listedCut, txCut, vlCut, vlPart}
+use Rattle.records.specs.Cutting.{listedCut, txCut, vlCut}
 use Rattle.terms.proofs.Checks.{pass, stop}
 use Rattle.reading.proofs.Cuts.{mark-long, tx-long, tx-there, rest-is}
 use native.Mathlib.Omega.{arith}
 use borrow.Author.Needs.{needs}
 use Rattle.reading.proofs.listed_cut.Statement.{statement}
 use Rattle.reading.proofs.listed_cut.Tie as tie
-use Rattle.reading.proofs.listed_cut.Reads as reads
-use Rattle.reading.proofs.listed_cut.Lts as lts
-use Rattle.reading.proofs.behind.Reads as behind-reads
-use Rattle.reading.proofs.mark_wrong.Reads as mark-wrong-reads
-use Rattle.reading.proofs.tx_cut.Reads as tx-cut-reads
-use Rattle.reading.proofs.vl_cut.Reads as vl-cut-reads
-use Rattle.records.proofs.tx_len.Reads as tx-len-reads
 
 mark-wrong-requires : tie.Need-mark-wrong-requires
 mark-wrong-requires c κs = search needs

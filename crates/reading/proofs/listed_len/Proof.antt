@@ -1,17 +1,10 @@
 use Rattle.reading.proofs.Cuts.{long, vl-long, there, vl-there}
 use mathlib.Core.Path.{refl}
 use Rattle.records.specs.Cutting.{listedLen}
-use Rattle.reading.proofs.Cuts.{long, vl-long}
 use native.Mathlib.Omega.{arith}
 use borrow.Author.Needs.{needs}
 use Rattle.reading.proofs.listed_len.Statement.{statement}
 use Rattle.reading.proofs.listed_len.Tie as tie
-use Rattle.reading.proofs.listed_len.Reads as reads
-use Rattle.reading.proofs.listed_len.Lts as lts
-use Rattle.reading.proofs.behind.Reads as behind-reads
-use Rattle.reading.proofs.vl_part_of.Reads as vl-part-of-reads
-use Rattle.records.proofs.tx_len.Reads as tx-len-reads
-use Rattle.records.proofs.vl_len.Reads as vl-len-reads
 
 behind-requires : tie.Need-behind-requires
 behind-requires c κs = search needs

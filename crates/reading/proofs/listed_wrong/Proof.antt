@@ -1,16 +1,9 @@
 use mathlib.Core.Path.{sym, _∙_}
 use Rattle.terms.proofs.Checks.{pass, stop}
 use Rattle.reading.proofs.Cuts.{listed-cuts, behind-at}
-use native.Mathlib.Omega.{arith}
 use borrow.Author.Needs.{needs}
 use Rattle.reading.proofs.listed_wrong.Statement.{statement}
 use Rattle.reading.proofs.listed_wrong.Tie as tie
-use Rattle.reading.proofs.listed_wrong.Reads as reads
-use Rattle.reading.proofs.listed_wrong.Lts as lts
-use Rattle.reading.proofs.behind_wrong.Reads as behind-wrong-reads
-use Rattle.reading.proofs.listed_cut.Reads as listed-cut-reads
-use Rattle.reading.proofs.listed_len.Reads as listed-len-reads
-use Rattle.terms.proofs.group_wrong.Reads as group-wrong-reads
 
 group-wrong-requires : tie.Need-group-wrong-requires
 group-wrong-requires c κs = search needs

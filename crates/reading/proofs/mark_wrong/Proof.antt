@@ -5,8 +5,6 @@ use native.Mathlib.Omega.{arith}
 use borrow.Author.Needs.{needs}
 use Rattle.reading.proofs.mark_wrong.Statement.{statement}
 use Rattle.reading.proofs.mark_wrong.Tie as tie
-use Rattle.reading.proofs.mark_wrong.Reads as reads
-use Rattle.reading.proofs.mark_wrong.Lts as lts
 
 returns : tie.Need-returns
 unfolding markWrong

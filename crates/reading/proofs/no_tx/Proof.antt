@@ -1,11 +1,7 @@
 use Rattle.records.specs.Tx.{heldTx, noTx}
 use mathlib.Core.Path.{refl}
-use native.Mathlib.Omega.{arith}
-use borrow.Author.Needs.{needs}
 use Rattle.reading.proofs.no_tx.Statement.{statement}
 use Rattle.reading.proofs.no_tx.Tie as tie
-use Rattle.reading.proofs.no_tx.Reads as reads
-use Rattle.reading.proofs.no_tx.Lts as lts
 
 returns : tie.Need-returns
 unfolding heldTx noTx

@@ -2,15 +2,9 @@ use mathlib.Core.Path.{sym, _∙_, ap}
 use Rattle.records.specs.Cutting.{prCut, txCut}
 use Rattle.terms.proofs.Checks.{pass, stop}
 use Rattle.reading.proofs.Cuts.{mark-long}
-use native.Mathlib.Omega.{arith}
 use borrow.Author.Needs.{needs}
 use Rattle.reading.proofs.pr_cut.Statement.{statement}
 use Rattle.reading.proofs.pr_cut.Tie as tie
-use Rattle.reading.proofs.pr_cut.Reads as reads
-use Rattle.reading.proofs.pr_cut.Lts as lts
-use Rattle.reading.proofs.behind.Reads as behind-reads
-use Rattle.reading.proofs.mark_wrong.Reads as mark-wrong-reads
-use Rattle.reading.proofs.tx_cut.Reads as tx-cut-reads
 
 mark-wrong-requires : tie.Need-mark-wrong-requires
 mark-wrong-requires c κs = search needs

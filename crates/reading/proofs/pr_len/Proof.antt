@@ -1,14 +1,9 @@
-use mathlib.Core.Path.{_∙_, ap, refl}
+use mathlib.Core.Path.{refl}
 use Rattle.records.specs.Cutting.{prLen}
 use Rattle.reading.proofs.Cuts.{pr-cuts, long}
-use native.Mathlib.Omega.{arith}
 use borrow.Author.Needs.{needs}
 use Rattle.reading.proofs.pr_len.Statement.{statement}
 use Rattle.reading.proofs.pr_len.Tie as tie
-use Rattle.reading.proofs.pr_len.Reads as reads
-use Rattle.reading.proofs.pr_len.Lts as lts
-use Rattle.reading.proofs.behind.Reads as behind-reads
-use Rattle.records.proofs.tx_len.Reads as tx-len-reads
 
 behind-requires : tie.Need-behind-requires
 behind-requires c κs = pr-cuts _ _ refl (c .before .pre) .0

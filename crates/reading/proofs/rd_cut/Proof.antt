@@ -1,13 +1,9 @@
 use mathlib.Core.Path.{sym, _∙_}
 use Rattle.records.specs.Cutting.{rdCut}
 use Rattle.terms.proofs.Checks.{pass, stop, less-no, less-yes}
-use native.Mathlib.Omega.{arith}
 use borrow.Author.Needs.{needs}
 use Rattle.reading.proofs.rd_cut.Statement.{statement}
 use Rattle.reading.proofs.rd_cut.Tie as tie
-use Rattle.reading.proofs.rd_cut.Reads as reads
-use Rattle.reading.proofs.rd_cut.Lts as lts
-use Rattle.reading.proofs.mark_wrong.Reads as mark-wrong-reads
 
 mark-wrong-requires : tie.Need-mark-wrong-requires
 mark-wrong-requires c κs = search needs

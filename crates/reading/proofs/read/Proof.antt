@@ -1,18 +1,8 @@
 use mathlib.Core.Path.{sym, _∙_}
 use Rattle.reading.proofs.Marks.{odd-group, no-mark, is-pr, is-lg, is-dc, is-rd, is-none}
-use native.Mathlib.Omega.{arith}
 use borrow.Author.Needs.{needs}
 use Rattle.reading.proofs.read.Statement.{statement}
 use Rattle.reading.proofs.read.Tie as tie
-use Rattle.reading.proofs.read.Reads as reads
-use Rattle.reading.proofs.read.Lts as lts
-use Rattle.reading.proofs.is_mark.Reads as is-mark-reads
-use Rattle.reading.proofs.read_dc.Reads as read-dc-reads
-use Rattle.reading.proofs.read_lg.Reads as read-lg-reads
-use Rattle.reading.proofs.read_pr.Reads as read-pr-reads
-use Rattle.reading.proofs.read_rd.Reads as read-rd-reads
-use Rattle.reading.proofs.refused.Reads as refused-reads
-use Rattle.terms.proofs.group_wrong.Reads as group-wrong-reads
 
 group-wrong-requires : tie.Need-group-wrong-requires
 group-wrong-requires c κs = search needs

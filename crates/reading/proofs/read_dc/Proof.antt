@@ -8,15 +8,6 @@ use native.Mathlib.Omega.{arith}
 use borrow.Author.Needs.{needs}
 use Rattle.reading.proofs.read_dc.Statement.{statement}
 use Rattle.reading.proofs.read_dc.Tie as tie
-use Rattle.reading.proofs.read_dc.Reads as reads
-use Rattle.reading.proofs.read_dc.Lts as lts
-use Rattle.answer.proofs.judged.Reads as judged-reads
-use Rattle.reading.proofs.listed_wrong.Reads as listed-wrong-reads
-use Rattle.reading.proofs.read_part.Reads as read-part-reads
-use Rattle.reading.proofs.refused.Reads as refused-reads
-use Rattle.reading.proofs.tx_part_of.Reads as tx-part-of-reads
-use Rattle.reading.proofs.vl_part_of.Reads as vl-part-of-reads
-use Rattle.records.proofs.list_of.Reads as list-of-reads
 
 listed-wrong-requires : tie.Need-listed-wrong-requires
 listed-wrong-requires c κs = search needs

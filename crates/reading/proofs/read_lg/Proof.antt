@@ -1,8 +1,5 @@
-use mathlib.Core.Path.{sym, _∙_, ap, refl}
-use mathlib.Core.List.{List}
-use Prim.Native.Nat.{ℕ}
+use mathlib.Core.Path.{sym, _∙_, refl}
 use Rattle.records.specs.Contents.{logListWrong}
-use Rattle.records.specs.Vl.{vlOf, heldList}
 use Rattle.records.specs.Messages.{readLG, lgRefusal}
 use Rattle.terms.proofs.Checks.{pass, stop}
 use Rattle.reading.proofs.Cuts.{early-cuts, early-small, vl-there}
@@ -11,16 +8,6 @@ use native.Mathlib.Omega.{arith}
 use borrow.Author.Needs.{needs}
 use Rattle.reading.proofs.read_lg.Statement.{statement}
 use Rattle.reading.proofs.read_lg.Tie as tie
-use Rattle.reading.proofs.read_lg.Reads as reads
-use Rattle.reading.proofs.read_lg.Lts as lts
-use Rattle.contents.proofs.log_list_wrong.Reads as log-list-wrong-reads
-use Rattle.reading.proofs.listed_wrong.Reads as listed-wrong-reads
-use Rattle.answer.proofs.number_in.Reads as number-in-reads
-use Rattle.reading.proofs.read_part.Reads as read-part-reads
-use Rattle.reading.proofs.refused.Reads as refused-reads
-use Rattle.reading.proofs.tx_part_of.Reads as tx-part-of-reads
-use Rattle.reading.proofs.vl_part_of.Reads as vl-part-of-reads
-use Rattle.records.proofs.list_of.Reads as list-of-reads
 
 listed-wrong-requires : tie.Need-listed-wrong-requires
 listed-wrong-requires c κs = search needs

@@ -1,13 +1,7 @@
 use Rattle.reading.proofs.Answers.{part-refused, part-read, wrong-tx}
-use native.Mathlib.Omega.{arith}
 use borrow.Author.Needs.{needs}
 use Rattle.reading.proofs.read_part.Statement.{statement}
 use Rattle.reading.proofs.read_part.Tie as tie
-use Rattle.reading.proofs.read_part.Reads as reads
-use Rattle.reading.proofs.read_part.Lts as lts
-use Rattle.contents.proofs.tx_wrong.Reads as tx-wrong-reads
-use Rattle.reading.proofs.no_tx.Reads as no-tx-reads
-use Rattle.records.proofs.transaction_of.Reads as transaction-of-reads
 
 transaction-of-requires : tie.Need-transaction-of-requires
 transaction-of-requires c κs = search needs

@@ -3,20 +3,9 @@ use Rattle.records.specs.Messages.{readPR, prRefusal}
 use Rattle.terms.proofs.Checks.{pass, stop}
 use Rattle.reading.proofs.Cuts.{pr-cuts, behind-at}
 use Rattle.reading.proofs.Answers.{refused-by, read-by, passed-on, taken-tx, part-at}
-use native.Mathlib.Omega.{arith}
 use borrow.Author.Needs.{needs}
 use Rattle.reading.proofs.read_pr.Statement.{statement}
 use Rattle.reading.proofs.read_pr.Tie as tie
-use Rattle.reading.proofs.read_pr.Reads as reads
-use Rattle.reading.proofs.read_pr.Lts as lts
-use Rattle.reading.proofs.behind_wrong.Reads as behind-wrong-reads
-use Rattle.reading.proofs.no_list.Reads as no-list-reads
-use Rattle.answer.proofs.number_in.Reads as number-in-reads
-use Rattle.reading.proofs.pr_cut.Reads as pr-cut-reads
-use Rattle.reading.proofs.pr_len.Reads as pr-len-reads
-use Rattle.reading.proofs.read_part.Reads as read-part-reads
-use Rattle.reading.proofs.refused.Reads as refused-reads
-use Rattle.reading.proofs.tx_part_of.Reads as tx-part-of-reads
 
 pr-cut-requires : tie.Need-pr-cut-requires
 pr-cut-requires c κs = search needs

@@ -1,22 +1,12 @@
-use mathlib.Core.Path.{sym, _∙_, refl}
+use mathlib.Core.Path.{sym, _∙_}
 use Rattle.records.specs.Messages.{readRD, rdRefusal}
 use Rattle.terms.proofs.Checks.{pass, stop}
 use Rattle.reading.proofs.Cuts.{rd-long, rd-same}
-use Rattle.reading.proofs.Answers.{refused-by, read-by, rd-read}
+use Rattle.reading.proofs.Answers.{refused-by, rd-read}
 use native.Mathlib.Omega.{arith}
 use borrow.Author.Needs.{needs}
 use Rattle.reading.proofs.read_rd.Statement.{statement}
 use Rattle.reading.proofs.read_rd.Tie as tie
-use Rattle.reading.proofs.read_rd.Reads as reads
-use Rattle.reading.proofs.read_rd.Lts as lts
-use Rattle.contents.proofs.rd_wrong.Reads as rd-wrong-reads
-use Rattle.reading.proofs.behind_wrong.Reads as behind-wrong-reads
-use Rattle.reading.proofs.no_list.Reads as no-list-reads
-use Rattle.reading.proofs.no_tx.Reads as no-tx-reads
-use Rattle.reading.proofs.rd_cut.Reads as rd-cut-reads
-use Rattle.reading.proofs.refused.Reads as refused-reads
-use Rattle.records.proofs.u16_at.Reads as u16-at-reads
-use Rattle.records.proofs.u64_at.Reads as u64-at-reads
 
 rd-cut-requires : tie.Need-rd-cut-requires
 rd-cut-requires c κs = search needs

@@ -3,19 +3,9 @@ use Rattle.records.specs.Messages.{readTX, txRefusal}
 use Rattle.terms.proofs.Checks.{pass, stop}
 use Rattle.reading.proofs.Cuts.{tx-long, tx-there, behind-at}
 use Rattle.reading.proofs.Answers.{refused-by, read-by, passed-on, taken-tx}
-use native.Mathlib.Omega.{arith}
 use borrow.Author.Needs.{needs}
 use Rattle.reading.proofs.read_tx.Statement.{statement}
 use Rattle.reading.proofs.read_tx.Tie as tie
-use Rattle.reading.proofs.read_tx.Reads as reads
-use Rattle.reading.proofs.read_tx.Lts as lts
-use Rattle.reading.proofs.behind_wrong.Reads as behind-wrong-reads
-use Rattle.reading.proofs.no_list.Reads as no-list-reads
-use Rattle.answer.proofs.number_in.Reads as number-in-reads
-use Rattle.reading.proofs.read_part.Reads as read-part-reads
-use Rattle.reading.proofs.refused.Reads as refused-reads
-use Rattle.reading.proofs.tx_cut.Reads as tx-cut-reads
-use Rattle.records.proofs.tx_len.Reads as tx-len-reads
 
 tx-cut-requires : tie.Need-tx-cut-requires
 tx-cut-requires c κs = search needs

@@ -1,4 +1,4 @@
-use mathlib.Core.Path.{sym, _∙_, refl}
+use mathlib.Core.Path.{sym, _∙_}
 use Rattle.records.specs.Contents.{listWrong}
 use Rattle.records.specs.Messages.{readVL, vlRefusal}
 use Rattle.terms.proofs.Checks.{pass, stop}
@@ -9,16 +9,6 @@ use native.Mathlib.Omega.{arith}
 use borrow.Author.Needs.{needs}
 use Rattle.reading.proofs.read_vl.Statement.{statement}
 use Rattle.reading.proofs.read_vl.Tie as tie
-use Rattle.reading.proofs.read_vl.Reads as reads
-use Rattle.reading.proofs.read_vl.Lts as lts
-use Rattle.contents.proofs.list_wrong.Reads as list-wrong-reads
-use Rattle.reading.proofs.behind_wrong.Reads as behind-wrong-reads
-use Rattle.reading.proofs.no_tx.Reads as no-tx-reads
-use Rattle.reading.proofs.refused.Reads as refused-reads
-use Rattle.reading.proofs.vl_cut.Reads as vl-cut-reads
-use Rattle.records.proofs.list_of.Reads as list-of-reads
-use Rattle.records.proofs.vl_len.Reads as vl-len-reads
-use Rattle.terms.proofs.group_wrong.Reads as group-wrong-reads
 
 group-wrong-requires : tie.Need-group-wrong-requires
 group-wrong-requires c κs = search needs

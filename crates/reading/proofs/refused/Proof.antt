@@ -1,13 +1,7 @@
 use Rattle.records.specs.Messages.{refusedReading}
-use native.Mathlib.Omega.{arith}
 use borrow.Author.Needs.{needs}
 use Rattle.reading.proofs.refused.Statement.{statement}
 use Rattle.reading.proofs.refused.Tie as tie
-use Rattle.reading.proofs.refused.Reads as reads
-use Rattle.reading.proofs.refused.Lts as lts
-use Rattle.reading.proofs.no_list.Reads as no-list-reads
-use Rattle.reading.proofs.no_tx.Reads as no-tx-reads
-use Rattle.terms.proofs.Refusal.of.Reads as of-reads
 
 no-tx-requires : tie.Need-no-tx-requires
 no-tx-requires c κs = search needs

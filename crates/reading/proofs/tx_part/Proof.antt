@@ -1,16 +1,8 @@
-use mathlib.Core.Path.{sym, _∙_, ap}
-use Rattle.records.specs.declared.Reading.{Reading}
-use Rattle.reading.specs.Part.{hasTx}
+use mathlib.Core.Path.{_∙_}
 use Rattle.reading.proofs.Marks.{tx-cut, handed-part, handed-empty, found-has}
-use native.Mathlib.Omega.{arith}
 use borrow.Author.Needs.{needs}
 use Rattle.reading.proofs.tx_part.Statement.{statement}
 use Rattle.reading.proofs.tx_part.Tie as tie
-use Rattle.reading.proofs.tx_part.Reads as reads
-use Rattle.reading.proofs.tx_part.Lts as lts
-use Rattle.reading.proofs.has_tx.Reads as has-tx-reads
-use Rattle.reading.proofs.read.Reads as read-reads
-use Rattle.reading.proofs.tx_part_of.Reads as tx-part-of-reads
 
 read-requires : tie.Need-read-requires
 read-requires c κs = search needs

@@ -1,13 +1,8 @@
 use mathlib.Core.Path.{_∙_}
 use Rattle.reading.proofs.Cuts.{long, there, rest-is}
-use native.Mathlib.Omega.{arith}
 use borrow.Author.Needs.{needs}
 use Rattle.reading.proofs.vl_part_of.Statement.{statement}
 use Rattle.reading.proofs.vl_part_of.Tie as tie
-use Rattle.reading.proofs.vl_part_of.Reads as reads
-use Rattle.reading.proofs.vl_part_of.Lts as lts
-use Rattle.reading.proofs.behind.Reads as behind-reads
-use Rattle.records.proofs.tx_len.Reads as tx-len-reads
 
 behind-requires : tie.Need-behind-requires
 behind-requires c κs = search needs

@@ -4,10 +4,6 @@ use native.Mathlib.Omega.{arith}
 use borrow.Author.Needs.{needs}
 use Rattle.records.proofs.list_of.Statement.{statement}
 use Rattle.records.proofs.list_of.Tie as tie
-use Rattle.records.proofs.list_of.Reads as reads
-use Rattle.records.proofs.list_of.Lts as lts
-use Rattle.records.proofs.pairs_of.Reads as pairs-of-reads
-use Rattle.records.proofs.wide.Reads as wide-reads
 
 shared-slice-read-wide : tie.Need-shared-slice-read-wide
 shared-slice-read-wide c = search needs

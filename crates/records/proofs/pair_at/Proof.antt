@@ -1,11 +1,8 @@
 use Rattle.records.specs.Vl.{pairAt}
 use mathlib.Core.Path.{refl}
-use native.Mathlib.Omega.{arith}
 use borrow.Author.Needs.{needs}
 use Rattle.records.proofs.pair_at.Statement.{statement}
 use Rattle.records.proofs.pair_at.Tie as tie
-use Rattle.records.proofs.pair_at.Reads as reads
-use Rattle.records.proofs.pair_at.Lts as lts
 
 mul-number : tie.Need-mul-number
 mul-number c = search needs

@@ -6,9 +6,6 @@ use native.Mathlib.Omega.{arith}
 use borrow.Author.Needs.{needs}
 use Rattle.records.proofs.pairs_of.Statement.{statement}
 use Rattle.records.proofs.pairs_of.Tie as tie
-use Rattle.records.proofs.pairs_of.Reads as reads
-use Rattle.records.proofs.pairs_of.Lts as lts
-use Rattle.records.proofs.pair_at.Reads as pair-at-reads
 
 abbrev Inv-loop : tie.InvT-loop
 Inv-loop s n a₀ j₀ a j = Grown (pairAt s) zeroPair 26 a j × (j ≤ n)

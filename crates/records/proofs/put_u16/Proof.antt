@@ -1,11 +1,8 @@
 use Rattle.records.specs.Numbers.{leBytes}
 use Rattle.records.proofs.Bytes.{sets-all}
-use native.Mathlib.Omega.{arith}
 use borrow.Author.Needs.{needs}
 use Rattle.records.proofs.put_u16.Statement.{statement}
 use Rattle.records.proofs.put_u16.Tie as tie
-use Rattle.records.proofs.put_u16.Reads as reads
-use Rattle.records.proofs.put_u16.Lts as lts
 
 cast-s : tie.Need-cast-s
 cast-s c = search needs

@@ -5,8 +5,6 @@ use native.Mathlib.Omega.{arith}
 use borrow.Author.Needs.{needs}
 use Rattle.records.proofs.put_u64.Statement.{statement}
 use Rattle.records.proofs.put_u64.Tie as tie
-use Rattle.records.proofs.put_u64.Reads as reads
-use Rattle.records.proofs.put_u64.Lts as lts
 
 cast-s : tie.Need-cast-s
 cast-s c = search needs

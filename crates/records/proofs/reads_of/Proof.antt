@@ -6,9 +6,6 @@ use native.Mathlib.Omega.{arith}
 use borrow.Author.Needs.{needs}
 use Rattle.records.proofs.reads_of.Statement.{statement}
 use Rattle.records.proofs.reads_of.Tie as tie
-use Rattle.records.proofs.reads_of.Reads as reads
-use Rattle.records.proofs.reads_of.Lts as lts
-use Rattle.records.proofs.read_at.Reads as read-at-reads
 
 abbrev Inv-loop : tie.InvT-loop
 Inv-loop s p n a₀ j₀ a j = Grown (readAt s p) zeroRead 8 a j × (j ≤ n)

@@ -3,12 +3,6 @@ use native.Mathlib.Omega.{arith}
 use borrow.Author.Needs.{needs}
 use Rattle.records.proofs.transaction_of.Statement.{statement}
 use Rattle.records.proofs.transaction_of.Tie as tie
-use Rattle.records.proofs.transaction_of.Reads as reads
-use Rattle.records.proofs.transaction_of.Lts as lts
-use Rattle.records.proofs.reads_of.Reads as reads-of-reads
-use Rattle.records.proofs.u64_at.Reads as u64-at-reads
-use Rattle.records.proofs.wide.Reads as wide-reads
-use Rattle.records.proofs.writes_of.Reads as writes-of-reads
 
 shared-slice-read-wide : tie.Need-shared-slice-read-wide
 shared-slice-read-wide c = search needs

@@ -6,9 +6,6 @@ use native.Mathlib.Omega.{arith}
 use borrow.Author.Needs.{needs}
 use Rattle.records.proofs.writes_of.Statement.{statement}
 use Rattle.records.proofs.writes_of.Tie as tie
-use Rattle.records.proofs.writes_of.Reads as reads
-use Rattle.records.proofs.writes_of.Lts as lts
-use Rattle.records.proofs.write_at.Reads as write-at-reads
 
 abbrev Inv-loop : tie.InvT-loop
 Inv-loop s p n a₀ j₀ a j = Grown (writeAt s p) zeroWrite 8 a j × (j ≤ n)

@@ -2,11 +2,8 @@ use mathlib.Core.Path.{sym}
 use Rattle.terms.specs.Group.{groupWrong}
 use Rattle.terms.proofs.Checks.{pass, halt, less-no, less-yes}
 use native.Mathlib.Omega.{arith}
-use borrow.Author.Needs.{needs}
 use Rattle.terms.proofs.group_wrong.Statement.{statement}
 use Rattle.terms.proofs.group_wrong.Tie as tie
-use Rattle.terms.proofs.group_wrong.Reads as reads
-use Rattle.terms.proofs.group_wrong.Lts as lts
 
 returns : tie.Need-returns
 unfolding groupWrong

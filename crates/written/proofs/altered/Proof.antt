@@ -5,8 +5,6 @@ use native.Mathlib.Omega.{arith}
 use borrow.Author.Needs.{needs}
 use Rattle.written.proofs.altered.Statement.{statement}
 use Rattle.written.proofs.altered.Tie as tie
-use Rattle.written.proofs.altered.Reads as reads
-use Rattle.written.proofs.altered.Lts as lts
 
 abbrev Inv-loop : tie.InvT-loop
 Inv-loop out n₀ i₀ n i = (i ≤ length out) × (n ≤ i)

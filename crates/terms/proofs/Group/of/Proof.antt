@@ -5,10 +5,6 @@ use native.Mathlib.Omega.{arith}
 use borrow.Author.Needs.{needs}
 use Rattle.terms.proofs.Group.of.Statement.{statement}
 use Rattle.terms.proofs.Group.of.Tie as tie
-use Rattle.terms.proofs.Group.of.Reads as reads
-use Rattle.terms.proofs.Group.of.Lts as lts
-use Rattle.terms.proofs.Refusal.of.Reads as of-reads
-use Rattle.terms.proofs.group_wrong.Reads as group-wrong-reads
 
 group-wrong-requires : tie.Need-group-wrong-requires
 group-wrong-requires c κs = search needs
