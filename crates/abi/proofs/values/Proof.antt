@@ -1,0 +1,96 @@
+use native.Mathlib.Omega.{arith}
+use borrow.Author.Needs.{needs}
+use Rattle.abi.proofs.values.Statement.{statement}
+use Rattle.abi.proofs.values.Tie as tie
+use Rattle.abi.proofs.values.Reads as reads
+use Rattle.abi.proofs.values.Lts as lts
+use Rattle.abi.proofs.decision_number.Reads as decision-number-reads
+use Rattle.abi.proofs.wide.Reads as wide-reads
+use Rattle.rules.proofs.Vote.number.Reads as Vote-number-reads
+use Rattle.rules.proofs.Vote.reason.Reads as reason-reads
+use Rattle.terms.proofs.Refusal.number.Reads as Refusal-number-reads
+
+enum-known-a : tie.Need-enum-known-a
+enum-known-a c = search needs
+
+number-requires : tie.Need-number-requires
+number-requires c κs = search needs
+
+wide-requires : tie.Need-wide-requires
+wide-requires c κs = search needs
+
+reason-requires : tie.Need-reason-requires
+reason-requires c κs = search needs
+
+wide-requires-2 : tie.Need-wide-requires-2
+wide-requires-2 c κs = search needs
+
+enum-known-a-2 : tie.Need-enum-known-a-2
+enum-known-a-2 c = search needs
+
+decision-number-requires : tie.Need-decision-number-requires
+decision-number-requires c κs = search needs
+
+enum-known-a-3 : tie.Need-enum-known-a-3
+enum-known-a-3 c = search needs
+
+decision-number-requires-2 : tie.Need-decision-number-requires-2
+decision-number-requires-2 c κs = search needs
+
+enum-told : tie.Need-enum-told
+enum-told c = search needs
+
+enum-known-a-4 : tie.Need-enum-known-a-4
+enum-known-a-4 c = search needs
+
+enum-known-a-5 : tie.Need-enum-known-a-5
+enum-known-a-5 c = search needs
+
+number-requires-2 : tie.Need-number-requires-2
+number-requires-2 c κs = search needs
+
+wide-requires-3 : tie.Need-wide-requires-3
+wide-requires-3 c κs = search needs
+
+returns : tie.Need-returns
+returns c = rw (c .before .before .before .before .before .a .given .1, c .before .before .wide .ensures, c .before .before .before .number .ensures, c .wide2 .ensures, c .before .reason .ensures)
+
+returns-2 : tie.Need-returns-2
+returns-2 c = rw (c .before .before .a2 .given .1, c .decision-number .ensures)
+
+returns-3 : tie.Need-returns-3
+returns-3 c = rw (c .before .before .a3 .given .1, c .decision-number2 .ensures)
+
+returns-4 : tie.Need-returns-4
+returns-4 c = search needs
+
+returns-5 : tie.Need-returns-5
+returns-5 c = rw (c .before .a4 .given .1)
+
+returns-6 : tie.Need-returns-6
+returns-6 c = rw (c .before .before .before .a5 .given .1, c .wide3 .ensures, c .before .number2 .ensures)
+
+pub values-spec : {M : Type 1} → statement M
+values-spec =
+    tie.close
+    (tie.spec
+    enum-known-a
+    number-requires
+    wide-requires
+    reason-requires
+    wide-requires-2
+    enum-known-a-2
+    decision-number-requires
+    enum-known-a-3
+    decision-number-requires-2
+    enum-told
+    enum-known-a-4
+    enum-known-a-5
+    number-requires-2
+    wide-requires-3
+    returns
+    returns-2
+    returns-3
+    returns-4
+    returns-5
+    returns-6)

@@ -1,0 +1,123 @@
+//! The engine's C functions, and one call of them on copies between guards.
+
+use crate::model::{Answer, Decision, Reply, Settings, Sheet};
+
+#[allow(improper_ctypes)]
+extern "C" {
+    fn stobbarel_receive(table: *mut u8, table_len: usize, marks: *mut u64, f: u64, capacity: u64, clock: u64, delta: u64, message: *const u8, message_len: usize, out: *mut u64);
+    fn stobbarel_prepare(table: *mut u8, table_len: usize, marks: *const u64, f: u64, capacity: u64, clock: u64, delta: u64, message: *const u8, message_len: usize, out: *mut u64);
+    fn stobbarel_log(table: *mut u8, table_len: usize, f: u64, capacity: u64, clock: u64, delta: u64, message: *const u8, message_len: usize, out: *mut u64);
+    fn stobbarel_decide(table: *mut u8, table_len: usize, f: u64, capacity: u64, clock: u64, delta: u64, message: *const u8, message_len: usize, out: *mut u64);
+    fn stobbarel_reading(f: u64, message: *const u8, message_len: usize) -> u8;
+    fn stobbarel_part(f: u64, message: *const u8, message_len: usize) -> usize;
+    fn stobbarel_tally(kind: u8, commits: *mut u32, aborts: *mut u32, f: u64, number: u64, answer: u64, reply: *mut u8);
+    fn stobbarel_read(table: *const u8, table_len: usize, marks: *mut u64, f: u64, capacity: u64, clock: u64, delta: u64, message: *const u8, message_len: usize, out: *mut u64);
+}
+
+#[derive(Clone, Copy, Debug, PartialEq, Eq)]
+pub enum Entrance {
+    Receive,
+    Prepare,
+    Log,
+    Decide,
+    Read,
+}
+
+impl Entrance {
+    pub fn due(self) -> &'static [&'static [u8; 2]] {
+        match self {
+            Entrance::Receive => &[b"PR", b"LG", b"DC", b"RD"],
+            Entrance::Prepare => &[b"PR"],
+            Entrance::Log => &[b"LG"],
+            Entrance::Decide => &[b"DC"],
+            Entrance::Read => &[b"RD"],
+        }
+    }
+}
+
+/// The five numbers as an answer; none where they say no answer.
+pub fn answer_of(out: [u64; 5]) -> Option<Answer> {
+    let decision = |code| match code {
+        1 => Some(Decision::Commit),
+        2 => Some(Decision::Abort),
+        _ => None,
+    };
+    match out {
+        [1, 2, 0, 0, 0] => Some(Answer::Commit),
+        [1, 1, 0, 0, 0] => Some(Answer::Wait),
+        [1, 3, reason @ 1..=6, 0, 0] => Some(Answer::Abort(reason as u8)),
+        [2, code, 0, 0, 0] => decision(code).map(Answer::Decided),
+        [3, code, 0, 0, 0] => decision(code).map(Answer::Logged),
+        [4, 0, 0, 0, 0] => Some(Answer::Done),
+        [5, a, b, c, d] => Some(Answer::Found { committed: (a, b), undecided: (c, d) }),
+        [6, number @ 1..=17, 0, 0, 0] => Some(Answer::Refused(number as u8)),
+        _ => None,
+    }
+}
+
+const GUARD: usize = 64;
+
+/// One call. Table and marks become what the engine left; a byte written outside them is an error.
+pub fn call(entrance: Entrance, table: &mut Vec<u8>, marks: &mut Vec<u64>, s: &Settings, message: &[u8]) -> Result<[u64; 5], String> {
+    assert_eq!(marks.len(), 512);
+    let mut room = vec![0xa5u8; table.len() + 2 * GUARD];
+    room[GUARD..GUARD + table.len()].copy_from_slice(table);
+    let mut places = vec![0xa5a5u64; 512 + 16];
+    places[8..520].copy_from_slice(marks);
+    let sent = message.to_vec();
+    let mut out = [0x5a5au64; 9];
+    let (t, n) = (room[GUARD..].as_mut_ptr(), table.len());
+    let (k, o) = (places[8..].as_mut_ptr(), out[2..].as_mut_ptr());
+    let (m, l) = (sent.as_ptr(), sent.len());
+    // Each pointer is to as many numbers as the function takes, and they do not overlap.
+    unsafe {
+        match entrance {
+            Entrance::Receive => stobbarel_receive(t, n, k, s.f, s.capacity, s.clock, s.delta, m, l, o),
+            Entrance::Prepare => stobbarel_prepare(t, n, k, s.f, s.capacity, s.clock, s.delta, m, l, o),
+            Entrance::Log => stobbarel_log(t, n, s.f, s.capacity, s.clock, s.delta, m, l, o),
+            Entrance::Decide => stobbarel_decide(t, n, s.f, s.capacity, s.clock, s.delta, m, l, o),
+            Entrance::Read => stobbarel_read(t, n, k, s.f, s.capacity, s.clock, s.delta, m, l, o),
+        }
+    }
+    if room[..GUARD].iter().chain(&room[GUARD + table.len()..]).any(|byte| *byte != 0xa5) {
+        return Err("bytes outside the table were written".into());
+    }
+    if places[..8].iter().chain(&places[520..]).any(|word| *word != 0xa5a5) {
+        return Err("words outside the read marks were written".into());
+    }
+    if out[..2].iter().chain(&out[7..]).any(|word| *word != 0x5a5a) {
+        return Err("words outside the answer were written".into());
+    }
+    if sent != message {
+        return Err("the message was written".into());
+    }
+    table.copy_from_slice(&room[GUARD..GUARD + n]);
+    marks.copy_from_slice(&places[8..520]);
+    Ok([out[2], out[3], out[4], out[5], out[6]])
+}
+
+/// Reading alone: the length of the transaction's bytes, or the refusal.
+pub fn reading(message: &[u8], f: u64) -> Result<usize, u8> {
+    let (number, part) = unsafe { (stobbarel_reading(f, message.as_ptr(), message.len()), stobbarel_part(f, message.as_ptr(), message.len())) };
+    match (number, part) {
+        (0, part) => Ok(part),
+        (number, 0) => Err(number),
+        (_, _) => Err(255),
+    }
+}
+
+/// One answer for a sheet; none where the five numbers say no reply.
+pub fn tally(sheet: &mut Sheet, f: u64, number: u64, answer: u64) -> Option<Reply> {
+    let mut out = [9u8; 5];
+    unsafe { stobbarel_tally(sheet.kind, &mut sheet.commits, &mut sheet.aborts, f, number, answer, out.as_mut_ptr()) }
+    if out[1..].iter().any(|bit| *bit > 1) && out[0] != 4 {
+        return None;
+    }
+    match out {
+        [1, a, b, c, d] => Some(Reply::Votes([a == 1, b == 1, c == 1, d == 1])),
+        [2, a, b, 0, 0] => Some(Reply::Logs([a == 1, b == 1])),
+        [3, 0, 0, 0, 0] => Some(Reply::Repeat),
+        [4, number, 0, 0, 0] => Some(Reply::Refused(number)),
+        _ => None,
+    }
+}

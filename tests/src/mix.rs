@@ -1,0 +1,495 @@
+//! Runs of messages that a seed determines: few keys, stamps near each other, versions read from what is held,
+//! lists on both sides of each threshold, and every kind of damage.
+
+use crate::model::{entries_of, transaction_bytes, Decision, Entry, Settings, Transaction, Vote, THRESHOLDS};
+use crate::random::Random;
+
+pub struct Run {
+    pub settings: Settings,
+    pub table: Vec<u8>,
+    pub marks: Vec<u64>,
+    keys: Vec<u16>,
+    base: u64,
+    spread: u64,
+    /// Bodies that were sent before.
+    bodies: Vec<Transaction>,
+    /// How many messages in a hundred are damaged.
+    damage: u64,
+    /// How many calls in a hundred lend a damaged table.
+    lent: u64,
+    pub left: u64,
+}
+
+impl Run {
+    pub fn new(random: &mut Random) -> Run {
+        let spread = random.between(3, 40);
+        let base = match random.below(8) {
+            0 => u64::MAX - spread,
+            1 => (1 << 63) - spread / 2,
+            2 => 250 - spread / 2,
+            3 => random.between(1, u64::MAX - 2 * spread - 1),
+            _ => random.between(1, 100),
+        };
+        let capacity = match random.below(20) {
+            0 => 255,
+            1 => random.between(41, 255),
+            2..=6 => random.between(1, 4),
+            7..=13 => random.between(3, 10),
+            _ => random.between(8, 40),
+        };
+        let length = 1 + capacity as usize * 176 + if random.chance(10) { random.below(400) as usize } else { 0 };
+        let mut table: Vec<u8> = (0..length).map(|_| if random.chance(10) { random.next() as u8 } else { 0 }).collect();
+        table[0] = 0;
+        let mut keys: Vec<u16> = (0..random.between(1, 10)).map(|_| random.below(512) as u16).collect();
+        if random.chance(30) {
+            keys.extend([0, 511]);
+        }
+        keys.sort_unstable();
+        keys.dedup();
+        let marked = random.chance(15);
+        let marks = (0..512).map(|_| if marked { base.saturating_add(random.below(spread)) } else { 0 }).collect();
+        let settings = Settings { f: random.between(1, 5), capacity, clock: 0, delta: 0 };
+        let left = random.between(4, 12 + 4 * capacity.min(40));
+        let damage = random.one_of(&[0, 5, 15, 60]);
+        let lent = random.one_of(&[0, 0, 0, 4, 30]);
+        let mut run = Run { settings, table, marks, keys, base, spread, bodies: Vec::new(), damage, lent, left };
+        run.settings.delta = match random.below(6) {
+            0 => 0,
+            1 => u64::MAX - random.below(3),
+            2 => random.next(),
+            _ => random.below(run.spread),
+        };
+        run.turn_clock(random);
+        run
+    }
+
+    fn turn_clock(&mut self, random: &mut Random) {
+        self.settings.clock = match random.below(10) {
+            0 => u64::MAX - random.below(3),
+            1 => 0,
+            2 | 3 => self.stamp(random),
+            4 => self.stamp(random).saturating_sub(self.settings.delta),
+            _ => self.base.saturating_add(self.spread),
+        };
+    }
+
+    fn stamp(&self, random: &mut Random) -> u64 {
+        self.base.saturating_add(random.below(self.spread + 1))
+    }
+
+    /// Some of the keys, rising, at most eight.
+    fn some_keys(&self, random: &mut Random, most: u64) -> Vec<u16> {
+        let wanted = random.below(most + 1) as usize;
+        let mut chosen = self.keys.clone();
+        while chosen.len() > wanted {
+            chosen.remove(random.below(chosen.len() as u64) as usize);
+        }
+        chosen.truncate(8);
+        chosen
+    }
+
+    fn held(&self) -> Vec<Entry> {
+        entries_of(&self.table, self.settings.capacity as usize).unwrap_or_default()
+    }
+
+    fn body(&self, random: &mut Random, stamp: u64) -> Transaction {
+        let held = self.held();
+        let most = if random.chance(15) { 8 } else { 3 };
+        let mut reads = Vec::new();
+        for key in self.some_keys(random, most) {
+            let writers: Vec<u64> = held.iter().filter(|entry| entry.body.stamp < stamp && entry.body.writes.iter().any(|(written, _)| *written == key)).map(|entry| entry.body.stamp).collect();
+            let newest = held.iter().filter(|entry| entry.live() && writers.contains(&entry.body.stamp)).map(|entry| entry.body.stamp).max();
+            let version = match random.below(20) {
+                0..=11 => newest.unwrap_or(0),
+                12 | 13 if !writers.is_empty() => random.one_of(&writers),
+                14 => self.stamp(random),
+                15 if !held.is_empty() => held[random.below(held.len() as u64) as usize].body.stamp,
+                _ => 0,
+            };
+            reads.push((key, if random.chance(98) { version.min(stamp.saturating_sub(1)) } else { version }));
+        }
+        let mut writes: Vec<(u16, u64)> = self.some_keys(random, most).into_iter().map(|key| (key, random.next() >> random.below(64))).collect();
+        if reads.is_empty() && writes.is_empty() {
+            writes.push((random.one_of(&self.keys), random.below(3)));
+        }
+        Transaction { mark: *b"TX", stamp, reads, writes }
+    }
+
+    fn known_or_new(&mut self, random: &mut Random, known: u64) -> Transaction {
+        if !self.bodies.is_empty() && random.chance(known) {
+            let at = self.bodies.len() as u64 - 1 - random.below(self.bodies.len() as u64).min(random.below(12));
+            let body = self.bodies[at as usize].clone();
+            if !random.chance(15) {
+                return body;
+            }
+            let other = self.body(random, body.stamp);
+            self.bodies.push(other.clone());
+            return other;
+        }
+        let mut stamp = self.stamp(random);
+        let held = self.held();
+        for _ in 0..random.below(8) {
+            if held.iter().any(|entry| entry.body.stamp == stamp) {
+                stamp = self.stamp(random);
+            }
+        }
+        let body = self.body(random, stamp);
+        self.bodies.push(body.clone());
+        body
+    }
+
+    /// A message about an entry that waits, or about one that it waits for.
+    fn about_a_wait(&mut self, random: &mut Random) -> Option<Vec<u8>> {
+        let held = self.held();
+        let waiting: Vec<&Entry> = held.iter().filter(|entry| entry.decision.is_none() && entry.vote == Vote::Waiting).collect();
+        if waiting.is_empty() {
+            return None;
+        }
+        let reader = &waiting[random.below(waiting.len() as u64) as usize].body;
+        if random.chance(40) {
+            return Some([b"PR".to_vec(), transaction_bytes(reader)].concat());
+        }
+        let versions: Vec<u64> = reader.reads.iter().map(|read| read.1).filter(|version| *version != 0).collect();
+        if versions.is_empty() {
+            return None;
+        }
+        let version = random.one_of(&versions);
+        let written = held.iter().find(|entry| entry.body.stamp == version)?;
+        let mut body = written.body.clone();
+        if random.chance(25) {
+            return Some([b"PR".to_vec(), transaction_bytes(&body)].concat());
+        }
+        if random.chance(25) {
+            body = self.body(random, body.stamp);
+        }
+        Some([b"DC".to_vec(), transaction_bytes(&body), self.list(random, false)].concat())
+    }
+
+    /// A list that meets its threshold, or misses it by one.
+    fn list(&self, random: &mut Random, log: bool) -> Vec<u8> {
+        let f = if (1..=5).contains(&self.settings.f) { self.settings.f } else { 1 };
+        let row = THRESHOLDS[f as usize - 1];
+        let boxes = 5 * f;
+        let kind = if log || random.chance(60) { 1 } else { 2 };
+        let decision = random.one_of(&[Decision::Commit, Decision::Commit, Decision::Abort]);
+        let needed = match (log, kind, decision) {
+            (true, _, Decision::Commit) => row[0],
+            (true, _, Decision::Abort) => row[1],
+            (false, 2, _) => row[4],
+            (false, _, Decision::Commit) => row[2],
+            (false, _, Decision::Abort) => row[3],
+        } as u64;
+        let counted = match random.below(10) {
+            0 | 1 => needed - 1,
+            2 => (needed + 1).min(boxes + 1),
+            3 => random.between(1, boxes + 1),
+            _ => needed,
+        };
+        let mut numbers: Vec<u8> = (0..=boxes as u8).collect();
+        let mut chosen = Vec::new();
+        for _ in 0..counted {
+            chosen.push(numbers.remove(random.below(numbers.len() as u64) as usize));
+        }
+        let code = |d| if d == Decision::Commit { 1u8 } else { 2 };
+        let mut pairs: Vec<(u8, u8)> = chosen.into_iter().map(|number| (number, code(decision))).collect();
+        if random.chance(40) {
+            for number in numbers {
+                if random.chance(50) {
+                    pairs.push((number, 3 - code(decision)));
+                }
+            }
+        }
+        if pairs.is_empty() {
+            pairs.push((0, code(decision)));
+        }
+        pairs.sort_unstable();
+        let mut bytes = vec![b'V', b'L', kind, code(decision), pairs.len() as u8];
+        for (number, answer) in pairs {
+            bytes.extend([number, answer]);
+        }
+        bytes
+    }
+
+    /// A PR, LG or DC with a body as the table holds it.
+    fn about_a_row(&mut self, random: &mut Random) -> Option<Vec<u8>> {
+        let held = self.held();
+        if held.is_empty() {
+            return None;
+        }
+        let unvoted: Vec<&Entry> = held.iter().filter(|entry| entry.decision.is_none() && entry.vote == Vote::None).collect();
+        if !unvoted.is_empty() && random.chance(60) {
+            let body = transaction_bytes(&unvoted[random.below(unvoted.len() as u64) as usize].body);
+            return Some([b"PR".to_vec(), body].concat());
+        }
+        let body = transaction_bytes(&held[random.below(held.len() as u64) as usize].body);
+        Some(match random.below(3) {
+            0 => [b"PR".to_vec(), body].concat(),
+            1 => [b"LG".to_vec(), body, self.list(random, true)].concat(),
+            _ => [b"DC".to_vec(), body, self.list(random, false)].concat(),
+        })
+    }
+
+    /// A message in order.
+    fn sound_message(&mut self, random: &mut Random) -> Vec<u8> {
+        if random.chance(20) {
+            if let Some(message) = self.about_a_wait(random) {
+                return message;
+            }
+        }
+        if random.chance(6 + self.lent) {
+            if let Some(message) = self.about_a_row(random) {
+                return message;
+            }
+        }
+        match random.below(20) {
+            0..=8 => {
+                let body = self.known_or_new(random, 40);
+                [b"PR".to_vec(), transaction_bytes(&body)].concat()
+            }
+            9..=12 => {
+                let body = self.known_or_new(random, 93);
+                [b"LG".to_vec(), transaction_bytes(&body), self.list(random, true)].concat()
+            }
+            13..=16 => {
+                let body = self.known_or_new(random, 85);
+                [b"DC".to_vec(), transaction_bytes(&body), self.list(random, false)].concat()
+            }
+            _ => {
+                let stamp = if random.chance(80) { self.stamp(random) } else { random.between(1, u64::MAX) >> random.below(30) };
+                let key = if random.chance(90) { random.one_of(&self.keys) } else { random.below(512) as u16 };
+                [b"RD".to_vec(), key.to_le_bytes().to_vec(), stamp.max(1).to_le_bytes().to_vec()].concat()
+            }
+        }
+    }
+
+    /// One place of a message set wrong.
+    fn spoil(&self, random: &mut Random, m: &mut Vec<u8>) {
+        let put = |m: &mut Vec<u8>, at: usize, bytes: &[u8]| {
+            for (i, byte) in bytes.iter().enumerate() {
+                if at + i < m.len() {
+                    m[at + i] = *byte;
+                }
+            }
+        };
+        let n = (5 * self.settings.f.clamp(1, 5) + 1) as u8;
+        let of = |m: &Vec<u8>, at: usize| m.get(at).copied().unwrap_or(0) as usize;
+        if m.starts_with(b"RD") {
+            match random.below(4) {
+                0 => put(m, 4, &[0; 8]),
+                1 => {
+                    let key = random.one_of(&[512u16, 513, 767, 65535]);
+                    put(m, 2, &key.to_le_bytes())
+                }
+                2 => put(m, 4, &(u64::MAX - random.below(4)).to_le_bytes()),
+                _ => self.spoil_raw(random, m),
+            }
+            return;
+        }
+        let (r, w) = (of(m, 4).min(8), of(m, 5).min(8));
+        let pairs = (r + w) as u64;
+        let list = 14 + 10 * (r + w);
+        let listed = of(m, list + 4).min(26) as u64;
+        let pair = 14 + 10 * random.below(pairs) as usize;
+        let at = list + 5 + 2 * random.below(listed) as usize;
+        match random.below(20) {
+            0 => put(m, 6, &[0; 8]),
+            1 => {
+                let key = random.one_of(&[512u16, 513, 1023, 65535]);
+                put(m, pair, &key.to_le_bytes())
+            }
+            2 if pairs > 1 => {
+                let other = 14 + 10 * random.below(pairs) as usize;
+                let key = [of(m, other) as u8, of(m, other + 1) as u8];
+                put(m, pair, &key)
+            }
+            3 => put(m, pair, &[0, 0]),
+            4 | 5 if r > 0 => {
+                let stamp: Vec<u8> = m.iter().skip(6).take(8).copied().collect();
+                let read = 14 + 10 * random.below(r as u64) as usize;
+                put(m, read + 2, &stamp);
+                if random.chance(30) {
+                    put(m, read + 2, &u64::MAX.to_le_bytes());
+                }
+            }
+            6 => put(m, 4, &[random.one_of(&[0, 8, 9, 255])]),
+            7 => put(m, 5, &[random.one_of(&[0, 8, 9, 255])]),
+            8 => put(m, 4, &[0, 0]),
+            9 => put(m, list + 2, &[random.one_of(&[0, 2, 3, 255])]),
+            10 => put(m, list + 3, &[random.one_of(&[0, 3, 255])]),
+            11 => put(m, list + 4, &[random.one_of(&[0, 26, 27, 255])]),
+            12 => put(m, at + 1, &[random.one_of(&[0, 3, 255])]),
+            13 => put(m, at, &[random.one_of(&[n, n - 1, n.wrapping_add(1), 26, 255])]),
+            14 | 15 if listed > 1 => {
+                let other = list + 5 + 2 * random.below(listed) as usize;
+                let number = of(m, other) as u8;
+                put(m, at, &[number])
+            }
+            16 => {
+                let mark = random.one_of(&[b"PR", b"LG", b"DC", b"RD", b"TX", b"VL", b"GP", b"pr"]);
+                put(m, 0, mark)
+            }
+            17 => {
+                let mark = random.one_of(&[b"VL", b"TY", b"tx"]);
+                put(m, 2, mark)
+            }
+            18 => {
+                let mark = random.one_of(&[b"TX", b"VM", b"vl"]);
+                put(m, list, mark)
+            }
+            _ => self.spoil_raw(random, m),
+        }
+    }
+
+    /// Cut, flipped or lengthened anywhere.
+    fn spoil_raw(&self, random: &mut Random, m: &mut Vec<u8>) {
+        match random.below(5) {
+            0 => m.truncate(random.below(m.len() as u64 + 1) as usize),
+            3 => {
+                // cut at or beside the end of a mark, of the counts, or of a part
+                let list = m.len().min(14 + 10 * (m.get(4).copied().unwrap_or(0).min(8) + m.get(5).copied().unwrap_or(0).min(8)) as usize);
+                let length = if random.chance(50) { random.below(7) as usize } else { list.saturating_sub(1) + random.below(8) as usize };
+                if m.len() > 4 && random.chance(50) {
+                    m[4] = random.one_of(&[0, 9, 255]);
+                }
+                m.truncate(length);
+            }
+            1 if !m.is_empty() => {
+                let at = random.below(m.len() as u64) as usize;
+                m[at] ^= 1 << random.below(8);
+            }
+            2 if !m.is_empty() => {
+                let at = random.below(m.len() as u64) as usize;
+                m[at] = random.next() as u8;
+            }
+            _ => {
+                for _ in 0..random.between(1, 12) {
+                    let byte = random.one_of(&[0, 1, 2, b'V', b'T', 255]);
+                    m.push(byte);
+                }
+            }
+        }
+    }
+
+    pub fn message(&mut self, random: &mut Random) -> Vec<u8> {
+        if random.chance(1) {
+            return (0..random.below(40)).map(|_| random.next() as u8).collect();
+        }
+        let mut message = self.sound_message(random);
+        if random.chance(self.damage) {
+            for _ in 0..random.one_of(&[1, 1, 1, 2, 3]) {
+                self.spoil(random, &mut message);
+            }
+        }
+        message
+    }
+
+    /// Settings for the next call; now and then not in order.
+    pub fn next_settings(&mut self, random: &mut Random) -> Settings {
+        if random.chance(25) {
+            self.turn_clock(random);
+        }
+        let mut settings = self.settings;
+        if random.chance(1) {
+            settings.f = random.one_of(&[0, 6, 7, 255, 256 + 1, u64::MAX, (1 << 32) + 1]);
+        }
+        if random.chance(1) {
+            settings.capacity = random.one_of(&[0, 256, 257, 1, settings.capacity + 1, settings.capacity.saturating_sub(1), 1 << 32, u64::MAX]);
+        }
+        if random.chance(1) {
+            settings.f = random.between(1, 5);
+        }
+        settings
+    }
+
+    /// The table or the read marks changed behind the box's back.
+    pub fn disturb(&mut self, random: &mut Random) {
+        if !random.chance(self.lent) {
+            return;
+        }
+        let entries = self.table[0] as u64;
+        for _ in 0..random.between(1, 3) {
+            let row = 1 + 176 * random.below(entries.max(1)) as usize;
+            let other = 1 + 176 * random.below(entries.max(1)) as usize;
+            match random.below(20) {
+                0 => self.table[row + 172] = random.below(4) as u8,
+                1 => {
+                    // an abort vote, where there is one on an entry that is waited for
+                    let held = self.held();
+                    let waited: Vec<u64> = held.iter().filter(|entry| entry.decision.is_none() && entry.vote == Vote::Waiting).flat_map(|entry| entry.body.reads.iter().map(|read| read.1)).collect();
+                    let row = held.iter().position(|entry| entry.decision.is_none() && waited.contains(&entry.body.stamp)).map_or(row, |place| 1 + 176 * place);
+                    self.table[row + 172] = 3;
+                    self.table[row + 173] = random.between(1, 6) as u8;
+                }
+                2 => {
+                    self.table[row + 172] = random.below(3) as u8;
+                    self.table[row + 173] = 0;
+                }
+                3 => self.table[row + 174] = random.below(3) as u8,
+                4 | 5 => self.table[row + 175] = random.below(3) as u8,
+                6 | 7 => {
+                    self.table[row + 172] = 0;
+                    self.table[row + 173] = 0;
+                    self.table[row + 175] = 0;
+                }
+                8 | 9 => {
+                    let stamp: Vec<u8> = self.table[other + 4..other + 12].to_vec();
+                    self.table[row + 4..row + 12].copy_from_slice(&stamp);
+                }
+                10 => self.table[row + 4..row + 12].copy_from_slice(&random.below(2).to_le_bytes()),
+                11 => {
+                    let key: Vec<u8> = self.table[row + 12..row + 14].to_vec();
+                    self.table[row + 22..row + 24].copy_from_slice(&key);
+                }
+                12 => {
+                    let from: Vec<u8> = self.table[other..other + 176].to_vec();
+                    self.table[row..row + 176].copy_from_slice(&from);
+                }
+                13 => {
+                    let at = random.below(176) as usize;
+                    self.table[row + at] = random.next() as u8;
+                }
+                14 => {
+                    let at = random.one_of(&[2usize, 3]);
+                    self.table[row + at] = random.below(9) as u8;
+                }
+                15..=17 => {
+                    // one stamp twice: the first without a vote, the second live
+                    let (first, second) = (row.min(other), row.max(other));
+                    let stamp: Vec<u8> = self.table[first + 4..first + 12].to_vec();
+                    self.table[second + 4..second + 12].copy_from_slice(&stamp);
+                    self.table[second + 172..second + 176].copy_from_slice(&[random.between(1, 2) as u8, 0, 0, random.below(2) as u8]);
+                    self.table[first + 172..first + 174].copy_from_slice(&[0, 0]);
+                    self.table[first + 175] = 0;
+                }
+                _ => {
+                    let key = random.one_of(&self.keys);
+                    self.marks[key as usize] = self.stamp(random);
+                }
+            }
+        }
+    }
+
+    /// Damage that is lent for one call only, most of it refused with 16.
+    pub fn broken_table(&self, random: &mut Random) -> Option<Vec<u8>> {
+        if !random.chance(2) {
+            return None;
+        }
+        let mut table = self.table.clone();
+        let entries = table[0] as u64;
+        let row = 1 + 176 * random.below(entries.max(1)) as usize;
+        match random.below(8) {
+            0 => table[0] = random.one_of(&[self.settings.capacity as u8, (self.settings.capacity as u8).wrapping_add(1), 255]),
+            1 => table[row + 2] = random.one_of(&[8, 9, 255]),
+            2 => table[row + 3] = random.one_of(&[8, 9, 255]),
+            3 => table[row + 172] = random.between(3, 5) as u8,
+            4 => table[row + 173] = random.between(0, 7) as u8,
+            5 => table[row + 174] = random.between(2, 4) as u8,
+            6 => table[row + 175] = random.between(2, 4) as u8,
+            _ => {
+                let length = random.below(table.len() as u64 + 1) as usize;
+                table.truncate(length);
+            }
+        }
+        Some(table)
+    }
+}

@@ -1,0 +1,752 @@
+//! A box as the paper describes it, in ordinary Rust: records read from bytes, a list of entries, and the four messages.
+//! It is written from the paper alone, and shares nothing with the engine that it is held against.
+
+/// For each f from 1 on: commit list, abort list, commit proof, abort proof, proof from logs.
+pub const THRESHOLDS: [[usize; 5]; 5] = [
+    [4, 2, 6, 4, 5],
+    [7, 3, 11, 7, 9],
+    [10, 4, 16, 10, 13],
+    [13, 5, 21, 13, 17],
+    [16, 6, 26, 16, 21],
+];
+
+#[derive(Clone, Copy, Debug, PartialEq, Eq)]
+pub enum Decision {
+    Commit,
+    Abort,
+}
+
+#[derive(Clone, Copy, Debug, PartialEq, Eq)]
+pub enum Kind {
+    Votes,
+    Logs,
+}
+
+#[derive(Clone, Copy, Debug, PartialEq, Eq)]
+pub enum Vote {
+    None,
+    Waiting,
+    Commit,
+    Abort(u8),
+}
+
+#[derive(Clone, Debug, PartialEq, Eq)]
+pub struct Transaction {
+    /// "TX", but in a lent table the two bytes are taken as they stand.
+    pub mark: [u8; 2],
+    pub stamp: u64,
+    pub reads: Vec<(u16, u64)>,
+    pub writes: Vec<(u16, u64)>,
+}
+
+#[derive(Clone, Debug, PartialEq, Eq)]
+pub struct List {
+    pub kind: Kind,
+    pub decision: Decision,
+    pub answers: Vec<(u8, Decision)>,
+}
+
+#[derive(Clone, Debug)]
+pub enum Message {
+    Prepare(Transaction),
+    Log(Transaction, List),
+    Decide(Transaction, List),
+    Read { key: u16, stamp: u64 },
+}
+
+#[derive(Clone, Debug)]
+pub struct Entry {
+    pub body: Transaction,
+    pub vote: Vote,
+    pub log: Option<Decision>,
+    pub decision: Option<Decision>,
+}
+
+#[derive(Clone, Copy, Debug, PartialEq, Eq)]
+pub enum Answer {
+    Commit,
+    Abort(u8),
+    Wait,
+    Decided(Decision),
+    Logged(Decision),
+    Done,
+    Found { committed: (u64, u64), undecided: (u64, u64) },
+    Refused(u8),
+}
+
+#[derive(Clone, Copy, Debug)]
+pub struct Settings {
+    pub f: u64,
+    pub capacity: u64,
+    pub clock: u64,
+    pub delta: u64,
+}
+
+impl Settings {
+    /// f 1 to 5, capacity 1 to 255.
+    pub fn in_order(&self) -> bool {
+        (1..=5).contains(&self.f) && (1..=255).contains(&self.capacity)
+    }
+
+    pub fn boxes(&self) -> u64 {
+        5 * self.f + 1
+    }
+
+    /// Above clock + δ, which is a sum of whole numbers.
+    fn ahead(&self, stamp: u64) -> bool {
+        u128::from(stamp) > u128::from(self.clock) + u128::from(self.delta)
+    }
+
+    fn row(&self) -> [usize; 5] {
+        THRESHOLDS[self.f as usize - 1]
+    }
+}
+
+// ---- records
+
+const SHORT: u8 = 1;
+const MARK: u8 = 2;
+const COUNT: u8 = 3;
+const TRAILING: u8 = 4;
+const RANGE: u8 = 5;
+const ORDER: u8 = 6;
+const MISBEHAVIOUR: u8 = 7;
+const CODE: u8 = 8;
+const OTHER_BODY: u8 = 9;
+const UNKNOWN: u8 = 10;
+const TOO_FEW: u8 = 11;
+const CONTRADICTION: u8 = 12;
+const FULL: u8 = 13;
+const GROUP: u8 = 14;
+const AHEAD: u8 = 15;
+const TABLE: u8 = 16;
+
+fn little(bytes: &[u8]) -> u64 {
+    bytes.iter().rev().fold(0, |sum, byte| sum << 8 | u64::from(*byte))
+}
+
+/// What is left of a message.
+struct Bytes<'a>(&'a [u8]);
+
+impl<'a> Bytes<'a> {
+    fn next(&mut self, count: usize) -> Result<&'a [u8], u8> {
+        if self.0.len() < count {
+            return Err(SHORT);
+        }
+        let (front, rest) = self.0.split_at(count);
+        self.0 = rest;
+        Ok(front)
+    }
+
+    fn mark(&mut self, due: &[&[u8; 2]]) -> Result<[u8; 2], u8> {
+        let mark = self.next(2)?;
+        match due.iter().find(|one| one.as_slice() == mark) {
+            Some(one) => Ok(**one),
+            None => Err(MARK),
+        }
+    }
+}
+
+fn pairs(bytes: &[u8]) -> Vec<(u16, u64)> {
+    bytes.chunks(10).map(|pair| (little(&pair[..2]) as u16, little(&pair[2..]))).collect()
+}
+
+/// A TX cut, its contents not yet judged.
+fn cut_transaction(bytes: &mut Bytes) -> Result<Transaction, u8> {
+    let mark = bytes.mark(&[b"TX"])?;
+    let counts = bytes.next(2)?;
+    let (r, w) = (counts[0] as usize, counts[1] as usize);
+    if r > 8 || w > 8 || r + w == 0 {
+        return Err(COUNT);
+    }
+    let rest = bytes.next(8 + 10 * (r + w))?;
+    let (stamp, rest) = rest.split_at(8);
+    let (reads, writes) = rest.split_at(10 * r);
+    Ok(Transaction { mark, stamp: little(stamp), reads: pairs(reads), writes: pairs(writes) })
+}
+
+/// A VL cut: kind, decision and pairs as numbers.
+struct CutList {
+    kind: u8,
+    decision: u8,
+    pairs: Vec<(u8, u8)>,
+}
+
+fn cut_list(bytes: &mut Bytes) -> Result<CutList, u8> {
+    bytes.mark(&[b"VL"])?;
+    let head = bytes.next(3)?;
+    let count = head[2] as usize;
+    if count == 0 || count > 26 {
+        return Err(COUNT);
+    }
+    let rest = bytes.next(2 * count)?;
+    Ok(CutList { kind: head[0], decision: head[1], pairs: rest.chunks(2).map(|pair| (pair[0], pair[1])).collect() })
+}
+
+fn rises<T: PartialOrd>(numbers: &[T]) -> bool {
+    numbers.windows(2).all(|two| two[0] < two[1])
+}
+
+fn keys(of: &[(u16, u64)]) -> Vec<u16> {
+    of.iter().map(|pair| pair.0).collect()
+}
+
+/// All of a transaction for 5, then 6, then 7.
+fn judge_transaction(tx: &Transaction) -> Result<(), u8> {
+    let (read, written) = (keys(&tx.reads), keys(&tx.writes));
+    if tx.stamp == 0 || read.iter().chain(&written).any(|key| *key > 511) {
+        return Err(RANGE);
+    }
+    if !rises(&read) || !rises(&written) {
+        return Err(ORDER);
+    }
+    if tx.reads.iter().any(|(_, version)| *version >= tx.stamp) {
+        return Err(MISBEHAVIOUR);
+    }
+    Ok(())
+}
+
+fn decision(code: u8) -> Result<Decision, u8> {
+    match code {
+        1 => Ok(Decision::Commit),
+        2 => Ok(Decision::Abort),
+        _ => Err(CODE),
+    }
+}
+
+/// A list for 8, then 5, then 6.
+fn judge_list(cut: &CutList, settings: &Settings, logs_allowed: bool) -> Result<List, u8> {
+    let kind = match cut.kind {
+        1 => Kind::Votes,
+        2 if logs_allowed => Kind::Logs,
+        _ => return Err(CODE),
+    };
+    let named = decision(cut.decision)?;
+    let mut answers = Vec::new();
+    for (number, code) in &cut.pairs {
+        answers.push((*number, decision(*code)?));
+    }
+    if answers.iter().any(|(number, _)| u64::from(*number) >= settings.boxes()) {
+        return Err(RANGE);
+    }
+    if !rises(&answers.iter().map(|pair| pair.0).collect::<Vec<_>>()) {
+        return Err(ORDER);
+    }
+    Ok(List { kind, decision: named, answers })
+}
+
+/// A message: the whole cut first, then 4, then the contents.
+pub fn read_message(message: &[u8], settings: &Settings, due: &[&[u8; 2]]) -> Result<Message, u8> {
+    let mut bytes = Bytes(message);
+    let mark = bytes.mark(due)?;
+    if &mark == b"RD" {
+        let rest = bytes.next(10)?;
+        if !bytes.0.is_empty() {
+            return Err(TRAILING);
+        }
+        let (key, stamp) = (little(&rest[..2]) as u16, little(&rest[2..]));
+        if stamp == 0 || key > 511 {
+            return Err(RANGE);
+        }
+        if settings.ahead(stamp) {
+            return Err(AHEAD);
+        }
+        return Ok(Message::Read { key, stamp });
+    }
+    let tx = cut_transaction(&mut bytes)?;
+    let list = if &mark == b"PR" { None } else { Some(cut_list(&mut bytes)?) };
+    if !bytes.0.is_empty() {
+        return Err(TRAILING);
+    }
+    judge_transaction(&tx)?;
+    match list {
+        None => Ok(Message::Prepare(tx)),
+        Some(cut) if &mark == b"LG" => {
+            let list = judge_list(&cut, settings, false)?;
+            Ok(Message::Log(tx, list))
+        }
+        Some(cut) => {
+            let list = judge_list(&cut, settings, true)?;
+            Ok(Message::Decide(tx, list))
+        }
+    }
+}
+
+// ---- a box
+
+impl Transaction {
+    fn writes_key(&self, key: u16) -> bool {
+        self.writes.iter().any(|(written, _)| *written == key)
+    }
+}
+
+impl Entry {
+    pub fn live(&self) -> bool {
+        match self.decision {
+            Some(decided) => decided == Decision::Commit,
+            None => matches!(self.vote, Vote::Commit | Vote::Waiting),
+        }
+    }
+
+    fn committed(&self) -> bool {
+        self.decision == Some(Decision::Commit)
+    }
+}
+
+/// A lent table's entries and its read marks, for the length of one call.
+pub struct Store {
+    pub entries: Vec<Entry>,
+    pub marks: Vec<u64>,
+    /// The entry that the call stored or changed.
+    pub touched: Option<usize>,
+    /// Which of the paper's cases the call met.
+    pub met: Vec<&'static str>,
+}
+
+/// The cases that a mixture of messages has to meet.
+pub const CASES: [&str; 24] = [
+    "PR new, no test fails",
+    "PR again, vote cast",
+    "PR again, waiting: waits on",
+    "PR again, waiting: commit",
+    "PR again, waiting: abort 6",
+    "PR in place of vote none",
+    "PR in place of vote none, log kept",
+    "waiting rule: decided abort",
+    "waiting rule: committed by a body that lacks the key",
+    "waiting rule: not held",
+    "waiting rule: waits for an entry with an abort vote",
+    "a stamp held twice",
+    "PR 9, decided entry",
+    "LG 9",
+    "LG again, other list",
+    "LG with an abort vote cast",
+    "DC new",
+    "DC, undecided takes it",
+    "DC, equal decision",
+    "DC, opposite decision",
+    "DC abort, other body",
+    "DC commit, other body committed",
+    "DC replaces an undecided body",
+    "DC replaces an aborted body",
+];
+
+impl Store {
+    fn place(&self, stamp: u64) -> Option<usize> {
+        self.entries.iter().position(|entry| entry.body.stamp == stamp)
+    }
+
+    fn live(&self) -> impl Iterator<Item = &Entry> {
+        self.entries.iter().filter(|entry| entry.live())
+    }
+
+    /// The number of the first failing test.
+    fn failing_test(&self, tx: &Transaction, settings: &Settings) -> Option<u8> {
+        if settings.ahead(tx.stamp) {
+            return Some(1);
+        }
+        for (key, version) in &tx.reads {
+            if *version == 0 {
+                continue;
+            }
+            let named = self.place(*version).map(|place| &self.entries[place]);
+            if !named.is_some_and(|entry| entry.live() && entry.body.writes_key(*key)) {
+                return Some(2);
+            }
+        }
+        for (key, version) in &tx.reads {
+            let missed = |entry: &Entry| entry.body.stamp > *version && entry.body.stamp < tx.stamp;
+            if self.live().any(|entry| entry.body.writes_key(*key) && missed(entry)) {
+                return Some(3);
+            }
+        }
+        for (key, _) in &tx.writes {
+            for entry in self.live().filter(|entry| entry.body.stamp > tx.stamp) {
+                if entry.body.reads.iter().any(|(read, version)| read == key && *version < tx.stamp) {
+                    return Some(4);
+                }
+            }
+        }
+        if tx.writes.iter().any(|(key, _)| self.marks[*key as usize] > tx.stamp) {
+            return Some(5);
+        }
+        None
+    }
+
+    fn waiting_rule(&mut self, tx: &Transaction) -> Vote {
+        let mut waits = false;
+        for (key, version) in tx.reads.iter().filter(|(_, version)| *version != 0) {
+            let Some(place) = self.place(*version) else {
+                self.met.push("waiting rule: not held");
+                return Vote::Abort(6);
+            };
+            let entry = &self.entries[place];
+            match entry.decision {
+                Some(Decision::Abort) => {
+                    self.met.push("waiting rule: decided abort");
+                    return Vote::Abort(6);
+                }
+                Some(Decision::Commit) if !entry.body.writes_key(*key) => {
+                    self.met.push("waiting rule: committed by a body that lacks the key");
+                    return Vote::Abort(6);
+                }
+                Some(Decision::Commit) => {}
+                None => {
+                    if matches!(entry.vote, Vote::Abort(_)) {
+                        self.met.push("waiting rule: waits for an entry with an abort vote");
+                    }
+                    waits = true
+                }
+            }
+        }
+        if waits {
+            Vote::Waiting
+        } else {
+            Vote::Commit
+        }
+    }
+
+    fn first_vote(&mut self, tx: &Transaction, settings: &Settings) -> Vote {
+        match self.failing_test(tx, settings) {
+            Some(reason) => Vote::Abort(reason),
+            None => self.waiting_rule(tx),
+        }
+    }
+
+    fn told(vote: Vote) -> Answer {
+        match vote {
+            Vote::Commit => Answer::Commit,
+            Vote::Abort(reason) => Answer::Abort(reason),
+            Vote::Waiting => Answer::Wait,
+            Vote::None => unreachable!("a vote was cast"),
+        }
+    }
+
+    fn prepare(&mut self, tx: Transaction, settings: &Settings) -> Answer {
+        let Some(place) = self.place(tx.stamp) else {
+            if self.entries.len() as u64 >= settings.capacity {
+                return Answer::Refused(FULL);
+            }
+            let vote = self.first_vote(&tx, settings);
+            if matches!(vote, Vote::Commit | Vote::Waiting) {
+                self.met.push("PR new, no test fails");
+            }
+            self.touched = Some(self.entries.len());
+            self.entries.push(Entry { body: tx, vote, log: None, decision: None });
+            return Self::told(vote);
+        };
+        let held = self.entries[place].clone();
+        if held.body != tx {
+            if held.decision.is_some() {
+                self.met.push("PR 9, decided entry");
+            }
+            return Answer::Refused(OTHER_BODY);
+        }
+        if let Some(decided) = held.decision {
+            return Answer::Decided(decided);
+        }
+        let vote = match held.vote {
+            Vote::Commit | Vote::Abort(_) => held.vote,
+            Vote::Waiting => self.waiting_rule(&tx),
+            Vote::None => self.first_vote(&tx, settings),
+        };
+        self.met.push(match (held.vote, vote) {
+            (Vote::None, _) if held.log.is_some() => "PR in place of vote none, log kept",
+            (Vote::None, _) => "PR in place of vote none",
+            (Vote::Waiting, Vote::Waiting) => "PR again, waiting: waits on",
+            (Vote::Waiting, Vote::Commit) => "PR again, waiting: commit",
+            (Vote::Waiting, _) => "PR again, waiting: abort 6",
+            _ => "PR again, vote cast",
+        });
+        self.entries[place].vote = vote;
+        self.touched = Some(place);
+        Self::told(vote)
+    }
+
+    fn log(&mut self, tx: Transaction, list: List, settings: &Settings) -> Answer {
+        let Some(place) = self.place(tx.stamp) else {
+            return Answer::Refused(UNKNOWN);
+        };
+        let held = &mut self.entries[place];
+        if held.body != tx {
+            self.met.push("LG 9");
+            return Answer::Refused(OTHER_BODY);
+        }
+        if let Some(decided) = held.decision {
+            return Answer::Decided(decided);
+        }
+        if let Some(logged) = held.log {
+            if logged != list.decision {
+                self.met.push("LG again, other list");
+            }
+            return Answer::Logged(logged);
+        }
+        if matches!(held.vote, Vote::Abort(_)) {
+            self.met.push("LG with an abort vote cast");
+        }
+        let row = settings.row();
+        let needed = match list.decision {
+            Decision::Commit => row[0],
+            Decision::Abort => row[1],
+        };
+        if counted(&list) < needed {
+            return Answer::Refused(TOO_FEW);
+        }
+        held.log = Some(list.decision);
+        self.touched = Some(place);
+        Answer::Logged(list.decision)
+    }
+
+    fn decide(&mut self, tx: Transaction, list: List, settings: &Settings) -> Answer {
+        let row = settings.row();
+        let needed = match (list.kind, list.decision) {
+            (Kind::Votes, Decision::Commit) => row[2],
+            (Kind::Votes, Decision::Abort) => row[3],
+            (Kind::Logs, _) => row[4],
+        };
+        if counted(&list) < needed {
+            return Answer::Refused(TOO_FEW);
+        }
+        let Some(place) = self.place(tx.stamp) else {
+            if self.entries.len() as u64 >= settings.capacity {
+                return Answer::Refused(FULL);
+            }
+            self.met.push("DC new");
+            self.touched = Some(self.entries.len());
+            self.entries.push(Entry { body: tx, vote: Vote::None, log: None, decision: Some(list.decision) });
+            return Answer::Done;
+        };
+        let held = &mut self.entries[place];
+        if held.body == tx {
+            match held.decision {
+                None => {
+                    self.met.push("DC, undecided takes it");
+                    held.decision = Some(list.decision)
+                }
+                Some(decided) if decided == list.decision => self.met.push("DC, equal decision"),
+                Some(_) => {
+                    self.met.push("DC, opposite decision");
+                    return Answer::Refused(CONTRADICTION);
+                }
+            }
+        } else {
+            if list.decision == Decision::Abort {
+                self.met.push("DC abort, other body");
+                return Answer::Refused(OTHER_BODY);
+            }
+            if held.committed() {
+                self.met.push("DC commit, other body committed");
+                return Answer::Refused(CONTRADICTION);
+            }
+            self.met.push(if held.decision.is_none() { "DC replaces an undecided body" } else { "DC replaces an aborted body" });
+            *held = Entry { body: tx, vote: Vote::None, log: None, decision: Some(Decision::Commit) };
+        }
+        self.touched = Some(place);
+        Answer::Done
+    }
+
+    /// Version and value of the writer of the key with the highest stamp strictly below.
+    fn newest(&self, key: u16, below: u64, wanted: impl Fn(&Entry) -> bool) -> (u64, u64) {
+        let mut best: Option<(u64, u64)> = None;
+        for entry in self.entries.iter().filter(|entry| wanted(entry) && entry.body.stamp < below) {
+            if let Some((_, value)) = entry.body.writes.iter().find(|(written, _)| *written == key) {
+                if best.map_or(true, |(stamp, _)| entry.body.stamp > stamp) {
+                    best = Some((entry.body.stamp, *value));
+                }
+            }
+        }
+        best.unwrap_or((0, 0))
+    }
+
+    fn read(&mut self, key: u16, stamp: u64) -> Answer {
+        let mark = &mut self.marks[key as usize];
+        *mark = stamp.max(*mark);
+        Answer::Found {
+            committed: self.newest(key, stamp, Entry::committed),
+            undecided: self.newest(key, stamp, |entry| entry.decision.is_none() && entry.live()),
+        }
+    }
+
+    fn act(&mut self, message: Message, settings: &Settings) -> Answer {
+        match message {
+            Message::Prepare(tx) => self.prepare(tx, settings),
+            Message::Log(tx, list) => self.log(tx, list, settings),
+            Message::Decide(tx, list) => self.decide(tx, list, settings),
+            Message::Read { key, stamp } => self.read(key, stamp),
+        }
+    }
+}
+
+fn counted(list: &List) -> usize {
+    list.answers.iter().filter(|(_, answer)| *answer == list.decision).count()
+}
+
+/// Reading alone, with no clock: the length of the transaction's bytes in the message (0 for an RD), or the refusal.
+pub fn reading(message: &[u8], f: u64) -> Result<usize, u8> {
+    let settings = Settings { f, capacity: 1, clock: u64::MAX, delta: u64::MAX };
+    if !settings.in_order() {
+        return Err(GROUP);
+    }
+    match read_message(message, &settings, &[b"PR", b"LG", b"DC", b"RD"])? {
+        Message::Prepare(tx) | Message::Log(tx, _) | Message::Decide(tx, _) => Ok(12 + 10 * (tx.reads.len() + tx.writes.len())),
+        Message::Read { .. } => Ok(0),
+    }
+}
+
+// ---- the tally
+
+#[derive(Clone, Copy, Debug, PartialEq, Eq)]
+pub enum Reply {
+    /// Commit list, abort list, commit proof, abort proof.
+    Votes([bool; 4]),
+    /// The proof of each decision.
+    Logs([bool; 2]),
+    Repeat,
+    Refused(u8),
+}
+
+/// A sheet as it is lent: a kind, and a mask of boxes for each answer.
+#[derive(Clone, Copy, Debug, PartialEq, Eq)]
+pub struct Sheet {
+    pub kind: u8,
+    pub commits: u32,
+    pub aborts: u32,
+}
+
+pub fn tally(sheet: &mut Sheet, f: u64, number: u64, answer: u64) -> Reply {
+    let settings = Settings { f, capacity: 1, clock: 0, delta: 0 };
+    if !settings.in_order() {
+        return Reply::Refused(GROUP);
+    }
+    let on = |mask: u32| (0..32u64).filter(|b| mask & (1 << b) != 0).collect::<Vec<u64>>();
+    let (mut commits, mut aborts) = (on(sheet.commits), on(sheet.aborts));
+    let wide = |b: &u64| *b >= settings.boxes();
+    if !(sheet.kind == 1 || sheet.kind == 2) || commits.iter().any(wide) || aborts.iter().any(wide) || commits.iter().any(|b| aborts.contains(b)) {
+        return Reply::Refused(TABLE);
+    }
+    if number >= settings.boxes() {
+        return Reply::Refused(RANGE);
+    }
+    if answer != 1 && answer != 2 {
+        return Reply::Refused(CODE);
+    }
+    if commits.contains(&number) || aborts.contains(&number) {
+        return Reply::Repeat;
+    }
+    if answer == 1 {
+        commits.push(number);
+    } else {
+        aborts.push(number);
+    }
+    let mask = |boxes: &[u64]| boxes.iter().fold(0, |sum, b| sum | 1u32 << b);
+    (sheet.commits, sheet.aborts) = (mask(&commits), mask(&aborts));
+    let (row, c, a) = (settings.row(), commits.len(), aborts.len());
+    if sheet.kind == 1 {
+        Reply::Votes([c >= row[0], a >= row[1], c >= row[2], a >= row[3]])
+    } else {
+        Reply::Logs([c >= row[4], a >= row[4]])
+    }
+}
+
+// ---- a lent table
+
+const ROW: usize = 176;
+
+fn settled(code: u8) -> Option<Option<Decision>> {
+    match code {
+        0 => Some(None),
+        1 => Some(Some(Decision::Commit)),
+        2 => Some(Some(Decision::Abort)),
+        _ => None,
+    }
+}
+
+/// The entry of a row; none where a count or a code is outside its list.
+fn entry_of(row: &[u8]) -> Option<Entry> {
+    let (r, w) = (row[2] as usize, row[3] as usize);
+    if r > 8 || w > 8 {
+        return None;
+    }
+    let vote = match (row[172], row[173]) {
+        (0, 0) => Vote::None,
+        (1, 0) => Vote::Waiting,
+        (2, 0) => Vote::Commit,
+        (3, reason @ 1..=6) => Vote::Abort(reason),
+        _ => return None,
+    };
+    let body = Transaction {
+        mark: [row[0], row[1]],
+        stamp: little(&row[4..12]),
+        reads: pairs(&row[12..12 + 10 * r]),
+        writes: pairs(&row[12 + 10 * r..12 + 10 * (r + w)]),
+    };
+    Some(Entry { body, vote, log: settled(row[174])?, decision: settled(row[175])? })
+}
+
+/// The entries of a lent table, or none where it is refused.
+pub fn entries_of(table: &[u8], capacity: usize) -> Option<Vec<Entry>> {
+    if table.len() < 1 + capacity * ROW || table[0] as usize > capacity {
+        return None;
+    }
+    table[1..].chunks(ROW).take(table[0] as usize).map(entry_of).collect()
+}
+
+pub fn transaction_bytes(tx: &Transaction) -> Vec<u8> {
+    let mut bytes = tx.mark.to_vec();
+    bytes.push(tx.reads.len() as u8);
+    bytes.push(tx.writes.len() as u8);
+    bytes.extend(tx.stamp.to_le_bytes());
+    for (key, number) in tx.reads.iter().chain(&tx.writes) {
+        bytes.extend(key.to_le_bytes());
+        bytes.extend(number.to_le_bytes());
+    }
+    bytes
+}
+
+/// An entry put down in its row: body and codes, what stands between them being left.
+fn put_entry(row: &mut [u8], entry: &Entry) {
+    let body = transaction_bytes(&entry.body);
+    row[..body.len()].copy_from_slice(&body);
+    let number = |settled: Option<Decision>| match settled {
+        None => 0,
+        Some(Decision::Commit) => 1,
+        Some(Decision::Abort) => 2,
+    };
+    let (vote, reason) = match entry.vote {
+        Vote::None => (0, 0),
+        Vote::Waiting => (1, 0),
+        Vote::Commit => (2, 0),
+        Vote::Abort(reason) => (3, reason),
+    };
+    row[172..176].copy_from_slice(&[vote, reason, number(entry.log), number(entry.decision)]);
+}
+
+/// One call: the answer, with table and read marks as they stand afterwards; `met` takes the cases that it met.
+pub fn call(table: &mut [u8], marks: &mut Vec<u64>, settings: &Settings, message: &[u8], due: &[&[u8; 2]], met: &mut Vec<&'static str>) -> Answer {
+    if !settings.in_order() {
+        return Answer::Refused(GROUP);
+    }
+    let Some(entries) = entries_of(table, settings.capacity as usize) else {
+        return Answer::Refused(TABLE);
+    };
+    let read = match read_message(message, settings, due) {
+        Ok(read) => read,
+        Err(number) => return Answer::Refused(number),
+    };
+    let mut store = Store { entries, marks: std::mem::take(marks), touched: None, met: Vec::new() };
+    let named = match &read {
+        Message::Prepare(tx) | Message::Log(tx, _) | Message::Decide(tx, _) => tx.stamp,
+        Message::Read { .. } => 0,
+    };
+    if store.entries.iter().filter(|entry| entry.body.stamp == named).count() > 1 {
+        met.push("a stamp held twice");
+    }
+    let answer = store.act(read, settings);
+    *marks = store.marks;
+    met.append(&mut store.met);
+    if let Some(place) = store.touched {
+        put_entry(&mut table[1 + place * ROW..1 + (place + 1) * ROW], &store.entries[place]);
+        table[0] = store.entries.len() as u8;
+    }
+    answer
+}
