@@ -5,3 +5,4 @@ pub mod Steps
 pub mod ByMark
 pub mod Bridge
 pub mod Traces
+pub mod Starts
