@@ -23,9 +23,9 @@ pub record Tracks (capacity : ℕ) (x : Kept) (y : Box) : Type 0 where
   pub taken : tableWrong capacity (x .table) ≡ 0
   pub same : boxIn (x .table) (x .marks) ≡ y
 
-step : (cf : Config) (x : Kept) (y : Box) (m : List ℕ) → Tracks (cf .capacity) x y → Tracks (cf .capacity) (leaves cf x m) (after cf y m)
+pub tracked : (cf : Config) (x : Kept) (y : Box) (m : List ℕ) → Tracks (cf .capacity) x y → Tracks (cf .capacity) (leaves cf x m) (after cf y m)
 unfolding leaves after boxAfter boxIn
-step cf x y m k =
+tracked cf x y m k =
     let t = x .table in
     let marks = x .marks in
     let o : outcome cf t marks m ≡ act cf (boxIn t marks) m = outcome-act cf t marks m (k .taken) in
@@ -46,7 +46,7 @@ module _ (f : ℕ) (start : ℕ → Kept) (capacity : ℕ → ℕ) (fresh : (i :
       go false q k = k
       go true q k =
           let c : e .capacity ≡ capacity i = own .0 ∙ ap capacity (eqb-true (e .box) i q) in
-          rw (← c) (step (configAt f e) (keptAt f start i es) (boxAt f i es) (e .message) (rw c k))
+          rw (← c) (tracked (configAt f e) (keptAt f start i es) (boxAt f i es) (e .message) (rw c k))
 
   pub alike : (es : List Event) → Own capacity es → (e : Event) → e .capacity ≡ capacity (e .box) → answered f start e es ≡ answerTo f e es
   unfolding answered answerTo

@@ -20,7 +20,7 @@ use terms::Refusal;
 use terms::Stamp;
 
 // 14 for f or the capacity.
-fn config_wrong(f: u64, capacity: u64) -> u8
+pub fn config_wrong(f: u64, capacity: u64) -> u8
     ensures { λ r. ⌜ r ≡ configWrong (config f capacity 0 0) ⌝ }
 {
     let group = terms::group_wrong(f);

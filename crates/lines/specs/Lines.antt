@@ -1,0 +1,145 @@
+-- 01, 'Bench program': "Each record prints number from 0, its mark (`??` if the mark is cut or not GP, CK, PR, LG, DC, RD), the answer."
+use Prim.Native.Nat.{ℕ, zero, suc, _+_, _-_, _*_, _/_, _%_, _≤_}
+use mathlib.Core.Path.{_≡_}
+use mathlib.Core.Bool.{Bool, _||_}
+use mathlib.Core.List.{List, [], _∷_, _++_}
+use lib.ListN.{length, take, drop}
+use lib.Dec.{ltb}
+use Rattle.terms.specs.Choice.{pick}
+use Rattle.terms.specs.Refusals.{numberOf}
+use Rattle.records.specs.Cutting.{markPR, markLG, markDC, markRD}
+use Rattle.records.specs.Messages.{isMark}
+use Rattle.rules.specs.Answers.{reasonNumber}
+use Rattle.terms.specs.declared.Decision.{Decision}
+use Rattle.terms.specs.declared.Decision.the-variants.{Commit as commit, Abort as abort}
+use Rattle.rules.specs.declared.Vote.{Vote}
+use Rattle.rules.specs.declared.Vote.the-variants.{None as unvoted, Waiting as waiting, Commit as voteCommit, Abort as voteAbort}
+use Rattle.rules.specs.declared.Answer.{Answer}
+use Rattle.rules.specs.declared.Answer.the-variants.{Voted, Decided, Logged, Done, Found, Refused}
+use Rattle.lines.specs.declared.Said.{Said}
+use Rattle.lines.specs.declared.Said.the-variants.{Taken, Answered}
+
+-- ---- numbers in decimal, as bytes in ASCII
+-- a number's digits, the first of them not 0 unless the number is; at most n digits
+unfoldable pub decimalIn : ℕ → ℕ → List ℕ
+decimalIn zero x = []
+decimalIn (suc n) x = pick (ltb x 10) ((48 + x) ∷ []) (decimalIn n (x / 10) ++ ((48 + x % 10) ∷ []))
+
+-- twenty digits hold every 64-bit number
+unfoldable pub decimal : ℕ → List ℕ
+decimal x = decimalIn 20 x
+
+-- the number that digits say, behind those that said n
+unfoldable pub value : ℕ → List ℕ → ℕ
+value n [] = n
+value n (d ∷ ds) = value (n * 10 + (d - 48)) ds
+
+-- ---- words, as bytes in ASCII
+abbrev pub blank : List ℕ
+blank = 32 ∷ []
+
+abbrev pub lineEnd : List ℕ
+lineEnd = 10 ∷ []
+
+-- "ok"
+abbrev pub okText : List ℕ
+okText = 111 ∷ 107 ∷ []
+
+-- "commit"
+abbrev pub commitText : List ℕ
+commitText = 99 ∷ 111 ∷ 109 ∷ 109 ∷ 105 ∷ 116 ∷ []
+
+-- "abort"
+abbrev pub abortText : List ℕ
+abortText = 97 ∷ 98 ∷ 111 ∷ 114 ∷ 116 ∷ []
+
+-- "abort "
+abbrev pub abortBlank : List ℕ
+abortBlank = 97 ∷ 98 ∷ 111 ∷ 114 ∷ 116 ∷ 32 ∷ []
+
+-- "wait"
+abbrev pub waitText : List ℕ
+waitText = 119 ∷ 97 ∷ 105 ∷ 116 ∷ []
+
+-- "none"
+abbrev pub noneText : List ℕ
+noneText = 110 ∷ 111 ∷ 110 ∷ 101 ∷ []
+
+-- "decided "
+abbrev pub decidedBlank : List ℕ
+decidedBlank = 100 ∷ 101 ∷ 99 ∷ 105 ∷ 100 ∷ 101 ∷ 100 ∷ 32 ∷ []
+
+-- "logged "
+abbrev pub loggedBlank : List ℕ
+loggedBlank = 108 ∷ 111 ∷ 103 ∷ 103 ∷ 101 ∷ 100 ∷ 32 ∷ []
+
+-- "done"
+abbrev pub doneText : List ℕ
+doneText = 100 ∷ 111 ∷ 110 ∷ 101 ∷ []
+
+-- "refused "
+abbrev pub refusedBlank : List ℕ
+refusedBlank = 114 ∷ 101 ∷ 102 ∷ 117 ∷ 115 ∷ 101 ∷ 100 ∷ 32 ∷ []
+
+-- ---- answers
+unfoldable pub decisionText : Decision → List ℕ
+decisionText commit = commitText
+decisionText abort = abortText
+
+-- "`commit`, `abort` and reason, `wait`"; no PR is answered with vote none
+unfoldable pub voteText : Vote → List ℕ
+voteText unvoted = noneText
+voteText waiting = waitText
+voteText voteCommit = commitText
+voteText (voteAbort r) = abortBlank ++ decimal (reasonNumber r)
+
+-- "four numbers for RD (committed version, value, undecided version, value)"
+unfoldable pub fourText : ℕ → ℕ → ℕ → ℕ → List ℕ
+fourText a b c d = decimal a ++ (blank ++ (decimal b ++ (blank ++ (decimal c ++ (blank ++ decimal d)))))
+
+-- "`decided`/`logged` and commit or abort, `done`, .. `refused` and number"
+unfoldable pub answerText : Answer → List ℕ
+answerText (Voted v) = voteText v
+answerText (Decided d) = decidedBlank ++ decisionText d
+answerText (Logged d) = loggedBlank ++ decisionText d
+answerText Done = doneText
+answerText (Found version value undecided its) = fourText version value undecided its
+answerText (Refused r) = refusedBlank ++ decimal (numberOf r)
+
+-- "`ok`": a GP or a CK that was taken
+unfoldable pub saidText : Said → List ℕ
+saidText Taken = okText
+saidText (Answered a) = answerText a
+
+-- ---- the mark
+abbrev pub markGP : List ℕ
+markGP = 71 ∷ 80 ∷ []
+
+abbrev pub markCK : List ℕ
+markCK = 67 ∷ 75 ∷ []
+
+-- "??"
+abbrev pub noMark : List ℕ
+noMark = 63 ∷ 63 ∷ []
+
+-- "GP, CK, PR, LG, DC, RD"
+unfoldable pub known : List ℕ → Bool
+known s = isMark markGP s || (isMark markCK s || (isMark markPR s || (isMark markLG s || (isMark markDC s || isMark markRD s))))
+
+-- "its mark (`??` if the mark is cut or not ..)"
+unfoldable pub markText : List ℕ → List ℕ
+markText s = pick (ltb (length s) 2) noMark (pick (known s) (take 2 s) noMark)
+
+-- ---- a line: number k, the mark of the bytes s, what was said
+unfoldable pub lineOf : ℕ → List ℕ → Said → List ℕ
+lineOf k s said = decimal k ++ (blank ++ (markText s ++ (blank ++ (saidText said ++ lineEnd))))
+
+-- text put down at a place, all else as it was
+unfoldable pub putAt : List ℕ → ℕ → List ℕ → List ℕ
+putAt out at text = take at out ++ (text ++ drop (at + length text) out)
+
+-- text of at most so many bytes was put down: the place behind it, the buffer afterwards
+pub record Puts (out : List ℕ) (at : ℕ) (text : List ℕ) (most : ℕ) (after : List ℕ) (behind : ℕ) : Type 0 where
+  pub place : behind ≡ at + length text
+  pub written : after ≡ putAt out at text
+  pub short : length text ≤ most

@@ -1,0 +1,172 @@
+// The bench's lines: a record's number, its mark, and what was said of it, as text put down in a lent buffer.
+ghost use mathlib.Core.Path.{_≡_};
+ghost use Prim.Native.Nat.{_+_, _≤_};
+ghost use lib.ListN.{length};
+ghost use Rattle.lines.specs.Lines.{decimal, decisionText, voteText, fourText, answerText, saidText, known, markText, lineOf, putAt, Puts};
+use rules::Answer;
+use rules::Vote;
+use terms::Decision;
+
+// What a record is told: that it was taken (a GP or a CK), or a box's answer.
+pub enum Said {
+    Taken,
+    Answered(Answer),
+}
+
+// Text, put down at a place; the place behind it.
+pub fn put_text(out: &mut [u8], at: usize, text: &[u8]) -> usize
+    requires { ⌜ at + length (now text) ≤ length (now out) ⌝ }
+    ensures { λ r. ⌜ (r ≡ at + length (now (text .entry))) × (now (out .exit) ≡ putAt (now (out .entry)) at (now (text .entry))) ⌝ }
+{
+    let mut i = 0;
+    while i < text.len() {
+        out[at + i] = text[i];
+        i += 1;
+    }
+    at + i
+}
+
+// A number in decimal: its digits from the last to the first, then put down together.
+fn put_decimal(out: &mut [u8], at: usize, x: u64) -> usize
+    requires { ⌜ at + 20 ≤ length (now out) ⌝ }
+    ensures { λ r. ⌜ Puts (now (out .entry)) at (decimal x) 20 (now (out .exit)) r ⌝ }
+{
+    let mut digits = [0u8; 20];
+    let mut i = 19;
+    let mut v = x;
+    while 9 < v {
+        digits[i] = 48 + (v % 10) as u8;
+        v /= 10;
+        i -= 1;
+    }
+    digits[i] = 48 + v as u8;
+    put_text(out, at, &digits[i..])
+}
+
+// Whether a record begins with one of the six marks.
+fn is_known(s: &[u8]) -> bool
+    requires { ⌜ 2 ≤ length (now s) ⌝ }
+    ensures { λ r. ⌜ r ≡ known (now (s .entry)) ⌝ }
+{
+    if reading::is_mark(s, b"GP") {
+        return true;
+    }
+    if reading::is_mark(s, b"CK") {
+        return true;
+    }
+    if reading::is_mark(s, b"PR") {
+        return true;
+    }
+    if reading::is_mark(s, b"LG") {
+        return true;
+    }
+    if reading::is_mark(s, b"DC") {
+        return true;
+    }
+    reading::is_mark(s, b"RD")
+}
+
+fn put_mark(out: &mut [u8], at: usize, s: &[u8]) -> usize
+    requires { ⌜ at + 2 ≤ length (now out) ⌝ }
+    ensures { λ r. ⌜ Puts (now (out .entry)) at (markText (now (s .entry))) 2 (now (out .exit)) r ⌝ }
+{
+    if s.len() < 2 {
+        return put_text(out, at, b"??");
+    }
+    if is_known(s) {
+        return put_text(out, at, &s[0..2]);
+    }
+    put_text(out, at, b"??")
+}
+
+fn put_decision(out: &mut [u8], at: usize, d: Decision) -> usize
+    requires { ⌜ at + 6 ≤ length (now out) ⌝ }
+    ensures { λ r. ⌜ Puts (now (out .entry)) at (decisionText d) 6 (now (out .exit)) r ⌝ }
+{
+    match d {
+        Decision::Commit => put_text(out, at, b"commit"),
+        Decision::Abort => put_text(out, at, b"abort"),
+    }
+}
+
+fn put_vote(out: &mut [u8], at: usize, v: Vote) -> usize
+    requires { ⌜ at + 26 ≤ length (now out) ⌝ }
+    ensures { λ r. ⌜ Puts (now (out .entry)) at (voteText v) 26 (now (out .exit)) r ⌝ }
+{
+    match v {
+        Vote::None => put_text(out, at, b"none"),
+        Vote::Waiting => put_text(out, at, b"wait"),
+        Vote::Commit => put_text(out, at, b"commit"),
+        Vote::Abort(why) => {
+            let a = put_text(out, at, b"abort ");
+            put_decimal(out, a, why.number() as u64)
+        }
+    }
+}
+
+// What an RD finds: four numbers.
+fn put_four(out: &mut [u8], at: usize, version: u64, value: u64, undecided: u64, its: u64) -> usize
+    requires { ⌜ at + 83 ≤ length (now out) ⌝ }
+    ensures { λ r. ⌜ Puts (now (out .entry)) at (fourText version value undecided its) 83 (now (out .exit)) r ⌝ }
+{
+    let a = put_decimal(out, at, version);
+    let b = put_text(out, a, b" ");
+    let c = put_decimal(out, b, value);
+    let d = put_text(out, c, b" ");
+    let e = put_decimal(out, d, undecided);
+    let f = put_text(out, e, b" ");
+    put_decimal(out, f, its)
+}
+
+fn put_answer(out: &mut [u8], at: usize, answer: Answer) -> usize
+    requires { ⌜ at + 83 ≤ length (now out) ⌝ }
+    ensures { λ r. ⌜ Puts (now (out .entry)) at (answerText answer) 83 (now (out .exit)) r ⌝ }
+{
+    match answer {
+        Answer::Voted(v) => put_vote(out, at, v),
+        Answer::Decided(d) => {
+            let a = put_text(out, at, b"decided ");
+            put_decision(out, a, d)
+        }
+        Answer::Logged(d) => {
+            let a = put_text(out, at, b"logged ");
+            put_decision(out, a, d)
+        }
+        Answer::Done => put_text(out, at, b"done"),
+        Answer::Found(version, value, undecided, its) => put_four(
+            out,
+            at,
+            version,
+            value,
+            undecided,
+            its,
+        ),
+        Answer::Refused(why) => {
+            let a = put_text(out, at, b"refused ");
+            put_decimal(out, a, why.number() as u64)
+        }
+    }
+}
+
+fn put_said(out: &mut [u8], at: usize, said: Said) -> usize
+    requires { ⌜ at + 83 ≤ length (now out) ⌝ }
+    ensures { λ r. ⌜ Puts (now (out .entry)) at (saidText said) 83 (now (out .exit)) r ⌝ }
+{
+    match said {
+        Said::Taken => put_text(out, at, b"ok"),
+        Said::Answered(answer) => put_answer(out, at, answer),
+    }
+}
+
+// A record's line; the place behind it. A line is at most 112 bytes.
+pub fn put_line(out: &mut [u8], at: usize, number: u64, s: &[u8], said: Said) -> usize
+    requires { ⌜ at + 112 ≤ length (now out) ⌝ }
+    ensures { λ r. ⌜ (r ≡ at + length (lineOf number (now (s .entry)) said)) × (now (out .exit) ≡ putAt (now (out .entry)) at (lineOf number (now (s .entry)) said)) × (length (lineOf number (now (s .entry)) said) ≤ 112) ⌝ }
+{
+    let a = put_decimal(out, at, number);
+    let b = put_text(out, a, b" ");
+    let c = put_mark(out, b, s);
+    let d = put_text(out, c, b" ");
+    let e = put_said(out, d, said);
+    put_text(out, e, b"\n")
+}

@@ -1,0 +1,4 @@
+pub mod Cuts
+pub mod Turns
+pub mod Running
+pub mod Printed
