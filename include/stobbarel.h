@@ -1,8 +1,8 @@
-/* Stobbarel: one box of a register, and the gateway's tally, for programs in C.
+/* Stobbarel: one box of a register, its records, and the gateway's tally, for programs in C.
  *
  * Every function is proved for every input: it reads and writes only what it is lent. The caller owes what the types say:
  * each pointer is to as many numbers as stand beside it, nothing lent for writing overlaps anything else lent, and no other
- * thread uses it during the call. An empty message may not be a null pointer.
+ * thread uses it during the call. No pointer is null, not even that of an empty message or buffer.
  *
  * A box is a table, read marks and four numbers (f, capacity, clock, delta). The caller keeps them; nothing is
  * kept here. A new table is 1 + 176 * capacity bytes, all 0; new read marks are 512 numbers, all 0.
@@ -31,6 +31,8 @@ extern "C" {
 
 #define STOBBAREL_ROW 176
 #define STOBBAREL_KEYS 512
+/* The longest record: an LG or a DC with eight reads, eight writes and 26 pairs. */
+#define STOBBAREL_LONGEST 231
 
 enum stobbarel_answer {
     STOBBAREL_VOTED = 1,
@@ -40,6 +42,29 @@ enum stobbarel_answer {
     STOBBAREL_FOUND = 5,
     STOBBAREL_REFUSED = 6
 };
+
+/* The numbers of the refusals, wherever one is told; 0 is none. */
+enum stobbarel_refusal {
+    STOBBAREL_SHORT = 1,         /* bytes end inside a record */
+    STOBBAREL_MARK = 2,          /* the mark is not the one due, or not PR, LG, DC, RD */
+    STOBBAREL_COUNT = 3,         /* r or w above 8, r + w = 0, list count 0 or above 26 */
+    STOBBAREL_TRAILING = 4,      /* bytes after the message */
+    STOBBAREL_RANGE = 5,         /* stamp 0, key above 511, box number n or more */
+    STOBBAREL_ORDER = 6,         /* keys or box numbers not strictly rising */
+    STOBBAREL_MISBEHAVIOUR = 7,  /* a read version at or above the own stamp */
+    STOBBAREL_CODE = 8,          /* kind, decision or answer not 1 or 2; kind 2 in an LG */
+    STOBBAREL_OTHER_BODY = 9,    /* another body is held under this stamp */
+    STOBBAREL_UNKNOWN = 10,      /* LG for a stamp not held */
+    STOBBAREL_TOO_FEW = 11,      /* the list misses its threshold */
+    STOBBAREL_CONTRADICTION = 12, /* the stamp is already decided otherwise */
+    STOBBAREL_FULL = 13,         /* a new entry is needed and the table is at capacity */
+    STOBBAREL_GROUP = 14,        /* f not 1 to 5, or capacity not 1 to 255 */
+    STOBBAREL_AHEAD = 15,        /* RD stamp above clock + delta */
+    STOBBAREL_TABLE = 16,        /* a lent table or tally sheet that is not in order */
+    STOBBAREL_BUFFER = 17        /* output buffer shorter than the record */
+};
+
+/* ---- a box */
 
 /* Any of the four messages, by its mark. */
 void stobbarel_receive(uint8_t *table, size_t table_len, uint64_t marks[512], uint64_t f, uint64_t capacity, uint64_t clock,
@@ -61,11 +86,74 @@ void stobbarel_decide(uint8_t *table, size_t table_len, uint64_t f, uint64_t cap
 void stobbarel_read(const uint8_t *table, size_t table_len, uint64_t marks[512], uint64_t f, uint64_t capacity,
                     uint64_t clock, uint64_t delta, const uint8_t *message, size_t message_len, uint64_t answer[5]);
 
-/* Reading alone: the refusal's number, or 0. Without a clock, so never 15. */
+/* ---- records read */
+
+/* Any of the four messages, read alone: 0, or the refusal's number (14, 1 to 8). Without a clock, so never 15. */
 uint8_t stobbarel_reading(uint64_t f, const uint8_t *message, size_t message_len);
+
+/* A TX by itself: 0, or the refusal's number (1 to 7). */
+uint8_t stobbarel_reading_tx(const uint8_t *bytes, size_t bytes_len);
+
+/* A VL by itself, of either kind: 0, or the refusal's number (14, 1 to 6, 8). */
+uint8_t stobbarel_reading_vl(uint64_t f, const uint8_t *bytes, size_t bytes_len);
+
+/* A message read alone, and its values: 0, or the refusal's number, as stobbarel_reading. The head's eight numbers:
+ *   mark       3 PR, 4 LG, 5 DC, 6 RD; 0 refused
+ *   stamp      of the transaction, or of an RD
+ *   r, w       how many reads and writes there are
+ *   key        of an RD
+ *   kind       1 votes, 2 logs
+ *   decision   1 commit, 2 abort
+ *   count      how many pairs the list has
+ * then the keys and versions read, the keys and values written, the boxes and their answers, in the places' order. What a
+ * message does not have, every place that is not used, and all of them where the message is refused, are 0. */
+uint8_t stobbarel_fields(uint64_t f, const uint8_t *message, size_t message_len, uint64_t head[8], uint16_t reads[8],
+                         uint64_t versions[8], uint16_t writes[8], uint64_t values[8], uint8_t numbers[26],
+                         uint8_t answers[26]);
 
 /* The length of the transaction's bytes inside a message, where they stand from byte 2 on; 0 for a refused message or an RD. */
 size_t stobbarel_part(uint64_t f, const uint8_t *message, size_t message_len);
+
+/* ---- records written
+ *
+ * A transaction is lent as its stamp, r and w, and four arrays of eight: the keys and versions read, the keys and values
+ * written. A list is lent as its kind (1 votes, 2 logs), decision (1 commit, 2 abort) and count, and two arrays of 26: the
+ * boxes and their answers (1 commit, 2 abort). The first r, w and count places are written; the others may be anything.
+ *
+ * Each answers 0, and the record stands at the front of out, `length` bytes of it, the bytes behind it being as they were; or
+ * the refusal's number, with length 0 and out unchanged. Any numbers may be lent: what is wrong with them is told by 14 (f,
+ * where one is taken), then 3 (counts), then 5, 6, 7 (the transaction), then 8, 5, 6 (the list), then 17 (out is too short). */
+
+/* A TX by itself. */
+uint8_t stobbarel_write_tx(uint64_t stamp, size_t r, size_t w, const uint16_t reads[8], const uint64_t versions[8],
+                           const uint16_t writes[8], const uint64_t values[8], uint8_t *out, size_t out_len, size_t *length);
+
+/* A VL by itself, of either kind. */
+uint8_t stobbarel_write_vl(uint64_t f, uint8_t kind, uint8_t decision, size_t count, const uint8_t numbers[26],
+                           const uint8_t answers[26], uint8_t *out, size_t out_len, size_t *length);
+
+/* PR. */
+uint8_t stobbarel_write_pr(uint64_t stamp, size_t r, size_t w, const uint16_t reads[8], const uint64_t versions[8],
+                           const uint16_t writes[8], const uint64_t values[8], uint8_t *out, size_t out_len, size_t *length);
+
+/* LG: its list is of votes, kind 1. */
+uint8_t stobbarel_write_lg(uint64_t f, uint64_t stamp, size_t r, size_t w, const uint16_t reads[8], const uint64_t versions[8],
+                           const uint16_t writes[8], const uint64_t values[8], uint8_t kind, uint8_t decision, size_t count,
+                           const uint8_t numbers[26], const uint8_t answers[26], uint8_t *out, size_t out_len, size_t *length);
+
+/* DC. */
+uint8_t stobbarel_write_dc(uint64_t f, uint64_t stamp, size_t r, size_t w, const uint16_t reads[8], const uint64_t versions[8],
+                           const uint16_t writes[8], const uint64_t values[8], uint8_t kind, uint8_t decision, size_t count,
+                           const uint8_t numbers[26], const uint8_t answers[26], uint8_t *out, size_t out_len, size_t *length);
+
+/* RD: 12 bytes; 5 or 17. */
+uint8_t stobbarel_write_rd(uint16_t key, uint64_t stamp, uint8_t *out, size_t out_len, size_t *length);
+
+/* ---- a gateway */
+
+/* The number of boxes, then how many answers are needed: commit list, abort list, commit proof and abort proof from votes,
+ * proof from logs. 0; or 14, out being unchanged. */
+uint8_t stobbarel_thresholds(uint64_t f, uint64_t out[6]);
 
 /* The gateway's tally: a sheet of one kind (1 votes, 2 logs) takes a box's answer (1 commit, 2 abort). Bit b of a mask says
  * that box b gave this answer; a new sheet's masks are 0. The reply is five numbers:

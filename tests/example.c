@@ -1,4 +1,5 @@
-/* The paper's bench example by way of the C interface: 50 writes key 3, 60 reads it, an RD shows it. Prints three lines. */
+/* The paper's bench example by way of the C interface: 50 writes key 3, 60 reads it, an RD shows it; then the tally and the
+ * thresholds. One message is written by the engine, two are bytes. */
 #include <stdio.h>
 
 #include "../include/stobbarel.h"
@@ -13,16 +14,23 @@ static void send(const uint8_t *message, size_t length) {
 }
 
 int main(void) {
-    const uint8_t write[] = {'P', 'R', 'T', 'X', 0, 1, 50, 0, 0, 0, 0, 0, 0, 0, 3, 0, 7, 0, 0, 0, 0, 0, 0, 0};
+    const uint16_t none[8] = {0}, written[8] = {3};
+    const uint64_t never[8] = {0}, values[8] = {7};
+    uint8_t write[STOBBAREL_LONGEST];
+    size_t length;
     const uint8_t reader[] = {'P', 'R', 'T', 'X', 1, 0, 60, 0, 0, 0, 0, 0, 0, 0, 3, 0, 50, 0, 0, 0, 0, 0, 0, 0};
     const uint8_t read[] = {'R', 'D', 3, 0, 60, 0, 0, 0, 0, 0, 0, 0};
     uint32_t commits = 0, aborts = 0;
     uint8_t reply[5];
-    send(write, sizeof write);
+    uint64_t needed[6];
+    if (stobbarel_write_pr(50, 0, 1, none, never, written, values, write, sizeof write, &length) != 0) return 1;
+    send(write, length);
     send(reader, sizeof reader);
     send(read, sizeof read);
     for (uint64_t b = 0; b < 4; b++) stobbarel_tally(1, &commits, &aborts, 1, b, 1, reply);
-    printf("%d %d %d %d %d, %d %d\n", reply[0], reply[1], reply[2], reply[3], reply[4], stobbarel_reading(1, write, sizeof write),
-           (int)stobbarel_part(1, write, sizeof write));
+    printf("%d %d %d %d %d, %d %d\n", reply[0], reply[1], reply[2], reply[3], reply[4], stobbarel_reading(1, write, length),
+           (int)stobbarel_part(1, write, length));
+    if (stobbarel_thresholds(1, needed) != 0) return 1;
+    printf("%d boxes: %d %d %d %d %d\n", (int)needed[0], (int)needed[1], (int)needed[2], (int)needed[3], (int)needed[4], (int)needed[5]);
     return 0;
 }

@@ -2,19 +2,8 @@
 //! δ = 10, clock 100, capacity 8; each starts empty.
 
 use crate::engine::{self, Entrance};
-use crate::model::{transaction_bytes, Answer, Decision, Settings, Transaction, THRESHOLDS};
-
-fn tx(stamp: u64, reads: &[(u16, u64)], writes: &[(u16, u64)]) -> Vec<u8> {
-    transaction_bytes(&Transaction { mark: *b"TX", stamp, reads: reads.to_vec(), writes: writes.to_vec() })
-}
-
-fn pr(tx: &[u8]) -> Vec<u8> {
-    [b"PR", tx].concat()
-}
-
-fn rd(key: u16, stamp: u64) -> Vec<u8> {
-    [&b"RD"[..], &key.to_le_bytes(), &stamp.to_le_bytes()].concat()
-}
+use crate::messages::{pr, rd, tx};
+use crate::model::{Answer, Decision, Settings, THRESHOLDS};
 
 /// An LG or DC whose list has the first so many boxes, each with the named decision.
 fn listed(mark: &[u8; 2], tx: &[u8], kind: u8, decision: u8, count: usize) -> Vec<u8> {
@@ -26,7 +15,7 @@ fn listed(mark: &[u8; 2], tx: &[u8], kind: u8, decision: u8, count: usize) -> Ve
 }
 
 /// Case number, messages and the answers due.
-fn cases(f: u64) -> Vec<(u32, Vec<(Vec<u8>, Answer)>)> {
+pub fn cases(f: u64) -> Vec<(u32, Vec<(Vec<u8>, Answer)>)> {
     let [commit_list, abort_list, commit_proof, abort_proof, log_proof] = THRESHOLDS[f as usize - 1];
     let w50 = tx(50, &[], &[(3, 7)]);
     let other50 = tx(50, &[], &[(4, 7)]);

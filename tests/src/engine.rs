@@ -1,6 +1,6 @@
 //! The engine's C functions, and one call of them on copies between guards.
 
-use crate::model::{Answer, Decision, Reply, Settings, Sheet};
+use crate::model::{Answer, Decision, Draft, ListDraft, Record, Reply, Settings, Sheet};
 
 #[allow(improper_ctypes)]
 extern "C" {
@@ -11,6 +11,16 @@ extern "C" {
     fn stobbarel_reading(f: u64, message: *const u8, message_len: usize) -> u8;
     fn stobbarel_part(f: u64, message: *const u8, message_len: usize) -> usize;
     fn stobbarel_tally(kind: u8, commits: *mut u32, aborts: *mut u32, f: u64, number: u64, answer: u64, reply: *mut u8);
+    fn stobbarel_reading_tx(bytes: *const u8, bytes_len: usize) -> u8;
+    fn stobbarel_reading_vl(f: u64, bytes: *const u8, bytes_len: usize) -> u8;
+    fn stobbarel_fields(f: u64, message: *const u8, message_len: usize, head: *mut u64, reads: *mut u16, versions: *mut u64, writes: *mut u16, values: *mut u64, numbers: *mut u8, answers: *mut u8) -> u8;
+    fn stobbarel_write_tx(stamp: u64, r: usize, w: usize, reads: *const u16, versions: *const u64, writes: *const u16, values: *const u64, out: *mut u8, out_len: usize, length: *mut usize) -> u8;
+    fn stobbarel_write_vl(f: u64, kind: u8, decision: u8, count: usize, numbers: *const u8, answers: *const u8, out: *mut u8, out_len: usize, length: *mut usize) -> u8;
+    fn stobbarel_write_pr(stamp: u64, r: usize, w: usize, reads: *const u16, versions: *const u64, writes: *const u16, values: *const u64, out: *mut u8, out_len: usize, length: *mut usize) -> u8;
+    fn stobbarel_write_lg(f: u64, stamp: u64, r: usize, w: usize, reads: *const u16, versions: *const u64, writes: *const u16, values: *const u64, kind: u8, decision: u8, count: usize, numbers: *const u8, answers: *const u8, out: *mut u8, out_len: usize, length: *mut usize) -> u8;
+    fn stobbarel_write_dc(f: u64, stamp: u64, r: usize, w: usize, reads: *const u16, versions: *const u64, writes: *const u16, values: *const u64, kind: u8, decision: u8, count: usize, numbers: *const u8, answers: *const u8, out: *mut u8, out_len: usize, length: *mut usize) -> u8;
+    fn stobbarel_write_rd(key: u16, stamp: u64, out: *mut u8, out_len: usize, length: *mut usize) -> u8;
+    fn stobbarel_thresholds(f: u64, out: *mut u64) -> u8;
     fn stobbarel_read(table: *const u8, table_len: usize, marks: *mut u64, f: u64, capacity: u64, clock: u64, delta: u64, message: *const u8, message_len: usize, out: *mut u64);
 }
 
@@ -24,6 +34,18 @@ pub enum Entrance {
 }
 
 impl Entrance {
+    pub const ALL: [Entrance; 5] = [Entrance::Receive, Entrance::Prepare, Entrance::Log, Entrance::Decide, Entrance::Read];
+
+    pub fn name(self) -> &'static str {
+        match self {
+            Entrance::Receive => "by receive",
+            Entrance::Prepare => "by prepare",
+            Entrance::Log => "by log",
+            Entrance::Decide => "by decide",
+            Entrance::Read => "by read",
+        }
+    }
+
     pub fn due(self) -> &'static [&'static [u8; 2]] {
         match self {
             Entrance::Receive => &[b"PR", b"LG", b"DC", b"RD"],
@@ -120,4 +142,82 @@ pub fn tally(sheet: &mut Sheet, f: u64, number: u64, answer: u64) -> Option<Repl
         [4, number, 0, 0, 0] => Some(Reply::Refused(number)),
         _ => None,
     }
+}
+
+fn split<A: Copy + Default, B: Copy + Default, const N: usize>(pairs: &[(A, B); N]) -> ([A; N], [B; N]) {
+    (pairs.map(|pair| pair.0), pairs.map(|pair| pair.1))
+}
+
+/// One writer on a copy of the buffer between guards, which becomes what the engine left: the number and the length.
+pub fn write(record: &Record, f: u64, out: &mut Vec<u8>) -> Result<(u8, usize), String> {
+    let mut room = vec![0xa5u8; out.len() + 2 * GUARD];
+    room[GUARD..GUARD + out.len()].copy_from_slice(out);
+    let mut length = usize::MAX;
+    let none = (Draft::default(), ListDraft::default());
+    let (draft, list) = match record {
+        Record::Tx(draft) | Record::Pr(draft) => (*draft, none.1),
+        Record::Vl(list) => (none.0, *list),
+        Record::Lg(draft, list) | Record::Dc(draft, list) => (*draft, *list),
+        Record::Rd { .. } => none,
+    };
+    let lent = (split(&draft.reads), split(&draft.writes), split(&list.pairs));
+    let copy = lent;
+    let ((k, v), (l, u), (b, a)) = (&lent.0, &lent.1, &lent.2);
+    let (k, v, l, u) = (k.as_ptr(), v.as_ptr(), l.as_ptr(), u.as_ptr());
+    let (b, a, o, n) = (b.as_ptr(), a.as_ptr(), room[GUARD..].as_mut_ptr(), out.len());
+    let (s, r, w) = (draft.stamp, draft.r, draft.w);
+    // Each pointer is to as many numbers as the function takes, and they do not overlap.
+    let number = unsafe {
+        match record {
+            Record::Tx(_) => stobbarel_write_tx(s, r, w, k, v, l, u, o, n, &mut length),
+            Record::Vl(_) => stobbarel_write_vl(f, list.kind, list.decision, list.count, b, a, o, n, &mut length),
+            Record::Pr(_) => stobbarel_write_pr(s, r, w, k, v, l, u, o, n, &mut length),
+            Record::Lg(..) => stobbarel_write_lg(f, s, r, w, k, v, l, u, list.kind, list.decision, list.count, b, a, o, n, &mut length),
+            Record::Dc(..) => stobbarel_write_dc(f, s, r, w, k, v, l, u, list.kind, list.decision, list.count, b, a, o, n, &mut length),
+            Record::Rd { key, stamp } => stobbarel_write_rd(*key, *stamp, o, n, &mut length),
+        }
+    };
+    if room[..GUARD].iter().chain(&room[GUARD + out.len()..]).any(|byte| *byte != 0xa5) {
+        return Err("bytes outside the buffer were written".into());
+    }
+    if lent != copy {
+        return Err("a record's values were written".into());
+    }
+    out.copy_from_slice(&room[GUARD..GUARD + n]);
+    Ok((number, length))
+}
+
+/// A TX by itself: the refusal's number, or 0.
+pub fn reading_tx(bytes: &[u8]) -> u8 {
+    unsafe { stobbarel_reading_tx(bytes.as_ptr(), bytes.len()) }
+}
+
+/// A VL by itself.
+pub fn reading_vl(bytes: &[u8], f: u64) -> u8 {
+    unsafe { stobbarel_reading_vl(f, bytes.as_ptr(), bytes.len()) }
+}
+
+/// A message's head and its values as drafts, over what stood there before; the refusal's number, or 0.
+pub fn fields(message: &[u8], f: u64) -> (u8, [u64; 8], Draft, ListDraft) {
+    let (mut head, mut reads, mut versions, mut writes, mut values) = ([99; 8], [99; 8], [99; 8], [99; 8], [99; 8]);
+    let (mut numbers, mut answers) = ([99; 26], [99; 26]);
+    let number = unsafe {
+        stobbarel_fields(f, message.as_ptr(), message.len(), head.as_mut_ptr(), reads.as_mut_ptr(), versions.as_mut_ptr(), writes.as_mut_ptr(), values.as_mut_ptr(), numbers.as_mut_ptr(), answers.as_mut_ptr())
+    };
+    let draft = Draft {
+        stamp: head[1],
+        r: head[2] as usize,
+        w: head[3] as usize,
+        reads: std::array::from_fn(|i| (reads[i], versions[i])),
+        writes: std::array::from_fn(|i| (writes[i], values[i])),
+    };
+    let list = ListDraft { kind: head[5] as u8, decision: head[6] as u8, count: head[7] as usize, pairs: std::array::from_fn(|i| (numbers[i], answers[i])) };
+    (number, head, draft, list)
+}
+
+/// n and the five thresholds, over what stood there before; 14 or 0.
+pub fn thresholds(f: u64, before: [u64; 6]) -> (u8, [u64; 6]) {
+    let mut out = before;
+    let number = unsafe { stobbarel_thresholds(f, out.as_mut_ptr()) };
+    (number, out)
 }

@@ -1,5 +1,6 @@
 //! A box as the paper describes it, in ordinary Rust: records read from bytes, a list of entries, and the four messages.
 //! It is written from the paper alone, and shares nothing with the engine that it is held against.
+//! `self.rules.hold(..)` marks the rules that broken.rs breaks, one at a time; in the paper's box all of them hold.
 
 /// For each f from 1 on: commit list, abort list, commit proof, abort proof, proof from logs.
 pub const THRESHOLDS: [[usize; 5]; 5] = [
@@ -9,6 +10,85 @@ pub const THRESHOLDS: [[usize; 5]; 5] = [
     [13, 5, 21, 13, 17],
     [16, 6, 26, 16, 21],
 ];
+
+/// A rule that can be broken, and what a box does then.
+#[derive(Clone, Copy, Debug, PartialEq, Eq)]
+pub enum Rule {
+    /// One of the five thresholds, by its place in the row: one lower.
+    Threshold(usize),
+    /// The proof from logs: 3f logs.
+    MostLogs,
+    /// 6 of a list: it may name a box twice, and both answers count.
+    NamedOnce,
+    /// 7: a version above the own stamp may be read.
+    PastReads,
+    /// Entries that answer otherwise than the list's decision are counted too.
+    NamedAnswer,
+    /// One of the five tests: left out.
+    Test(u8),
+    /// Test 5: a read mark equal to the stamp is a clash.
+    EqualMark,
+    /// One of the three kinds of live entries: dropped from the live set.
+    CommittedLives,
+    VotedLives,
+    WaitingLives,
+    /// Waiting rule: a version decided abort does not give reason 6.
+    AbortedVersion,
+    /// Waiting rule: a committed version is fine whether its body writes the key or not.
+    KeyWritten,
+    /// Waiting rule: an undecided version is not waited for.
+    UndecidedWaits,
+    /// PR: another body is answered like the held one.
+    SameBody,
+    /// PR: a vote cast is cast anew.
+    VoteStays,
+    /// LG: a second valid list is logged afresh.
+    FirstLogStays,
+    /// A full table: the new entry takes the first one's place.
+    EntriesStay,
+}
+
+/// The rules of a box, less the broken ones.
+#[derive(Clone, Copy, Debug)]
+pub struct Rules {
+    pub broken: &'static [Rule],
+}
+
+pub const PAPER: Rules = Rules { broken: &[] };
+
+impl Rules {
+    fn hold(self, rule: Rule) -> bool {
+        // where the model is timed, no rule can be broken, and asking costs nothing
+        cfg!(feature = "paper") || !self.broken.contains(&rule)
+    }
+
+    /// The row of five thresholds.
+    pub fn row(self, f: u64) -> [usize; 5] {
+        let mut row = THRESHOLDS[f as usize - 1];
+        for (place, threshold) in row.iter_mut().enumerate() {
+            *threshold -= usize::from(!self.hold(Rule::Threshold(place)));
+        }
+        if !self.hold(Rule::MostLogs) {
+            row[4] = 3 * f as usize;
+        }
+        row
+    }
+
+    /// The threshold of a proof.
+    pub fn proof(self, f: u64, kind: Kind, decision: Decision) -> usize {
+        let row = self.row(f);
+        match (kind, decision) {
+            (Kind::Votes, Decision::Commit) => row[2],
+            (Kind::Votes, Decision::Abort) => row[3],
+            (Kind::Logs, _) => row[4],
+        }
+    }
+
+    /// Only entries with the list's decision are counted.
+    fn counted(self, list: &List) -> usize {
+        list.answers.iter().filter(|(_, answer)| *answer == list.decision || !self.hold(Rule::NamedAnswer)).count()
+    }
+}
 
 #[derive(Clone, Copy, Debug, PartialEq, Eq)]
 pub enum Decision {
@@ -54,7 +134,7 @@ pub enum Message {
     Read { key: u16, stamp: u64 },
 }
 
-#[derive(Clone, Debug)]
+#[derive(Clone, Debug, PartialEq, Eq)]
 pub struct Entry {
     pub body: Transaction,
     pub vote: Vote,
@@ -96,10 +176,6 @@ impl Settings {
     fn ahead(&self, stamp: u64) -> bool {
         u128::from(stamp) > u128::from(self.clock) + u128::from(self.delta)
     }
-
-    fn row(&self) -> [usize; 5] {
-        THRESHOLDS[self.f as usize - 1]
-    }
 }
 
 // ---- records
@@ -120,6 +196,7 @@ const FULL: u8 = 13;
 const GROUP: u8 = 14;
 const AHEAD: u8 = 15;
 const TABLE: u8 = 16;
+const BUFFER: u8 = 17;
 
 fn little(bytes: &[u8]) -> u64 {
     bytes.iter().rev().fold(0, |sum, byte| sum << 8 | u64::from(*byte))
@@ -192,7 +269,7 @@ fn keys(of: &[(u16, u64)]) -> Vec<u16> {
 }
 
 /// All of a transaction for 5, then 6, then 7.
-fn judge_transaction(tx: &Transaction) -> Result<(), u8> {
+fn judge_transaction(tx: &Transaction, rules: Rules) -> Result<(), u8> {
     let (read, written) = (keys(&tx.reads), keys(&tx.writes));
     if tx.stamp == 0 || read.iter().chain(&written).any(|key| *key > 511) {
         return Err(RANGE);
@@ -200,7 +277,7 @@ fn judge_transaction(tx: &Transaction) -> Result<(), u8> {
     if !rises(&read) || !rises(&written) {
         return Err(ORDER);
     }
-    if tx.reads.iter().any(|(_, version)| *version >= tx.stamp) {
+    if rules.hold(Rule::PastReads) && tx.reads.iter().any(|(_, version)| *version >= tx.stamp) {
         return Err(MISBEHAVIOUR);
     }
     Ok(())
@@ -215,7 +292,7 @@ fn decision(code: u8) -> Result<Decision, u8> {
 }
 
 /// A list for 8, then 5, then 6.
-fn judge_list(cut: &CutList, settings: &Settings, logs_allowed: bool) -> Result<List, u8> {
+fn judge_list(cut: &CutList, settings: &Settings, logs_allowed: bool, rules: Rules) -> Result<List, u8> {
     let kind = match cut.kind {
         1 => Kind::Votes,
         2 if logs_allowed => Kind::Logs,
@@ -229,14 +306,29 @@ fn judge_list(cut: &CutList, settings: &Settings, logs_allowed: bool) -> Result<
     if answers.iter().any(|(number, _)| u64::from(*number) >= settings.boxes()) {
         return Err(RANGE);
     }
-    if !rises(&answers.iter().map(|pair| pair.0).collect::<Vec<_>>()) {
+    if rules.hold(Rule::NamedOnce) && !rises(&answers.iter().map(|pair| pair.0).collect::<Vec<_>>()) {
         return Err(ORDER);
     }
     Ok(List { kind, decision: named, answers })
 }
 
+/// How long the message is that these bytes begin with, whatever follows it; or why it cannot be cut.
+pub fn cut(bytes: &[u8]) -> Result<usize, u8> {
+    let mut left = Bytes(bytes);
+    let mark = left.mark(&[b"PR", b"LG", b"DC", b"RD"])?;
+    if &mark == b"RD" {
+        left.next(10)?;
+    } else {
+        cut_transaction(&mut left)?;
+    }
+    if &mark == b"LG" || &mark == b"DC" {
+        cut_list(&mut left)?;
+    }
+    Ok(bytes.len() - left.0.len())
+}
+
 /// A message: the whole cut first, then 4, then the contents.
-pub fn read_message(message: &[u8], settings: &Settings, due: &[&[u8; 2]]) -> Result<Message, u8> {
+pub fn read_message(message: &[u8], settings: &Settings, due: &[&[u8; 2]], rules: Rules) -> Result<Message, u8> {
     let mut bytes = Bytes(message);
     let mark = bytes.mark(due)?;
     if &mark == b"RD" {
@@ -258,15 +350,15 @@ pub fn read_message(message: &[u8], settings: &Settings, due: &[&[u8; 2]]) -> Re
     if !bytes.0.is_empty() {
         return Err(TRAILING);
     }
-    judge_transaction(&tx)?;
+    judge_transaction(&tx, rules)?;
     match list {
         None => Ok(Message::Prepare(tx)),
         Some(cut) if &mark == b"LG" => {
-            let list = judge_list(&cut, settings, false)?;
+            let list = judge_list(&cut, settings, false, rules)?;
             Ok(Message::Log(tx, list))
         }
         Some(cut) => {
-            let list = judge_list(&cut, settings, true)?;
+            let list = judge_list(&cut, settings, true, rules)?;
             Ok(Message::Decide(tx, list))
         }
     }
@@ -295,6 +387,7 @@ impl Entry {
 
 /// A lent table's entries and its read marks, for the length of one call.
 pub struct Store {
+    pub rules: Rules,
     pub entries: Vec<Entry>,
     pub marks: Vec<u64>,
     /// The entry that the call stored or changed.
@@ -336,41 +429,59 @@ impl Store {
         self.entries.iter().position(|entry| entry.body.stamp == stamp)
     }
 
+    fn lives(&self, entry: &Entry) -> bool {
+        let rule = match (entry.decision, entry.vote) {
+            (Some(_), _) => Rule::CommittedLives,
+            (None, Vote::Waiting) => Rule::WaitingLives,
+            (None, _) => Rule::VotedLives,
+        };
+        entry.live() && self.rules.hold(rule)
+    }
+
     fn live(&self) -> impl Iterator<Item = &Entry> {
-        self.entries.iter().filter(|entry| entry.live())
+        self.entries.iter().filter(|entry| self.lives(entry))
+    }
+
+    /// Test 2: a nonzero version that is not a live entry writing that key.
+    fn names_no_version(&self, tx: &Transaction) -> bool {
+        tx.reads.iter().filter(|(_, version)| *version != 0).any(|(key, version)| {
+            let named = self.place(*version).map(|place| &self.entries[place]);
+            !named.is_some_and(|entry| self.lives(entry) && entry.body.writes_key(*key))
+        })
+    }
+
+    /// Test 3: a live entry writes a key read here, above the version read and below this stamp.
+    fn misses_a_write(&self, tx: &Transaction) -> bool {
+        tx.reads.iter().any(|(key, version)| {
+            let missed = |entry: &Entry| entry.body.stamp > *version && entry.body.stamp < tx.stamp;
+            self.live().any(|entry| missed(entry) && entry.body.writes_key(*key))
+        })
+    }
+
+    /// Test 4: a live entry with a higher stamp read a key written here, below this stamp.
+    fn slips_under_a_read(&self, tx: &Transaction) -> bool {
+        tx.writes.iter().any(|(key, _)| {
+            let mut above = self.live().filter(|entry| entry.body.stamp > tx.stamp);
+            above.any(|entry| entry.body.reads.iter().any(|(read, version)| read == key && *version < tx.stamp))
+        })
+    }
+
+    /// Test 5: a written key's read mark is above this stamp.
+    fn is_marked(&self, tx: &Transaction) -> bool {
+        let clash = |mark: u64| mark > tx.stamp || (mark == tx.stamp && !self.rules.hold(Rule::EqualMark));
+        tx.writes.iter().any(|(key, _)| clash(self.marks[*key as usize]))
     }
 
     /// The number of the first failing test.
     fn failing_test(&self, tx: &Transaction, settings: &Settings) -> Option<u8> {
-        if settings.ahead(tx.stamp) {
-            return Some(1);
-        }
-        for (key, version) in &tx.reads {
-            if *version == 0 {
-                continue;
-            }
-            let named = self.place(*version).map(|place| &self.entries[place]);
-            if !named.is_some_and(|entry| entry.live() && entry.body.writes_key(*key)) {
-                return Some(2);
-            }
-        }
-        for (key, version) in &tx.reads {
-            let missed = |entry: &Entry| entry.body.stamp > *version && entry.body.stamp < tx.stamp;
-            if self.live().any(|entry| entry.body.writes_key(*key) && missed(entry)) {
-                return Some(3);
-            }
-        }
-        for (key, _) in &tx.writes {
-            for entry in self.live().filter(|entry| entry.body.stamp > tx.stamp) {
-                if entry.body.reads.iter().any(|(read, version)| read == key && *version < tx.stamp) {
-                    return Some(4);
-                }
-            }
-        }
-        if tx.writes.iter().any(|(key, _)| self.marks[*key as usize] > tx.stamp) {
-            return Some(5);
-        }
-        None
+        let fails = |number| match number {
+            1 => settings.ahead(tx.stamp),
+            2 => self.names_no_version(tx),
+            3 => self.misses_a_write(tx),
+            4 => self.slips_under_a_read(tx),
+            _ => self.is_marked(tx),
+        };
+        (1..=5).find(|number| self.rules.hold(Rule::Test(*number)) && fails(*number))
     }
 
     fn waiting_rule(&mut self, tx: &Transaction) -> Vote {
@@ -382,20 +493,20 @@ impl Store {
             };
             let entry = &self.entries[place];
             match entry.decision {
-                Some(Decision::Abort) => {
+                Some(Decision::Abort) if self.rules.hold(Rule::AbortedVersion) => {
                     self.met.push("waiting rule: decided abort");
                     return Vote::Abort(6);
                 }
-                Some(Decision::Commit) if !entry.body.writes_key(*key) => {
+                Some(Decision::Commit) if !entry.body.writes_key(*key) && self.rules.hold(Rule::KeyWritten) => {
                     self.met.push("waiting rule: committed by a body that lacks the key");
                     return Vote::Abort(6);
                 }
-                Some(Decision::Commit) => {}
+                Some(_) => {}
                 None => {
                     if matches!(entry.vote, Vote::Abort(_)) {
                         self.met.push("waiting rule: waits for an entry with an abort vote");
                     }
-                    waits = true
+                    waits = self.rules.hold(Rule::UndecidedWaits);
                 }
             }
         }
@@ -422,21 +533,35 @@ impl Store {
         }
     }
 
+    fn full(&self, settings: &Settings) -> bool {
+        self.entries.len() as u64 >= settings.capacity && self.rules.hold(Rule::EntriesStay)
+    }
+
+    /// A new entry stands behind the others.
+    fn store(&mut self, entry: Entry, settings: &Settings) {
+        if self.entries.len() as u64 >= settings.capacity {
+            self.touched = Some(0);
+            self.entries[0] = entry;
+            return;
+        }
+        self.touched = Some(self.entries.len());
+        self.entries.push(entry);
+    }
+
     fn prepare(&mut self, tx: Transaction, settings: &Settings) -> Answer {
         let Some(place) = self.place(tx.stamp) else {
-            if self.entries.len() as u64 >= settings.capacity {
+            if self.full(settings) {
                 return Answer::Refused(FULL);
             }
             let vote = self.first_vote(&tx, settings);
             if matches!(vote, Vote::Commit | Vote::Waiting) {
                 self.met.push("PR new, no test fails");
             }
-            self.touched = Some(self.entries.len());
-            self.entries.push(Entry { body: tx, vote, log: None, decision: None });
+            self.store(Entry { body: tx, vote, log: None, decision: None }, settings);
             return Self::told(vote);
         };
-        let held = self.entries[place].clone();
-        if held.body != tx {
+        let held = &self.entries[place];
+        if held.body != tx && self.rules.hold(Rule::SameBody) {
             if held.decision.is_some() {
                 self.met.push("PR 9, decided entry");
             }
@@ -445,13 +570,14 @@ impl Store {
         if let Some(decided) = held.decision {
             return Answer::Decided(decided);
         }
-        let vote = match held.vote {
-            Vote::Commit | Vote::Abort(_) => held.vote,
+        let (cast, log) = (held.vote, held.log);
+        let vote = match cast {
+            Vote::Commit | Vote::Abort(_) if self.rules.hold(Rule::VoteStays) => cast,
             Vote::Waiting => self.waiting_rule(&tx),
-            Vote::None => self.first_vote(&tx, settings),
+            _ => self.first_vote(&tx, settings),
         };
-        self.met.push(match (held.vote, vote) {
-            (Vote::None, _) if held.log.is_some() => "PR in place of vote none, log kept",
+        self.met.push(match (cast, vote) {
+            (Vote::None, _) if log.is_some() => "PR in place of vote none, log kept",
             (Vote::None, _) => "PR in place of vote none",
             (Vote::Waiting, Vote::Waiting) => "PR again, waiting: waits on",
             (Vote::Waiting, Vote::Commit) => "PR again, waiting: commit",
@@ -475,7 +601,7 @@ impl Store {
         if let Some(decided) = held.decision {
             return Answer::Decided(decided);
         }
-        if let Some(logged) = held.log {
+        if let Some(logged) = held.log.filter(|_| self.rules.hold(Rule::FirstLogStays)) {
             if logged != list.decision {
                 self.met.push("LG again, other list");
             }
@@ -484,12 +610,12 @@ impl Store {
         if matches!(held.vote, Vote::Abort(_)) {
             self.met.push("LG with an abort vote cast");
         }
-        let row = settings.row();
+        let row = self.rules.row(settings.f);
         let needed = match list.decision {
             Decision::Commit => row[0],
             Decision::Abort => row[1],
         };
-        if counted(&list) < needed {
+        if self.rules.counted(&list) < needed {
             return Answer::Refused(TOO_FEW);
         }
         held.log = Some(list.decision);
@@ -498,22 +624,15 @@ impl Store {
     }
 
     fn decide(&mut self, tx: Transaction, list: List, settings: &Settings) -> Answer {
-        let row = settings.row();
-        let needed = match (list.kind, list.decision) {
-            (Kind::Votes, Decision::Commit) => row[2],
-            (Kind::Votes, Decision::Abort) => row[3],
-            (Kind::Logs, _) => row[4],
-        };
-        if counted(&list) < needed {
+        if self.rules.counted(&list) < self.rules.proof(settings.f, list.kind, list.decision) {
             return Answer::Refused(TOO_FEW);
         }
         let Some(place) = self.place(tx.stamp) else {
-            if self.entries.len() as u64 >= settings.capacity {
+            if self.full(settings) {
                 return Answer::Refused(FULL);
             }
             self.met.push("DC new");
-            self.touched = Some(self.entries.len());
-            self.entries.push(Entry { body: tx, vote: Vote::None, log: None, decision: Some(list.decision) });
+            self.store(Entry { body: tx, vote: Vote::None, log: None, decision: Some(list.decision) }, settings);
             return Answer::Done;
         };
         let held = &mut self.entries[place];
@@ -563,11 +682,11 @@ impl Store {
         *mark = stamp.max(*mark);
         Answer::Found {
             committed: self.newest(key, stamp, Entry::committed),
-            undecided: self.newest(key, stamp, |entry| entry.decision.is_none() && entry.live()),
+            undecided: self.newest(key, stamp, |entry| entry.decision.is_none() && self.lives(entry)),
         }
     }
 
-    fn act(&mut self, message: Message, settings: &Settings) -> Answer {
+    pub fn act(&mut self, message: Message, settings: &Settings) -> Answer {
         match message {
             Message::Prepare(tx) => self.prepare(tx, settings),
             Message::Log(tx, list) => self.log(tx, list, settings),
@@ -577,20 +696,170 @@ impl Store {
     }
 }
 
-fn counted(list: &List) -> usize {
-    list.answers.iter().filter(|(_, answer)| *answer == list.decision).count()
-}
-
 /// Reading alone, with no clock: the length of the transaction's bytes in the message (0 for an RD), or the refusal.
 pub fn reading(message: &[u8], f: u64) -> Result<usize, u8> {
     let settings = Settings { f, capacity: 1, clock: u64::MAX, delta: u64::MAX };
     if !settings.in_order() {
         return Err(GROUP);
     }
-    match read_message(message, &settings, &[b"PR", b"LG", b"DC", b"RD"])? {
+    match read_message(message, &settings, &[b"PR", b"LG", b"DC", b"RD"], PAPER)? {
         Message::Prepare(tx) | Message::Log(tx, _) | Message::Decide(tx, _) => Ok(12 + 10 * (tx.reads.len() + tx.writes.len())),
         Message::Read { .. } => Ok(0),
     }
+}
+
+// ---- records read and written by themselves
+
+/// A transaction as a writer is given it: counts, and eight places of each.
+#[derive(Clone, Copy, Debug, Default, PartialEq, Eq)]
+pub struct Draft {
+    pub stamp: u64,
+    pub r: usize,
+    pub w: usize,
+    pub reads: [(u16, u64); 8],
+    pub writes: [(u16, u64); 8],
+}
+
+/// A list as a writer is given it: a count, and 26 places.
+#[derive(Clone, Copy, Debug, Default, PartialEq, Eq)]
+pub struct ListDraft {
+    pub kind: u8,
+    pub decision: u8,
+    pub count: usize,
+    pub pairs: [(u8, u8); 26],
+}
+
+#[derive(Clone, Copy, Debug)]
+pub enum Record {
+    Tx(Draft),
+    Vl(ListDraft),
+    Pr(Draft),
+    Lg(Draft, ListDraft),
+    Dc(Draft, ListDraft),
+    Rd { key: u16, stamp: u64 },
+}
+
+impl Draft {
+    fn counted(&self) -> Result<Transaction, u8> {
+        if self.r > 8 || self.w > 8 || self.r + self.w == 0 {
+            return Err(COUNT);
+        }
+        Ok(Transaction { mark: *b"TX", stamp: self.stamp, reads: self.reads[..self.r].to_vec(), writes: self.writes[..self.w].to_vec() })
+    }
+}
+
+impl ListDraft {
+    fn counted(&self) -> Result<CutList, u8> {
+        if self.count == 0 || self.count > 26 {
+            return Err(COUNT);
+        }
+        Ok(CutList { kind: self.kind, decision: self.decision, pairs: self.pairs[..self.count].to_vec() })
+    }
+}
+
+fn list_bytes(list: &CutList) -> Vec<u8> {
+    let mut bytes = vec![b'V', b'L', list.kind, list.decision, list.pairs.len() as u8];
+    bytes.extend(list.pairs.iter().flat_map(|pair| [pair.0, pair.1]));
+    bytes
+}
+
+/// f alone matters to records.
+fn group(f: u64) -> Result<Settings, u8> {
+    let settings = Settings { f, capacity: 1, clock: u64::MAX, delta: u64::MAX };
+    if settings.in_order() {
+        Ok(settings)
+    } else {
+        Err(GROUP)
+    }
+}
+
+/// "3, the content order without 15, then 17": the record's bytes for a buffer with this room, or the refusal.
+pub fn written(record: &Record, f: u64, room: usize) -> Result<Vec<u8>, u8> {
+    let listed = |mark: &[u8; 2], draft: &Draft, list: &ListDraft, logs_allowed| -> Result<Vec<u8>, u8> {
+        let settings = group(f)?;
+        let (tx, list) = (draft.counted()?, list.counted()?);
+        judge_transaction(&tx, PAPER)?;
+        judge_list(&list, &settings, logs_allowed, PAPER)?;
+        Ok([mark.to_vec(), transaction_bytes(&tx), list_bytes(&list)].concat())
+    };
+    let bytes = match record {
+        Record::Tx(draft) | Record::Pr(draft) => {
+            let tx = draft.counted()?;
+            judge_transaction(&tx, PAPER)?;
+            let mark: &[u8] = if matches!(record, Record::Pr(_)) { b"PR" } else { b"" };
+            [mark.to_vec(), transaction_bytes(&tx)].concat()
+        }
+        Record::Vl(draft) => {
+            let settings = group(f)?;
+            let list = draft.counted()?;
+            judge_list(&list, &settings, true, PAPER)?;
+            list_bytes(&list)
+        }
+        Record::Lg(draft, list) => listed(b"LG", draft, list, false)?,
+        Record::Dc(draft, list) => listed(b"DC", draft, list, true)?,
+        Record::Rd { key, stamp } => {
+            if *stamp == 0 || *key > 511 {
+                return Err(RANGE);
+            }
+            [b"RD".to_vec(), key.to_le_bytes().to_vec(), stamp.to_le_bytes().to_vec()].concat()
+        }
+    };
+    if room < bytes.len() {
+        return Err(BUFFER);
+    }
+    Ok(bytes)
+}
+
+/// A TX by itself.
+pub fn reading_tx(record: &[u8]) -> Result<(), u8> {
+    let mut bytes = Bytes(record);
+    let tx = cut_transaction(&mut bytes)?;
+    if !bytes.0.is_empty() {
+        return Err(TRAILING);
+    }
+    judge_transaction(&tx, PAPER)
+}
+
+/// A VL by itself.
+pub fn reading_vl(record: &[u8], f: u64) -> Result<(), u8> {
+    let settings = group(f)?;
+    let mut bytes = Bytes(record);
+    let list = cut_list(&mut bytes)?;
+    if !bytes.0.is_empty() {
+        return Err(TRAILING);
+    }
+    judge_list(&list, &settings, true, PAPER).map(|_| ())
+}
+
+/// The values of a message, as drafts with zeros in the places that are not used.
+pub fn fields(message: &[u8], f: u64) -> Result<Record, u8> {
+    fn front<T: Copy + Default, const N: usize>(from: &[T]) -> [T; N] {
+        let mut places = [T::default(); N];
+        places[..from.len()].copy_from_slice(from);
+        places
+    }
+    let draft = |tx: &Transaction| Draft { stamp: tx.stamp, r: tx.reads.len(), w: tx.writes.len(), reads: front(&tx.reads), writes: front(&tx.writes) };
+    let code = |decision| if decision == Decision::Commit { 1 } else { 2 };
+    let listed = |list: &List| ListDraft {
+        kind: if list.kind == Kind::Votes { 1 } else { 2 },
+        decision: code(list.decision),
+        count: list.answers.len(),
+        pairs: front(&list.answers.iter().map(|(number, answer)| (*number, code(*answer))).collect::<Vec<_>>()),
+    };
+    let settings = group(f)?;
+    Ok(match read_message(message, &settings, &[b"PR", b"LG", b"DC", b"RD"], PAPER)? {
+        Message::Prepare(tx) => Record::Pr(draft(&tx)),
+        Message::Log(tx, list) => Record::Lg(draft(&tx), listed(&list)),
+        Message::Decide(tx, list) => Record::Dc(draft(&tx), listed(&list)),
+        Message::Read { key, stamp } => Record::Rd { key, stamp },
+    })
+}
+
+/// n and the five thresholds.
+pub fn thresholds(f: u64) -> Result<[u64; 6], u8> {
+    let settings = group(f)?;
+    let row = PAPER.row(settings.f).map(|needed| needed as u64);
+    Ok([settings.boxes(), row[0], row[1], row[2], row[3], row[4]])
 }
 
 // ---- the tally
@@ -640,7 +909,7 @@ pub fn tally(sheet: &mut Sheet, f: u64, number: u64, answer: u64) -> Reply {
     }
     let mask = |boxes: &[u64]| boxes.iter().fold(0, |sum, b| sum | 1u32 << b);
     (sheet.commits, sheet.aborts) = (mask(&commits), mask(&aborts));
-    let (row, c, a) = (settings.row(), commits.len(), aborts.len());
+    let (row, c, a) = (PAPER.row(f), commits.len(), aborts.len());
     if sheet.kind == 1 {
         Reply::Votes([c >= row[0], a >= row[1], c >= row[2], a >= row[3]])
     } else {
@@ -723,17 +992,22 @@ fn put_entry(row: &mut [u8], entry: &Entry) {
 
 /// One call: the answer, with table and read marks as they stand afterwards; `met` takes the cases that it met.
 pub fn call(table: &mut [u8], marks: &mut Vec<u64>, settings: &Settings, message: &[u8], due: &[&[u8; 2]], met: &mut Vec<&'static str>) -> Answer {
+    call_by(PAPER, table, marks, settings, message, due, met)
+}
+
+/// The same with rules that may be broken.
+pub fn call_by(rules: Rules, table: &mut [u8], marks: &mut Vec<u64>, settings: &Settings, message: &[u8], due: &[&[u8; 2]], met: &mut Vec<&'static str>) -> Answer {
     if !settings.in_order() {
         return Answer::Refused(GROUP);
     }
     let Some(entries) = entries_of(table, settings.capacity as usize) else {
         return Answer::Refused(TABLE);
     };
-    let read = match read_message(message, settings, due) {
+    let read = match read_message(message, settings, due, rules) {
         Ok(read) => read,
         Err(number) => return Answer::Refused(number),
     };
-    let mut store = Store { entries, marks: std::mem::take(marks), touched: None, met: Vec::new() };
+    let mut store = Store { rules, entries, marks: std::mem::take(marks), touched: None, met: Vec::new() };
     let named = match &read {
         Message::Prepare(tx) | Message::Log(tx, _) | Message::Decide(tx, _) => tx.stamp,
         Message::Read { .. } => 0,

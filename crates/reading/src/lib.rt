@@ -4,24 +4,18 @@ ghost use Prim.Native.Nat.{_+_, _≤_};
 ghost use lib.ListN.{length, drop};
 ghost use Rattle.terms.specs.Checks.{orElse};
 ghost use Rattle.terms.specs.Group.{groupWrong};
-ghost use Rattle.records.specs.Tx.{txOf, heldTx, noTx, TxThere};
-ghost use Rattle.records.specs.Vl.{heldList, noList};
+ghost use Rattle.records.specs.Tx.{txOf, TxThere};
 ghost use Rattle.records.specs.Contents.{txWrong};
 ghost use Rattle.records.specs.Cutting.{markWrong, txCut, vlCut, behindWrong, behindMark, txPart, vlPart, prCut, prLen, listedCut, listedLen, rdCut};
-ghost use Rattle.records.specs.Messages.{refusedReading, readTX, readVL, readPR, readLG, readDC, readRD, isMark, readMessage, handedBack};
+ghost use Rattle.records.specs.Messages.{readTX, readVL, readPR, readLG, readDC, readRD, isMark, readMessage, handedBack};
 ghost use Rattle.reading.specs.Part.{partReading, hasTx};
+use answer::Listed;
 use answer::TxAnswer;
 use answer::TxReading;
 use records::Found;
-use records::Pair;
-use records::Read;
 use records::Reading;
-use records::Transaction;
-use records::VoteList;
-use records::Write;
 use terms::Group;
 use terms::Key;
-use terms::Refusal;
 use terms::Stamp;
 
 // ---- cutting
@@ -180,58 +174,6 @@ pub fn listed_len(m: &[u8]) -> usize
     2 + records::tx_len(behind(m, 2)) + records::vl_len(vl_part_of(m))
 }
 
-// ---- answers
-
-fn no_tx() -> Transaction
-    ensures { λ x. ⌜ x ≡ heldTx noTx ⌝ }
-{
-    let p = Read {
-        key: Key(0),
-        version: Stamp(0),
-    };
-    let q = Write {
-        key: Key(0),
-        value: 0,
-    };
-    let reads = [p; 8];
-    let writes = [q; 8];
-    Transaction {
-        stamp: Stamp(0),
-        r: 0,
-        w: 0,
-        reads,
-        writes,
-    }
-}
-
-fn no_list() -> VoteList
-    ensures { λ l. ⌜ l ≡ heldList noList ⌝ }
-{
-    let p = Pair {
-        number: 0,
-        answer: 0,
-    };
-    let pairs = [p; 26];
-    VoteList {
-        kind: 0,
-        decision: 0,
-        count: 0,
-        pairs,
-    }
-}
-
-fn refused(n: u8) -> Reading
-    ensures { λ r. ⌜ r ≡ refusedReading n ⌝ }
-{
-    let tx = no_tx();
-    let list = no_list();
-    Reading {
-        found: Found::Refused(Refusal::of(n)),
-        tx,
-        list,
-    }
-}
-
 // A TX that is cut, judged.
 fn read_part(s: &[u8]) -> TxReading
     requires { ⌜ TxThere (now s) ⌝ }
@@ -240,7 +182,7 @@ fn read_part(s: &[u8]) -> TxReading
     let tx = records::transaction_of(s);
     let wrong = contents::tx_wrong(tx);
     if wrong != 0 {
-        let none = no_tx();
+        let none = answer::no_tx();
         return TxReading {
             answer: TxAnswer::Refused(wrong),
             tx: none,
@@ -261,19 +203,19 @@ pub fn read_tx(s: &[u8]) -> Reading
 {
     let cut = tx_cut(s);
     if cut != 0 {
-        return refused(cut);
+        return answer::refused(cut);
     }
     let more = behind_wrong(s, records::tx_len(s));
     if more != 0 {
-        return refused(more);
+        return answer::refused(more);
     }
     let reading = read_part(s);
     let answer = reading.answer;
     let TxAnswer::Tx(_) = answer else {
-        return refused(answer::number_in(answer));
+        return answer::refused_by(answer);
     };
     let tx = reading.tx;
-    let list = no_list();
+    let list = answer::no_list();
     Reading {
         found: Found::TX,
         tx,
@@ -287,22 +229,22 @@ pub fn read_vl(f: u64, s: &[u8]) -> Reading
 {
     let group = terms::group_wrong(f);
     if group != 0 {
-        return refused(group);
+        return answer::refused(group);
     }
     let cut = vl_cut(s);
     if cut != 0 {
-        return refused(cut);
+        return answer::refused(cut);
     }
     let more = behind_wrong(s, records::vl_len(s));
     if more != 0 {
-        return refused(more);
+        return answer::refused(more);
     }
     let list = records::list_of(s);
     let wrong = contents::list_wrong(Group { f: f as u8 }, list);
     if wrong != 0 {
-        return refused(wrong);
+        return answer::refused(wrong);
     }
-    let tx = no_tx();
+    let tx = answer::no_tx();
     Reading {
         found: Found::VL,
         tx,
@@ -315,19 +257,19 @@ pub fn read_pr(m: &[u8]) -> Reading
 {
     let cut = pr_cut(m);
     if cut != 0 {
-        return refused(cut);
+        return answer::refused(cut);
     }
     let more = behind_wrong(m, pr_len(m));
     if more != 0 {
-        return refused(more);
+        return answer::refused(more);
     }
     let reading = read_part(tx_part_of(m));
     let answer = reading.answer;
     let TxAnswer::Tx(_) = answer else {
-        return refused(answer::number_in(answer));
+        return answer::refused_by(answer);
     };
     let tx = reading.tx;
-    let list = no_list();
+    let list = answer::no_list();
     Reading {
         found: Found::PR,
         tx,
@@ -355,24 +297,11 @@ pub fn read_lg(f: u64, m: &[u8]) -> Reading
 {
     let early = listed_wrong(f, m, b"LG");
     if early != 0 {
-        return refused(early);
+        return answer::refused(early);
     }
     let reading = read_part(tx_part_of(m));
-    let answer = reading.answer;
-    let TxAnswer::Tx(_) = answer else {
-        return refused(answer::number_in(answer));
-    };
     let list = records::list_of(vl_part_of(m));
-    let wrong = contents::log_list_wrong(Group { f: f as u8 }, list);
-    if wrong != 0 {
-        return refused(wrong);
-    }
-    let tx = reading.tx;
-    Reading {
-        found: Found::LG,
-        tx,
-        list,
-    }
+    answer::judged(reading, Listed::LG, Group { f: f as u8 }, list)
 }
 
 pub fn read_dc(f: u64, m: &[u8]) -> Reading
@@ -380,20 +309,11 @@ pub fn read_dc(f: u64, m: &[u8]) -> Reading
 {
     let early = listed_wrong(f, m, b"DC");
     if early != 0 {
-        return refused(early);
+        return answer::refused(early);
     }
     let reading = read_part(tx_part_of(m));
     let list = records::list_of(vl_part_of(m));
-    let wrong = answer::judged(reading, Group { f: f as u8 }, list);
-    if wrong != 0 {
-        return refused(wrong);
-    }
-    let tx = reading.tx;
-    Reading {
-        found: Found::DC,
-        tx,
-        list,
-    }
+    answer::judged(reading, Listed::DC, Group { f: f as u8 }, list)
 }
 
 pub fn read_rd(m: &[u8]) -> Reading
@@ -401,20 +321,20 @@ pub fn read_rd(m: &[u8]) -> Reading
 {
     let cut = rd_cut(m);
     if cut != 0 {
-        return refused(cut);
+        return answer::refused(cut);
     }
     let more = behind_wrong(m, 12);
     if more != 0 {
-        return refused(more);
+        return answer::refused(more);
     }
     let key = Key(records::u16_at(m, 2));
     let stamp = Stamp(records::u64_at(m, 4));
     let wrong = contents::rd_wrong(key, stamp);
     if wrong != 0 {
-        return refused(wrong);
+        return answer::refused(wrong);
     }
-    let tx = no_tx();
-    let list = no_list();
+    let tx = answer::no_tx();
+    let list = answer::no_list();
     Reading {
         found: Found::RD(key, stamp),
         tx,
@@ -441,10 +361,10 @@ pub fn read(f: u64, m: &[u8]) -> Reading
 {
     let group = terms::group_wrong(f);
     if group != 0 {
-        return refused(group);
+        return answer::refused(group);
     }
     if m.len() < 2 {
-        return refused(terms::SHORT);
+        return answer::refused(terms::SHORT);
     }
     if is_mark(m, b"PR") {
         return read_pr(m);
@@ -458,7 +378,7 @@ pub fn read(f: u64, m: &[u8]) -> Reading
     if is_mark(m, b"RD") {
         return read_rd(m);
     }
-    refused(terms::MARK)
+    answer::refused(terms::MARK)
 }
 
 // Whether a transaction was read.

@@ -1,3 +1,5 @@
 pub mod Outcomes
 pub mod Waiting
 pub mod Newer
+pub mod Naming
+pub mod Skipping

@@ -3,9 +3,9 @@ use Prim.Native.Nat.{ℕ, _+_, _-_, _<_, _≤_}
 use native.Mathlib.Omega.{arith}
 use mathlib.Core.Path.{_≡_, refl, sym, _∙_}
 use mathlib.Core.List.{List, [], _∷_}
-use mathlib.Core.Bool.{Bool, true, false, _&&_}
-use mathlib.Core.Option.{Option, some, none}
-use borrow.Author.Tests.{lt-ltb, le-ltb, eq-eqb, ne-eqb}
+use mathlib.Core.Bool.{Bool, true, false, _&&_, _||_, false≢true}
+use mathlib.Core.Option.{some}
+use borrow.Author.Tests.{lt-ltb, le-ltb, ltb-false}
 use lib.Dec.{ltb}
 use lib.ListN.{getD}
 use Rattle.terms.specs.Choice.{any}
@@ -16,12 +16,12 @@ use Rattle.rules.specs.declared.Reason.the-variants.{Ahead, NoVersion, Overwrit
 use Rattle.rules.specs.declared.Vote.the-variants.{Abort as voteAbort}
 use Rattle.rules.specs.Bodies.{Body, stampOf, readsOf, writesKey}
 use Rattle.rules.specs.Table.{Box, Config, Entry, find, live}
-use Rattle.rules.specs.Tests.{test1, test2, test3, test4, test5, liveWriter, undercut, waitingRule, firstVote, status}
+use Rattle.rules.specs.Tests.{test1, test2, test3, test4, test5, undercut, waitingRule, firstVote, status}
 use Rattle.rules.specs.Calls.{rdAnswer}
 use Rattle.table.specs.Table.{entryOf, entries, rowAt, place}
 use Rattle.table.proofs.Bodies.{body-stamp, body-reads, body-writes-key}
 use Rattle.table.proofs.Looking.{find-some}
-use Rattle.scans.specs.Scans.{told, over, boxOf, unnamed, below, hit3, hit4, marked}
+use Rattle.scans.specs.Scans.{told, over, boxOf, older, below, hit3, hit4, marked}
 
 -- ---- whether some element passes
 module _ {A : Type 0} (p q : A → Bool) where
@@ -38,6 +38,28 @@ any-never p h (x ∷ xs) =
     let e : p x ≡ false = h x in
     let r : any p xs ≡ false = any-never p h xs in
     rw (e, r)
+
+-- where p passes nothing, q passes nothing either
+pub any-clear : {A : Type 0} (p q : A → Bool) → ((x : A) → p x ≡ false → q x ≡ false) → (xs : List A) → any p xs ≡ false → any q xs ≡ false
+any-clear p q h [] e = refl
+any-clear p q h (x ∷ xs) e = by (p x) refl e (any-clear p q h xs)
+  where
+    by : (c : Bool) → p x ≡ c → (c || any p xs) ≡ false → (any p xs ≡ false → any q xs ≡ false) → (q x || any q xs) ≡ false
+    by true d z rest = absurd (false≢true (sym z))
+    by false d z rest = rw (h x d) (rest z)
+
+and-yes : (w : Bool) → w ≡ (w && true)
+and-yes true = refl
+and-yes false = refl
+
+and-no : (w : Bool) → false ≡ (w && false)
+and-no true = refl
+and-no false = refl
+
+and-less : (a b c : Bool) → (a && b) ≡ false → (a && (b && c)) ≡ false
+and-less true true c e = absurd (false≢true (sym e))
+and-less true false c e = refl
+and-less false b c e = refl
 
 and-true : (a b : Bool) → (a && (b && true)) ≡ (a && b)
 and-true true true = refl
@@ -102,52 +124,23 @@ pub test1-is : (b : Body) (clock delta : ℕ) {s : ℕ} {x : Bool} → s ≡ sta
 unfolding test1
 test1-is b clock delta e p = p ∙ (rw e)
 
--- ---- test 2
-module _ (k : ℕ) {o : Option Entry} where
-  pub writer-none : o ≡ none → false ≡ liveWriter k o
-  unfolding liveWriter
-  writer-none e = rw e
-
-  module _ (r : List ℕ) (e : o ≡ some (entryOf r)) where
-    pub writer-dead : live (entryOf r) ≡ false → false ≡ liveWriter k o
-    unfolding liveWriter
-    writer-dead d = rw (e, d)
-
-    pub writer-live : live (entryOf r) ≡ true → writesKey r k ≡ liveWriter k o
-    unfolding liveWriter
-    writer-live d = rw (e, d, body-writes-key r k)
-
-module _ (es : List Entry) (r : Read) where
-  pub named-zero : readVersion r ≡ 0 → false ≡ unnamed es r
-  unfolding unnamed
-  named-zero h = rw (eq-eqb (readVersion r) 0 h)
-
-  module _ (h : readVersion r ≡ 0 → ⊥) where
-    pub named-live : liveWriter (readKey r) (find (readVersion r) es) ≡ true → false ≡ unnamed es r
-    unfolding unnamed
-    named-live l = rw (ne-eqb (readVersion r) 0 h, l)
-
-    pub named-not : liveWriter (readKey r) (find (readVersion r) es) ≡ false → true ≡ unnamed es r
-    unfolding unnamed
-    named-not l = rw (ne-eqb (readVersion r) 0 h, l)
-
 -- ---- tests 3 and 4
 module _ (b : Body) (r : Read) where
   pub below-yes : readVersion r < stampOf b → writesKey b (readKey r) ≡ below b r
   unfolding below
-  below-yes h = rw (lt-ltb (readVersion r) (stampOf b) h) (by (writesKey b (readKey r)))
-    where
-      by : (w : Bool) → w ≡ (w && true)
-      by true = refl
-      by false = refl
+  below-yes h = rw (lt-ltb (readVersion r) (stampOf b) h) (and-yes (writesKey b (readKey r)))
 
   pub below-no : stampOf b ≤ readVersion r → false ≡ below b r
   unfolding below
-  below-no h = rw (le-ltb (readVersion r) (stampOf b) h) (by (writesKey b (readKey r)))
-    where
-      by : (w : Bool) → false ≡ (w && false)
-      by true = refl
-      by false = refl
+  below-no h = rw (le-ltb (readVersion r) (stampOf b) h) (and-no (writesKey b (readKey r)))
+
+-- a stamp not above the lowest version read
+pub below-none : (a b : Body) (low : ℕ) → any (older low) (readsOf a) ≡ false → stampOf b ≤ low → any (below b) (readsOf a) ≡ false
+unfolding older
+below-none a b low e h =
+    any-clear (older low) (below b)
+    (λ r d. let g : low ≤ readVersion r = ltb-false _ _ d in sym (below-no b r (omega arith)))
+    (readsOf a) e
 
 module _ (a b : Body) where
   -- what an undercut asks of a read, l telling how the stamps stand
@@ -166,6 +159,13 @@ module _ (a b : Body) where
       rw (le-ltb (stampOf b) (stampOf a) h)
       (sym (any-never (asked false) (λ r. and-false (writesKey b (readKey r)) (ltb (readVersion r) (stampOf b))) (readsOf a)))
 
+  -- nothing below, no undercut, however the stamps stand
+  under-none : any (below b) (readsOf a) ≡ false → undercut a b ≡ false
+  unfolding undercut below
+  under-none e =
+      any-clear (below b) (asked (ltb (stampOf b) (stampOf a)))
+      (λ r d. and-less (writesKey b (readKey r)) (ltb (readVersion r) (stampOf b)) (ltb (stampOf b) (stampOf a)) d) (readsOf a) e
+
 module _ (b : Body) (r : List ℕ) where
   under-row : undercut b (entryOf r .body) ≡ undercut b r
   unfolding undercut
@@ -177,23 +177,25 @@ module _ (b : Body) (r : List ℕ) where
   unfolding undercut
   row-under = rw (body-reads r, body-stamp r)
 
-  module _ (d : live (entryOf r) ≡ false) where
-    pub hit3-dead : false ≡ hit3 b (entryOf r)
+  module _ {w : Bool} (l : w ≡ live (entryOf r)) where
+    pub hit3-under : undercut b r ≡ true → w ≡ hit3 b (entryOf r)
     unfolding hit3
-    hit3-dead = rw d
+    hit3-under d = rw (under-row, d, l) (and-yes (live (entryOf r)))
 
-    pub hit4-dead : false ≡ hit4 b (entryOf r)
+    pub hit4-under : undercut r b ≡ true → w ≡ hit4 b (entryOf r)
     unfolding hit4
-    hit4-dead = rw d
+    hit4-under d = rw (row-under, d, l) (and-yes (live (entryOf r)))
 
-  module _ (d : live (entryOf r) ≡ true) where
-    pub hit3-live : undercut b r ≡ hit3 b (entryOf r)
-    unfolding hit3
-    hit3-live = rw (d, under-row)
+  pub hit3-clear : undercut b r ≡ false → false ≡ hit3 b (entryOf r)
+  unfolding hit3
+  hit3-clear d = rw (under-row, d) (and-no (live (entryOf r)))
 
-    pub hit4-live : undercut r b ≡ hit4 b (entryOf r)
-    unfolding hit4
-    hit4-live = rw (d, row-under)
+  pub hit3-old : (low : ℕ) → any (older low) (readsOf b) ≡ false → stampOf r ≤ low → false ≡ hit3 b (entryOf r)
+  hit3-old low e h = hit3-clear (under-none b r (below-none b r low e h))
+
+  pub hit4-clear : undercut r b ≡ false → false ≡ hit4 b (entryOf r)
+  unfolding hit4
+  hit4-clear d = rw (row-under, d) (and-no (live (entryOf r)))
 
 -- ---- test 5
 module _ (ms : List ℕ) (s : ℕ) (w : Write) {x : ℕ} (e : x ≡ getD ms (writeKey w) 0) where

@@ -30,11 +30,11 @@ module _ (k : ℕ) (r : List ℕ) where
   unfolding statusOf
   by-codes w d e p = rw (body-writes-key r k, e, p)
 
-  decided-as : (d : ℕ) → getD r decidedAt 0 ≡ d → entryOf r .decided ≡ settledOf d
+  pub decided-as : (d : ℕ) → getD r decidedAt 0 ≡ d → entryOf r .decided ≡ settledOf d
   unfolding entryOf
   decided-as d e = rw e
 
-  undecided-as : (getD r decidedAt 0 ≡ 1 → ⊥) → (getD r decidedAt 0 ≡ 2 → ⊥) → entryOf r .decided ≡ none
+  pub undecided-as : (getD r decidedAt 0 ≡ 1 → ⊥) → (getD r decidedAt 0 ≡ 2 → ⊥) → entryOf r .decided ≡ none
   unfolding entryOf
   undecided-as p q = rw (ne-eqb (getD r decidedAt 0) 1 p, ne-eqb (getD r decidedAt 0) 2 q)
 

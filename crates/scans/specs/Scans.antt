@@ -14,7 +14,7 @@ use Rattle.rules.specs.declared.Vote.{Vote}
 use Rattle.rules.specs.declared.Vote.the-variants.{Waiting as waiting, Commit as voteCommit, Abort as voteAbort}
 use Rattle.rules.specs.Bodies.{Body, stampOf, writesKey}
 use Rattle.rules.specs.Table.{Box, Config, Entry, find, live}
-use Rattle.rules.specs.Tests.{Status, bad, pending, fine, isBad, isPending, liveWriter, undercut, status}
+use Rattle.rules.specs.Tests.{Status, bad, pending, fine, isBad, isPending, liveWriter, undercut, statusOf, status}
 use Rattle.rules.specs.Calls.{newest, versionOf, valueOf, isCommitted, isUndecided}
 use Rattle.scans.specs.declared.Best.{Best}
 use Rattle.scans.specs.declared.Writers.{Writers}
@@ -35,6 +35,10 @@ told clock delta = record { f = 0; capacity = 0; clock = clock; delta = delta }
 -- test 2 at one read
 unfoldable pub unnamed : List Entry → Read → Bool
 unnamed es r = not (eqb (readVersion r) 0) && not (liveWriter (readKey r) (find (readVersion r) es))
+
+-- whether a version read is older
+unfoldable pub older : ℕ → Read → Bool
+older low r = ltb (readVersion r) low
 
 -- tests 3 and 4 at one read, where the stamps are in order
 unfoldable pub below : Body → Read → Bool
@@ -63,6 +67,17 @@ unfoldable pub waitBy : List Entry → Bool → List Read → Vote
 waitBy es w rs =
     pick (any (λ r. isBad (status (over es) r)) rs) (voteAbort Dependency)
     (pick (w || any (λ r. isPending (status (over es) r)) rs) waiting voteCommit)
+
+-- ---- test 2 and the waiting rule by one look-up: 2 where test 2 fails, else 1 where the version is undecided, else 0
+unfoldable pub namedBy : ℕ → Option Entry → ℕ
+namedBy k o = pick (liveWriter k o) (pick (isPending (statusOf k o)) 1 0) 2
+
+unfoldable pub named : List Entry → Read → ℕ
+named es r = pick (eqb (readVersion r) 0) 0 (namedBy (readKey r) (find (readVersion r) es))
+
+-- the same over the reads that are left, w where an undecided version stood before them
+unfoldable pub namedAll : List Entry → Bool → List Read → ℕ
+namedAll es w rs = pick (any (unnamed es) rs) 2 (pick (w || any (λ r. isPending (status (over es) r)) rs) 1 0)
 
 -- ---- the newest writers
 abbrev pub committed : Entry → Bool

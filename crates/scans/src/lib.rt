@@ -1,19 +1,18 @@
 // The scans of a box's table that the rules need: the five tests of a PR, the waiting rule, the first vote, and what RD finds.
 ghost use mathlib.Core.Path.{_≡_};
-ghost use mathlib.Core.Bool.{_||_};
+ghost use mathlib.Core.Bool.{_||_, false};
 ghost use mathlib.Core.Option.{some};
-ghost use Prim.Native.Nat.{_+_};
+ghost use Prim.Native.Nat.{_+_, _≤_};
 ghost use lib.Dec.{ltb, eqb};
 ghost use lib.ListN.{getD};
 ghost use mathlib.Core.List.{[]};
 ghost use Rattle.terms.specs.Choice.{any};
 ghost use Rattle.records.specs.Tx.{TxThere};
 ghost use Rattle.rules.specs.Bodies.{readsOf, writesOf};
-ghost use Rattle.rules.specs.Table.{find};
-ghost use Rattle.rules.specs.Tests.{test1, test2, test3, test4, test5, liveWriter, undercut, statusOf, status, waitingRule, firstVote};
+ghost use Rattle.rules.specs.Tests.{test1, test3, test4, test5, undercut, statusOf, status, waitingRule, firstVote};
 ghost use Rattle.rules.specs.Calls.{valueAt, rdAnswer};
 ghost use Rattle.table.specs.Table.{WfRow, Wf, entryOf, entries};
-ghost use Rattle.scans.specs.Scans.{told, over, boxOf, unnamed, below, hit3, hit4, statusNumber, bestBy, bestPair, nextPair};
+ghost use Rattle.scans.specs.Scans.{told, over, boxOf, namedBy, named, namedAll, below, older, hit3, hit4, statusNumber, bestBy, bestPair, nextPair};
 use records::Read;
 use rules::Answer;
 use rules::Reason;
@@ -61,53 +60,62 @@ pub fn test_1(b: &[u8], clock: u64, delta: u64) -> bool
     ahead(table::stamp_of(b), clock, delta)
 }
 
-// Whether the version is a live entry writing the key.
-fn live_writer(t: &[u8], n: usize, k: Key, v: Stamp) -> bool
-    requires { ⌜ Wf (now t) n ⌝ }
-    ensures { λ r. ⌜ r ≡ liveWriter (k .0) (find (v .0) (entries (now (t .entry)) n)) ⌝ }
+// A version held, to test 2 and to the waiting rule that follows it.
+fn named_by(e: &[u8], k: Key) -> u8
+    requires { ⌜ WfRow (now e) ⌝ }
+    ensures { λ r. ⌜ r ≡ namedBy (k .0) (some (entryOf (now (e .entry)))) ⌝ }
 {
-    let i = table::place(t, n, v);
-    if i < n {
-        let e = table::row(t, i);
-        if table::live(e) {
-            return table::writes_key(e, k);
+    if table::live(e) {
+        if table::writes_key(e, k) {
+            if e[table::DECIDED_AT] == 1 {
+                return FINE;
+            }
+            return PENDING;
         }
-        return false;
+        return BAD;
     }
-    false
+    BAD
 }
 
-// Test 2 at one read.
-fn unnamed(t: &[u8], n: usize, p: Read) -> bool
+// The same of one version read; one that is not held fails test 2.
+fn named(t: &[u8], n: usize, p: Read) -> u8
     requires { ⌜ Wf (now t) n ⌝ }
-    ensures { λ r. ⌜ r ≡ unnamed (entries (now (t .entry)) n) p ⌝ }
+    ensures { λ r. ⌜ r ≡ named (entries (now (t .entry)) n) p ⌝ }
 {
     let v = p.version;
     let k = p.key;
     if v.0 == 0 {
-        return false;
+        return FINE;
     }
-    if live_writer(t, n, k, v) {
-        return false;
+    let i = table::place(t, n, v);
+    if i < n {
+        let e = table::row(t, i);
+        return named_by(e, k);
     }
-    true
+    BAD
 }
 
-// Test 2: a read names a nonzero version that is not a live entry writing that key.
-pub fn test_2(t: &[u8], n: usize, b: &[u8]) -> bool
+// All versions read, each looked up once for test 2 and the waiting rule: one that fails the test, else one undecided, else fine.
+fn versions(t: &[u8], n: usize, b: &[u8]) -> u8
     requires { ⌜ Wf (now t) n × TxThere (now b) ⌝ }
-    ensures { λ r. ⌜ r ≡ test2 (over (entries (now (t .entry)) n)) (now (b .entry)) ⌝ }
+    ensures { λ r. ⌜ r ≡ namedAll (entries (now (t .entry)) n) false (readsOf (now (b .entry))) ⌝ }
 {
     let m = table::read_count(b);
+    let mut waits = false;
     let mut j = 0;
     while j < m {
         let p = table::read_at(b, j);
-        if unnamed(t, n, p) {
-            return true;
+        let one = named(t, n, p);
+        if one == BAD {
+            return BAD;
         }
+        waits = waits_too(waits, one);
         j += 1;
     }
-    false
+    if waits {
+        return PENDING;
+    }
+    FINE
 }
 
 // Whether a read lies below what the other transaction writes there.
@@ -151,13 +159,42 @@ fn undercut(a: &[u8], b: &[u8]) -> bool
     false
 }
 
-// Test 3 at one row.
-fn hit_3(e: &[u8], b: &[u8]) -> bool
-    requires { ⌜ WfRow (now e) × TxThere (now b) ⌝ }
+// The lower of two numbers.
+fn lower(a: u64, b: u64) -> u64
+    ensures { λ r. ⌜ (r ≤ a) × (r ≤ b) ⌝ }
+{
+    if a < b {
+        return a;
+    }
+    b
+}
+
+// The lowest version read, or the stamp: no read is older.
+fn lowest_read(b: &[u8]) -> u64
+    requires { ⌜ TxThere (now b) ⌝ }
+    ensures { λ r. ⌜ any (older r) (readsOf (now (b .entry))) ≡ false ⌝ }
+{
+    let m = table::read_count(b);
+    let mut low = table::stamp_of(b);
+    let mut j = 0;
+    while j < m {
+        let p = table::read_at(b, j);
+        low = lower(low, p.version.0);
+        j += 1;
+    }
+    low
+}
+
+// Test 3 at one row: the stamps first, which settle most rows, as one not above the lowest version read.
+fn hit_3(e: &[u8], b: &[u8], low: u64) -> bool
+    requires { ⌜ WfRow (now e) × TxThere (now b) × (any (older low) (readsOf (now b)) ≡ false) ⌝ }
     ensures { λ r. ⌜ r ≡ hit3 (now (b .entry)) (entryOf (now (e .entry))) ⌝ }
 {
-    if table::live(e) {
-        return undercut(b, e);
+    if table::stamp_of(e) <= low {
+        return false;
+    }
+    if undercut(b, e) {
+        return table::live(e);
     }
     false
 }
@@ -167,10 +204,11 @@ pub fn test_3(t: &[u8], n: usize, b: &[u8]) -> bool
     requires { ⌜ Wf (now t) n × TxThere (now b) ⌝ }
     ensures { λ r. ⌜ r ≡ test3 (over (entries (now (t .entry)) n)) (now (b .entry)) ⌝ }
 {
+    let low = lowest_read(b);
     let mut i = 0;
     while i < n {
         let e = table::row(t, i);
-        if hit_3(e, b) {
+        if hit_3(e, b, low) {
             return true;
         }
         i += 1;
@@ -178,13 +216,13 @@ pub fn test_3(t: &[u8], n: usize, b: &[u8]) -> bool
     false
 }
 
-// Test 4 at one row.
+// Test 4 at one row: the stamps first, which settle most rows.
 fn hit_4(e: &[u8], b: &[u8]) -> bool
     requires { ⌜ WfRow (now e) × TxThere (now b) ⌝ }
     ensures { λ r. ⌜ r ≡ hit4 (now (b .entry)) (entryOf (now (e .entry))) ⌝ }
 {
-    if table::live(e) {
-        return undercut(e, b);
+    if undercut(e, b) {
+        return table::live(e);
     }
     false
 }
@@ -306,7 +344,7 @@ pub fn waiting_rule(t: &[u8], n: usize, b: &[u8]) -> Vote
     Vote::Commit
 }
 
-// The vote of a PR not held: the first failing test aborts, else the waiting rule.
+// The vote of a PR not held: the first failing test aborts, else the waiting rule; what test 2 passed is never bad to that.
 pub fn first_vote(t: &[u8], n: usize, marks: &[u64], b: &[u8], clock: u64, delta: u64) -> Vote
     requires { ⌜ Wf (now t) n × TxThere (now b) ⌝ }
     ensures { λ v. ⌜ v ≡ firstVote (told clock delta) (boxOf (entries (now (t .entry)) n) (now (marks .entry))) (now (b .entry)) ⌝ }
@@ -314,7 +352,8 @@ pub fn first_vote(t: &[u8], n: usize, marks: &[u64], b: &[u8], clock: u64, delta
     if test_1(b, clock, delta) {
         return Vote::Abort(Reason::Ahead);
     }
-    if test_2(t, n, b) {
+    let read = versions(t, n, b);
+    if read == BAD {
         return Vote::Abort(Reason::NoVersion);
     }
     if test_3(t, n, b) {
@@ -326,7 +365,10 @@ pub fn first_vote(t: &[u8], n: usize, marks: &[u64], b: &[u8], clock: u64, delta
     if test_5(marks, b) {
         return Vote::Abort(Reason::ReadMark);
     }
-    waiting_rule(t, n, b)
+    if read == PENDING {
+        return Vote::Waiting;
+    }
+    Vote::Commit
 }
 
 // The value of the first write of a key, 0 where there is none.

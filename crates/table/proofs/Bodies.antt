@@ -1,5 +1,5 @@
 -- The body in a row reads as the row does.
-use Prim.Native.Nat.{ℕ, _+_, _*_, zero, suc, _<_, _≤_, zero-le}
+use Prim.Native.Nat.{ℕ, _+_, _-_, _*_, zero, suc, _<_, _≤_, zero-le}
 use native.Mathlib.Nat.{sub-zero}
 use native.Mathlib.Omega.{arith}
 use mathlib.Core.Path.{_≡_, refl, ap}
@@ -10,7 +10,7 @@ use lib.Dec.{eqb}
 use lib.ListN.{length, take, drop, length-take}
 use lib.Seq.{getD-take, take-take}
 use Rattle.terms.specs.Choice.{pick, tab, any}
-use Rattle.terms.proofs.Scans.{Rest, tab-same}
+use Rattle.terms.proofs.Scans.{Rest, go, tab-same}
 use Rattle.records.specs.Numbers.{leVal, numAt}
 use Rattle.records.specs.Tx.{Tx, txOf, txLen, rCount, wCount, readAt, writeAt, writesFrom, writeKey, TxThere}
 use Rattle.records.specs.declared.Write.{Write}
@@ -140,6 +140,14 @@ dead-vote false r = refl
 -- a scan that begins, its answer by another name
 pub begin-as : {A : Type 0} {P : A → Bool} {f : ℕ → A} {n : ℕ} {W : Bool} → any P (tab f 0 n) ≡ W → Rest P f n W 0
 begin-as e = record { within = zero-le; same = rw sub-zero e }
+
+-- one that begins in the middle, and one that goes on under another name of the next place
+module _ {A : Type 0} {P : A → Bool} {f : ℕ → A} {n : ℕ} where
+  pub rest-from : {j : ℕ} → j ≤ n → Rest P f n (any P (tab f j (n - j))) j
+  rest-from h = record { within = h; same = refl }
+
+  pub go-to : {W : Bool} {j : ℕ} → Rest P f n W j → (i : ℕ) → j < n → P (f j) ≡ false → i ≡ j + 1 → Rest P f n W i
+  go-to r i h p e = rw e (go r h p)
 
 -- whether a write is of a key
 abbrev pub hasKey : ℕ → Write → Bool

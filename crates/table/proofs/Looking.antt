@@ -1,20 +1,20 @@
 -- Look-up: the first entry of a stamp.
-use Prim.Native.Nat.{ℕ, zero, suc, _+_, _-_, _<_, _≤_, zero-le}
+use Prim.Native.Nat.{ℕ, zero, suc, _+_, _-_, _*_, _<_, _≤_, zero-le}
 use native.Mathlib.Omega.{arith}
 use native.Mathlib.Nat.{sub-zero, zero-add}
 use mathlib.Core.Path.{_≡_, refl, ap, sym, _∙_}
 use mathlib.Core.List.{List, _∷_}
 use mathlib.Core.Bool.{Bool, true, false}
 use mathlib.Core.Option.{some, none}
-use borrow.Author.Tests.{eq-eqb, ne-eqb}
 use lib.Dec.{eqb}
 use lib.ListN.{length, drop}
 use Rattle.terms.specs.Choice.{pick, tab}
 use Rattle.terms.proofs.Scans.{tab-length}
+use Rattle.records.specs.Tx.{TxThere}
 use Rattle.rules.specs.Bodies.{stampOf}
 use Rattle.rules.specs.Table.{Entry, find}
-use Rattle.table.specs.Table.{rowAt, entryAt, entries, entriesOf, countOf, place}
-use Rattle.table.proofs.Bodies.{body-stamp}
+use Rattle.table.specs.Table.{rowLen, rowAt, entryAt, entries, entriesOf, countOf, place, Wf}
+use Rattle.table.proofs.Bodies.{body-stamp, rows-there}
 
 -- the loop: j and the place in what is left from j on are the place in the whole, W
 pub record Seek (s : ℕ) (f : ℕ → Entry) (n W j : ℕ) : Type 0 where
@@ -22,6 +22,9 @@ pub record Seek (s : ℕ) (f : ℕ → Entry) (n W j : ℕ) : Type 0 where
   pub same : j + place s (tab f j (n - j)) ≡ W
 
 module _ {s : ℕ} {f : ℕ → Entry} {n : ℕ} where
+  pub seek-from : {j : ℕ} → j ≤ n → Seek s f n (j + place s (tab f j (n - j))) j
+  seek-from h = record { within = h; same = refl }
+
   pub seek-begin : Seek s f n (place s (tab f 0 n)) 0
   seek-begin = record { within = zero-le; same = rw (sub-zero, zero-add) }
 
@@ -30,12 +33,12 @@ module _ {s : ℕ} {f : ℕ → Entry} {n : ℕ} where
     unfolding place
     step h = let e : n - j ≡ suc (n - (j + 1)) = omega arith in rw e
 
-    seek-found : j < n → stampOf (f j .body) ≡ s → j ≡ W
-    seek-found h p = let q = rw (step h, eq-eqb _ _ p) at (r .same) in omega arith
+    seek-found : j < n → eqb (stampOf (f j .body)) s ≡ true → j ≡ W
+    seek-found h p = let q = rw (step h, p) at (r .same) in omega arith
 
-    seek-go : j < n → (stampOf (f j .body) ≡ s → ⊥) → Seek s f n W (j + 1)
+    seek-go : j < n → eqb (stampOf (f j .body)) s ≡ false → Seek s f n W (j + 1)
     seek-go h p =
-        let q = rw (step h, ne-eqb _ _ p) at (r .same) in
+        let q = rw (step h, p) at (r .same) in
         record { within = omega arith; same = omega arith }
 
     pub seek-end : n ≤ j → j ≡ W
@@ -46,11 +49,18 @@ module _ {s : ℕ} {f : ℕ → Entry} {n : ℕ} where
         omega arith
 
 module _ (t : List ℕ) {s n W j : ℕ} (r : Seek s (entryAt t) n W j) where
-  pub place-found : j < n → stampOf (rowAt t j) ≡ s → j ≡ W
-  place-found h p = seek-found r h (body-stamp (rowAt t j) ∙ p)
+  pub place-found : j < n → eqb (stampOf (rowAt t j)) s ≡ true → j ≡ W
+  place-found h p = seek-found r h (rw (body-stamp (rowAt t j)) p)
 
-  pub place-go : j < n → (stampOf (rowAt t j) ≡ s → ⊥) → Seek s (entryAt t) n W (j + 1)
-  place-go h p = seek-go r h (λ q. p (sym (body-stamp (rowAt t j)) ∙ q))
+  pub place-go : j < n → eqb (stampOf (rowAt t j)) s ≡ false → Seek s (entryAt t) n W (j + 1)
+  place-go h p = seek-go r h (rw (body-stamp (rowAt t j)) p)
+
+  pub place-next : (i : ℕ) → j < n → eqb (stampOf (rowAt t j)) s ≡ false → i ≡ j + 1 → Seek s (entryAt t) n W i
+  place-next i h p e = rw e (place-go h p)
+
+-- a row that can be looked at
+pub stamp-there : {t : List ℕ} {n : ℕ} → Wf t n → (i : ℕ) → i < n → (i * rowLen + rowLen ≤ length t) × TxThere (rowAt t i)
+stamp-there w i h = let m = w .room in (omega arith, rows-there w i h)
 
 -- what was found, and what was not
 module _ (s : ℕ) (x : Entry) (xs : List Entry) where

@@ -121,6 +121,10 @@ entryWith b x = record { body = b; vote = x .vote; log = settledIn (x .log); dec
 unfoldable pub reasonWrong : ℕ → ℕ → ℕ
 reasonWrong v r = pick (eqb v 3) (orElse (ifSame r 0 table) (ifLess 6 r table)) (ifLess 0 r table)
 
+-- a vote code, and the reason's beside it
+abbrev pub voteWrong : List ℕ → ℕ
+voteWrong r = orElse (ifLess 3 (getD r voteAt 0) table) (reasonWrong (getD r voteAt 0) (getD r reasonAt 0))
+
 -- "an entry's r or w above 8, or a vote, reason, log or decision code outside its list"
 unfoldable pub rowWrong : List ℕ → ℕ
 rowWrong r =

@@ -1,14 +1,16 @@
 // The table that the caller lends: a byte that counts the entries, then a row for each; the check that gives 16, look-up, store.
 ghost use mathlib.Core.Path.{_≡_};
-ghost use Prim.Native.Nat.{ℕ, _+_, _*_, _<_, _≤_};
+ghost use Prim.Native.Nat.{ℕ, _+_, _-_, _*_, _<_, _≤_};
+ghost use mathlib.Core.Bool.{_&&_};
+ghost use lib.Dec.{eqb};
 ghost use lib.ListN.{length, drop};
 ghost use Rattle.terms.specs.Choice.{tab, any};
 ghost use Rattle.records.specs.Tx.{rCount, wCount, readAt, writeAt, writesFrom, TxThere};
 ghost use Rattle.rules.specs.Answers.{decisionNumber};
 ghost use Rattle.rules.specs.Bodies.{stampOf, writesKey, sameBody};
 ghost use Rattle.rules.specs.Table.{live};
-ghost use Rattle.table.specs.Table.{rowLen, voteAt, countOf, rowAt, entryOf, entries, Wf, place};
-ghost use Rattle.table.specs.Table.{reasonWrong, rowWrong, rowBad, tableWrong, reasonOf, voteOf, settledBy, settledNumber, stateOf};
+ghost use Rattle.table.specs.Table.{rowLen, voteAt, countOf, rowAt, entryOf, entryAt, entries, Wf, place};
+ghost use Rattle.table.specs.Table.{reasonWrong, voteWrong, rowWrong, rowBad, tableWrong, reasonOf, voteOf, settledBy, settledNumber, stateOf};
 ghost use Rattle.table.specs.Table.{copied, newRow, newCount, stored};
 use records::Read;
 use records::Write;
@@ -151,19 +153,51 @@ pub fn writes_key(s: &[u8], k: Key) -> bool
     false
 }
 
-// The place of the first entry with a stamp among the first `n` rows, or `n`.
-pub fn place(t: &[u8], n: usize, s: Stamp) -> usize
-    requires { ⌜ Wf (now t) n ⌝ }
-    ensures { λ r. ⌜ (r ≡ place (s .0) (entries (now (t .entry)) n)) × (r ≤ n) ⌝ }
+// Whether row `i` has the stamp.
+fn has_stamp(t: &[u8], i: usize, s: Stamp) -> bool
+    requires { ⌜ (i * rowLen + rowLen ≤ length (now t)) × TxThere (rowAt (now t) i) ⌝ }
+    ensures { λ r. ⌜ r ≡ eqb (stampOf (rowAt (now (t .entry)) i)) (s .0) ⌝ }
 {
-    let mut at = 0;
+    stamp_of(row(t, i)) == s.0
+}
+
+// The place of the first entry with a stamp from row `from` on, or `n`.
+fn place_from(t: &[u8], n: usize, s: Stamp, from: usize) -> usize
+    requires { ⌜ Wf (now t) n × (from ≤ n) ⌝ }
+    ensures { λ r. ⌜ (r ≡ from + place (s .0) (tab (entryAt (now (t .entry))) from (n - from))) × (r ≤ n) ⌝ }
+{
+    let mut at = from;
     while at < n {
-        if stamp_of(row(t, at)) == s.0 {
+        if has_stamp(t, at, s) {
             return at;
         }
         at += 1;
     }
     at
+}
+
+// The place of the first entry with a stamp among the first `n` rows, or `n`: four rows a step, since each call looks up.
+pub fn place(t: &[u8], n: usize, s: Stamp) -> usize
+    requires { ⌜ Wf (now t) n ⌝ }
+    ensures { λ r. ⌜ (r ≡ place (s .0) (entries (now (t .entry)) n)) × (r ≤ n) ⌝ }
+{
+    let mut at = 0;
+    while 4 <= n - at {
+        if has_stamp(t, at, s) {
+            return at;
+        }
+        if has_stamp(t, at + 1, s) {
+            return at + 1;
+        }
+        if has_stamp(t, at + 2, s) {
+            return at + 2;
+        }
+        if has_stamp(t, at + 3, s) {
+            return at + 3;
+        }
+        at += 4;
+    }
+    place_from(t, n, s, at)
 }
 
 // 16 unless the reason is 1 to 6 beside an abort, and 0 beside any other vote.
@@ -185,6 +219,20 @@ fn reason_wrong(v: u8, r: u8) -> u8
     0
 }
 
+// 16 where vote or reason is outside its list; a vote that is no abort has reason 0, and one look tells of both.
+fn vote_wrong(e: &[u8]) -> u8
+    requires { ⌜ length (now e) ≡ rowLen ⌝ }
+    ensures { λ n. ⌜ n ≡ voteWrong (now (e .entry)) ⌝ }
+{
+    if records::u16_at(e, VOTE_AT) < 3 {
+        return 0;
+    }
+    if 3 < e[VOTE_AT] {
+        return terms::TABLE;
+    }
+    reason_wrong(e[VOTE_AT], e[REASON_AT])
+}
+
 // 16 where r or w is above 8, or a code is outside its list.
 fn row_wrong(e: &[u8]) -> u8
     requires { ⌜ length (now e) ≡ rowLen ⌝ }
@@ -196,10 +244,7 @@ fn row_wrong(e: &[u8]) -> u8
     if 8 < e[3] {
         return terms::TABLE;
     }
-    if 3 < e[VOTE_AT] {
-        return terms::TABLE;
-    }
-    let wrong = reason_wrong(e[VOTE_AT], e[REASON_AT]);
+    let wrong = vote_wrong(e);
     if wrong != 0 {
         return wrong;
     }
@@ -212,19 +257,51 @@ fn row_wrong(e: &[u8]) -> u8
     0
 }
 
-// Whether one of the first `n` rows is wrong.
-fn any_bad(t: &[u8], n: usize) -> bool
-    requires { ⌜ n * rowLen ≤ length (now t) ⌝ }
-    ensures { λ r. ⌜ r ≡ any rowBad (tab (rowAt (now (t .entry))) 0 n) ⌝ }
+// Whether row `i` is wrong.
+fn bad_at(t: &[u8], i: usize) -> bool
+    requires { ⌜ i * rowLen + rowLen ≤ length (now t) ⌝ }
+    ensures { λ r. ⌜ r ≡ rowBad (rowAt (now (t .entry)) i) ⌝ }
 {
-    let mut i = 0;
+    0 < row_wrong(row(t, i))
+}
+
+// Whether one of the rows from `from` on is wrong.
+fn bad_from(t: &[u8], n: usize, from: usize) -> bool
+    requires { ⌜ (n * rowLen ≤ length (now t)) × (from ≤ n) ⌝ }
+    ensures { λ r. ⌜ r ≡ any rowBad (tab (rowAt (now (t .entry))) from (n - from)) ⌝ }
+{
+    let mut i = from;
     while i < n {
-        if 0 < row_wrong(row(t, i)) {
+        if bad_at(t, i) {
             return true;
         }
         i += 1;
     }
     false
+}
+
+// Whether one of the first `n` rows is wrong: four rows a step, since each call checks them all.
+fn any_bad(t: &[u8], n: usize) -> bool
+    requires { ⌜ n * rowLen ≤ length (now t) ⌝ }
+    ensures { λ r. ⌜ r ≡ any rowBad (tab (rowAt (now (t .entry))) 0 n) ⌝ }
+{
+    let mut i = 0;
+    while 4 <= n - i {
+        if bad_at(t, i) {
+            return true;
+        }
+        if bad_at(t, i + 1) {
+            return true;
+        }
+        if bad_at(t, i + 2) {
+            return true;
+        }
+        if bad_at(t, i + 3) {
+            return true;
+        }
+        i += 4;
+    }
+    bad_from(t, n, i)
 }
 
 // 16 where the table cannot be taken, else 0.
@@ -321,21 +398,30 @@ pub fn row_body(e: &[u8]) -> &[u8]
     &e[..records::tx_len(e)]
 }
 
-// Whether two bodies are the same, byte for byte.
+// Whether all is the same, one byte more compared.
+fn still(ok: bool, x: u8, y: u8) -> bool
+    ensures { λ r. ⌜ r ≡ (eqb x y && ok) ⌝ }
+{
+    if x != y {
+        return false;
+    }
+    ok
+}
+
+// Whether two bodies are the same, byte for byte; to the end, so that many bytes are compared in one step.
 pub fn same(a: &[u8], b: &[u8]) -> bool
     ensures { λ r. ⌜ r ≡ sameBody (now (a .entry)) (now (b .entry)) ⌝ }
 {
     if a.len() != b.len() {
         return false;
     }
+    let mut ok = true;
     let mut i = 0;
     while i < a.len() {
-        if a[i] != b[i] {
-            return false;
-        }
+        ok = still(ok, a[i], b[i]);
         i += 1;
     }
-    true
+    ok
 }
 
 // The body's bytes, over the front of a row.

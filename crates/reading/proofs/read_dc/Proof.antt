@@ -1,9 +1,7 @@
-use mathlib.Core.Path.{sym, _∙_, refl}
+use mathlib.Core.Path.{_∙_, refl}
 use Rattle.records.specs.Messages.{readDC, dcRefusal}
-use Rattle.answer.specs.Answer.{judgedBy}
-use Rattle.terms.proofs.Checks.{first-none}
 use Rattle.reading.proofs.Cuts.{early-cuts, early-small, vl-there}
-use Rattle.reading.proofs.Answers.{refused-by, read-by, part-at, part-tx, judged-is, wrong-list, list-at, three-stop, three-pass}
+use Rattle.reading.proofs.Answers.{refused-by, judged-by, part-at, list-at, three-stop}
 use native.Mathlib.Omega.{arith}
 use borrow.Author.Needs.{needs}
 use Rattle.reading.proofs.read_dc.Statement.{statement}
@@ -31,24 +29,18 @@ vl-part-of-requires c κs = let h = early-cuts _ _ _ _ _ (c .before .before .bef
 list-of-requires : tie.Need-list-of-requires
 list-of-requires c κs = rw (c .vl-part-of .ensures) (vl-there _ _ refl (early-cuts _ _ _ _ _ (c .before .before .before .before .listed-wrong .ensures) (c .before .before .before .if1 .left) .2))
 
-cast-t13 : tie.Need-cast-t13
-cast-t13 c = let h = early-small _ _ _ _ _ (c .before .before .before .before .before .listed-wrong .ensures) (c .before .before .before .before .if1 .left) in omega arith
+cast-t12 : tie.Need-cast-t12
+cast-t12 c = let h = early-small _ _ _ _ _ (c .before .before .before .before .before .listed-wrong .ensures) (c .before .before .before .before .if1 .left) in omega arith
 
 judged-requires : tie.Need-judged-requires
 judged-requires c κs = search needs
 
-refused-requires-2 : tie.Need-refused-requires-2
-refused-requires-2 c κs = search needs
-
 returns-2 : tie.Need-returns-2
 unfolding readDC dcRefusal
-returns-2 c = c .refused2 .ensures ∙ refused-by _ _ _ _ _ (three-pass _ _ _ _ _ _ (c .before .before .before .before .before .before .before .before .listed-wrong .ensures) (c .before .before .before .before .before .before .before .if1 .left) (wrong-list (judgedBy (c .before .before .before .before .before .read-part .result) (c .before .before .before .before .before .before .before .before .before .before .before .args .f)) _ _ _ (list-at (c .before .before .before .before .vl-part-of .ensures) (c .before .before .before .list-of .ensures .0)) (c .before .before .judged .ensures) ∙ judged-is _ _ _ _ _ (part-at _ _ _ (c .before .before .before .before .before .before .tx-part-of .ensures .0) (c .before .before .before .before .before .read-part .ensures)))) (c .before .if2 .taken)
-
-returns-3 : tie.Need-returns-3
-unfolding readDC dcRefusal
-returns-3 c = let p = part-at _ _ _ (c .before .before .before .before .before .before .tx-part-of .ensures .0) (c .before .before .before .before .before .read-part .ensures) in
-    let j = sym (c .before .if2 .left) ∙ wrong-list (judgedBy (c .before .before .before .before .before .read-part .result) (c .before .before .before .before .before .before .before .before .before .before .before .args .f)) _ _ _ (list-at (c .before .before .before .before .vl-part-of .ensures) (c .before .before .before .list-of .ensures .0)) (c .before .before .judged .ensures) ∙ judged-is _ _ _ _ _ p in
-    read-by _ _ _ _ _ _ (three-pass _ _ _ _ _ _ (c .before .before .before .before .before .before .before .before .listed-wrong .ensures) (c .before .before .before .before .before .before .before .if1 .left) j) (part-tx _ _ _ p (first-none _ _ (sym j))) (list-at (c .before .before .before .before .vl-part-of .ensures) (c .before .before .before .list-of .ensures .0))
+returns-2 c =
+    judged-by _ _ _ _ _ _ _ _ _ _ _ _ (c .before .before .before .before .before .before .listed-wrong .ensures) (c .before .before .before .before .before .if1 .left)
+    (part-at _ _ _ (c .before .before .before .before .tx-part-of .ensures .0) (c .before .before .before .read-part .ensures))
+    (list-at (c .before .before .vl-part-of .ensures) (c .before .list-of .ensures .0)) (c .judged .ensures)
 
 pub read-dc-spec : {M : Type 1} → statement M
 read-dc-spec =
@@ -61,8 +53,6 @@ read-dc-spec =
     read-part-requires
     vl-part-of-requires
     list-of-requires
-    cast-t13
+    cast-t12
     judged-requires
-    refused-requires-2
-    returns-2
-    returns-3)
+    returns-2)

@@ -11,10 +11,13 @@ use Rattle.scans.proofs.test_3.Statement.{statement}
 use Rattle.scans.proofs.test_3.Tie as tie
 
 abbrev Inv-loop : tie.InvT-loop
-Inv-loop t n b i₀ i = Rest (hit3 b) (entryAt t) n (test3 (over (entries t n)) b) i
+Inv-loop t n b low i₀ i = Rest (hit3 b) (entryAt t) n (test3 (over (entries t n)) b) i
 
 abbrev μ-loop : tie.MeasureT-loop
-μ-loop t n b i₀ i = n - i
+μ-loop t n b low i₀ i = n - i
+
+lowest-read-requires : tie.Need-lowest-read-requires Inv-loop μ-loop
+lowest-read-requires c κs = search needs
 
 loop-holds : tie.Need-loop-holds Inv-loop μ-loop
 unfolding test3 hit3
@@ -24,7 +27,7 @@ row-requires : tie.Need-row-requires Inv-loop μ-loop
 row-requires c κs = search needs
 
 hit-3-requires : tie.Need-hit-3-requires Inv-loop μ-loop
-hit-3-requires c κs = (rw (c .row .ensures .0) (c .before .before .before .before .before .pre .0 .rows (c .before .before .loop .i) (omega arith)), c .before .before .before .before .before .pre .1)
+hit-3-requires c κs = (rw (c .row .ensures .0) (c .before .before .before .before .before .before .pre .0 .rows (c .before .before .loop .i) (omega arith)), c .before .before .before .before .before .before .pre .1, c .before .before .before .lowest-read .ensures)
 
 returns : tie.Need-returns Inv-loop μ-loop
 returns c = found (c .before .before .before .before .loop .inv) (omega arith) (rw (← c .before .before .row .ensures .0) (sym (c .before .hit-3 .ensures) ∙ c .if1 .taken))
@@ -47,6 +50,7 @@ test-3-spec =
     (tie.spec
     Inv-loop
     μ-loop
+    lowest-read-requires
     loop-holds
     row-requires
     hit-3-requires

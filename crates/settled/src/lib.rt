@@ -1,0 +1,1 @@
+// No code: the theorems that every public function's contract settles its calls stand in proofs/.

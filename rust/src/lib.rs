@@ -1,0 +1,39 @@
+//! One box of a register, its records, and the gateway's tally: the proved engine behind safe functions.
+//!
+//! ```
+//! use stobbarel::{write_pr, write_rd, Answer, Decision, Group, Key, Kind, Reply, Sheet, Stamp, Table, Transaction, Version, Vote, LONGEST};
+//!
+//! let group = Group::of(1)?;
+//! let mut table = Table::new(group, 8)?;
+//! let mut buffer = [0; LONGEST];
+//!
+//! // 50 writes 7 at key 3: a vote for commit.
+//! let tx = Transaction { stamp: Stamp(50), reads: vec![], writes: vec![(Key(3), 7)] };
+//! let length = write_pr(&tx, &mut buffer)?;
+//! assert_eq!(table.receive(100, 10, &buffer[..length]), Answer::Voted(Vote::Commit));
+//!
+//! // An RD shows it, undecided.
+//! let length = write_rd(Key(3), Stamp(60), &mut buffer)?;
+//! let none = Version { version: Stamp(0), value: 0 };
+//! assert_eq!(table.receive(100, 10, &buffer[..length]), Answer::Found(none, Version { version: Stamp(50), value: 7 }));
+//!
+//! // A gateway hears commit from four of the six boxes: enough to log it.
+//! let mut sheet = Sheet::new(group, Kind::Votes);
+//! for number in 0..3 {
+//!     assert!(matches!(sheet.take(number, Decision::Commit), Reply::Votes { commit_list: false, .. }));
+//! }
+//! assert!(matches!(sheet.take(3, Decision::Commit), Reply::Votes { commit_list: true, commit_proof: false, .. }));
+//! # Ok::<(), stobbarel::Refusal>(())
+//! ```
+#![deny(missing_docs)]
+
+mod c;
+mod records;
+mod sheet;
+mod table;
+mod terms;
+
+pub use records::{check_tx, check_vl, read_message, tx_part, write_dc, write_lg, write_pr, write_rd, write_tx, write_vl, Message, Transaction, VoteList, LONGEST};
+pub use sheet::{Reply, Sheet};
+pub use table::{Answer, Table, Version, Vote};
+pub use terms::{Decision, Group, Key, Kind, Reason, Refusal, Stamp};

@@ -1,0 +1,194 @@
+//! The records: written into a lent buffer, read from any bytes.
+
+use crate::c;
+use crate::terms::{Decision, Group, Key, Kind, Refusal, Stamp};
+
+/// The longest record: an LG or a DC with eight reads, eight writes and 26 pairs.
+pub const LONGEST: usize = 231;
+
+/// Up to eight reads and up to eight writes, at least one of either; more are refused when it is written.
+#[derive(Clone, Debug, Default, PartialEq, Eq, Hash)]
+pub struct Transaction {
+    /// 1 or more.
+    pub stamp: Stamp,
+    /// Keys, strictly rising, each with the version that was read; version 0 is the start.
+    pub reads: Vec<(Key, Stamp)>,
+    /// Keys, strictly rising, each with the value to write.
+    pub writes: Vec<(Key, u64)>,
+}
+
+/// What boxes answered: 1 to 26 of them, their numbers strictly rising.
+#[derive(Clone, Debug, PartialEq, Eq, Hash)]
+pub struct VoteList {
+    /// Votes or logged decisions.
+    pub kind: Kind,
+    /// The decision that the list is for; only these answers are counted.
+    pub decision: Decision,
+    /// Box numbers and their answers.
+    pub pairs: Vec<(u8, Decision)>,
+}
+
+/// A message that was read.
+#[derive(Clone, Debug, PartialEq, Eq, Hash)]
+pub enum Message {
+    /// PR: a transaction to vote on.
+    Prepare(Transaction),
+    /// LG: a decision to log.
+    Log(Transaction, VoteList),
+    /// DC: a decision.
+    Decide(Transaction, VoteList),
+    /// RD: what stands at a key, below a stamp.
+    Read(Key, Stamp),
+}
+
+/// A transaction as it is lent; a count above eight is lent as it is, and refused.
+struct LentTx {
+    stamp: u64,
+    r: usize,
+    w: usize,
+    reads: [u16; 8],
+    versions: [u64; 8],
+    writes: [u16; 8],
+    values: [u64; 8],
+}
+
+impl LentTx {
+    fn of(tx: &Transaction) -> LentTx {
+        let mut lent = LentTx { stamp: tx.stamp.0, r: tx.reads.len(), w: tx.writes.len(), reads: [0; 8], versions: [0; 8], writes: [0; 8], values: [0; 8] };
+        for (i, (key, version)) in tx.reads.iter().take(8).enumerate() {
+            (lent.reads[i], lent.versions[i]) = (key.0, version.0);
+        }
+        for (i, (key, value)) in tx.writes.iter().take(8).enumerate() {
+            (lent.writes[i], lent.values[i]) = (key.0, *value);
+        }
+        lent
+    }
+}
+
+struct LentList {
+    kind: u8,
+    decision: u8,
+    count: usize,
+    numbers: [u8; 26],
+    answers: [u8; 26],
+}
+
+impl LentList {
+    fn of(list: &VoteList) -> LentList {
+        let mut lent = LentList { kind: list.kind as u8, decision: list.decision as u8, count: list.pairs.len(), numbers: [0; 26], answers: [0; 26] };
+        for (i, (number, answer)) in list.pairs.iter().take(26).enumerate() {
+            (lent.numbers[i], lent.answers[i]) = (*number, *answer as u8);
+        }
+        lent
+    }
+}
+
+/// A writer's two answers as one.
+fn told(write: impl FnOnce(&mut usize) -> u8) -> Result<usize, Refusal> {
+    let mut length = 0;
+    Refusal::or_done(write(&mut length))?;
+    Ok(length)
+}
+
+// In each call below a pointer is to as many numbers as the function takes, and only `out` and the length are lent for writing.
+
+/// A TX by itself. Each writer answers how many bytes it wrote at the front of `out`; a refusal leaves `out` as it was.
+pub fn write_tx(tx: &Transaction, out: &mut [u8]) -> Result<usize, Refusal> {
+    let x = LentTx::of(tx);
+    told(|length| unsafe {
+        c::stobbarel_write_tx(x.stamp, x.r, x.w, x.reads.as_ptr(), x.versions.as_ptr(), x.writes.as_ptr(), x.values.as_ptr(), out.as_mut_ptr(), out.len(), length)
+    })
+}
+
+/// A VL by itself.
+pub fn write_vl(group: Group, list: &VoteList, out: &mut [u8]) -> Result<usize, Refusal> {
+    let l = LentList::of(list);
+    told(|length| unsafe {
+        c::stobbarel_write_vl(group.f(), l.kind, l.decision, l.count, l.numbers.as_ptr(), l.answers.as_ptr(), out.as_mut_ptr(), out.len(), length)
+    })
+}
+
+/// PR.
+pub fn write_pr(tx: &Transaction, out: &mut [u8]) -> Result<usize, Refusal> {
+    let x = LentTx::of(tx);
+    told(|length| unsafe {
+        c::stobbarel_write_pr(x.stamp, x.r, x.w, x.reads.as_ptr(), x.versions.as_ptr(), x.writes.as_ptr(), x.values.as_ptr(), out.as_mut_ptr(), out.len(), length)
+    })
+}
+
+/// LG: its list is of votes.
+pub fn write_lg(group: Group, tx: &Transaction, list: &VoteList, out: &mut [u8]) -> Result<usize, Refusal> {
+    let (x, l) = (LentTx::of(tx), LentList::of(list));
+    told(|length| unsafe {
+        c::stobbarel_write_lg(
+            group.f(), x.stamp, x.r, x.w, x.reads.as_ptr(), x.versions.as_ptr(), x.writes.as_ptr(), x.values.as_ptr(),
+            l.kind, l.decision, l.count, l.numbers.as_ptr(), l.answers.as_ptr(), out.as_mut_ptr(), out.len(), length,
+        )
+    })
+}
+
+/// DC.
+pub fn write_dc(group: Group, tx: &Transaction, list: &VoteList, out: &mut [u8]) -> Result<usize, Refusal> {
+    let (x, l) = (LentTx::of(tx), LentList::of(list));
+    told(|length| unsafe {
+        c::stobbarel_write_dc(
+            group.f(), x.stamp, x.r, x.w, x.reads.as_ptr(), x.versions.as_ptr(), x.writes.as_ptr(), x.values.as_ptr(),
+            l.kind, l.decision, l.count, l.numbers.as_ptr(), l.answers.as_ptr(), out.as_mut_ptr(), out.len(), length,
+        )
+    })
+}
+
+/// RD.
+pub fn write_rd(key: Key, stamp: Stamp, out: &mut [u8]) -> Result<usize, Refusal> {
+    told(|length| unsafe { c::stobbarel_write_rd(key.0, stamp.0, out.as_mut_ptr(), out.len(), length) })
+}
+
+/// Whether these bytes are a TX in order.
+pub fn check_tx(bytes: &[u8]) -> Result<(), Refusal> {
+    Refusal::or_done(unsafe { c::stobbarel_reading_tx(bytes.as_ptr(), bytes.len()) })
+}
+
+/// Whether these bytes are a VL in order.
+pub fn check_vl(group: Group, bytes: &[u8]) -> Result<(), Refusal> {
+    Refusal::or_done(unsafe { c::stobbarel_reading_vl(group.f(), bytes.as_ptr(), bytes.len()) })
+}
+
+/// A message's values. Without a clock, so never [`Refusal::Ahead`].
+pub fn read_message(group: Group, message: &[u8]) -> Result<Message, Refusal> {
+    let mut head = [0; 8];
+    let (mut reads, mut versions, mut writes, mut values) = ([0; 8], [0; 8], [0; 8], [0; 8]);
+    let (mut numbers, mut answers) = ([0; 26], [0; 26]);
+    // Each pointer is to as many numbers as the function takes, and they do not overlap.
+    Refusal::or_done(unsafe {
+        c::stobbarel_fields(
+            group.f(), message.as_ptr(), message.len(), head.as_mut_ptr(), reads.as_mut_ptr(), versions.as_mut_ptr(), writes.as_mut_ptr(),
+            values.as_mut_ptr(), numbers.as_mut_ptr(), answers.as_mut_ptr(),
+        )
+    })?;
+    let [mark, stamp, r, w, key, kind, decision, count] = head;
+    let tx = Transaction {
+        stamp: Stamp(stamp),
+        reads: (0..r as usize).map(|i| (Key(reads[i]), Stamp(versions[i]))).collect(),
+        writes: (0..w as usize).map(|i| (Key(writes[i]), values[i])).collect(),
+    };
+    let list = || VoteList {
+        kind: if kind == 1 { Kind::Votes } else { Kind::Logs },
+        decision: Decision::of(decision).expect("a list that was read names a decision"),
+        pairs: (0..count as usize).map(|i| (numbers[i], Decision::of(answers[i].into()).expect("a pair that was read has an answer"))).collect(),
+    };
+    Ok(match mark {
+        3 => Message::Prepare(tx),
+        4 => Message::Log(tx, list()),
+        5 => Message::Decide(tx, list()),
+        _ => Message::Read(Key(key as u16), Stamp(stamp)),
+    })
+}
+
+/// The transaction's bytes inside a message, as they stand; empty for a refused message or an RD.
+pub fn tx_part(group: Group, message: &[u8]) -> &[u8] {
+    let length = unsafe { c::stobbarel_part(group.f(), message.as_ptr(), message.len()) };
+    if length == 0 {
+        return &[];
+    }
+    &message[2..2 + length]
+}

@@ -1,0 +1,179 @@
+//! The papers' words: stamp, key, decision, kind, reason, refusal, and the group of boxes.
+
+use crate::c;
+
+/// A moment and a writer; 1 or more where it is in order.
+#[derive(Clone, Copy, Debug, Default, PartialEq, Eq, PartialOrd, Ord, Hash)]
+pub struct Stamp(pub u64);
+
+/// A register place; 0 to 511 where it is in order.
+#[derive(Clone, Copy, Debug, Default, PartialEq, Eq, PartialOrd, Ord, Hash)]
+pub struct Key(pub u16);
+
+/// What a list names, and what a box answers.
+#[derive(Clone, Copy, Debug, PartialEq, Eq, Hash)]
+pub enum Decision {
+    /// 1
+    Commit = 1,
+    /// 2
+    Abort = 2,
+}
+
+impl Decision {
+    pub(crate) fn of(number: u64) -> Option<Decision> {
+        [Decision::Commit, Decision::Abort].into_iter().find(|one| *one as u64 == number)
+    }
+}
+
+/// Of what a list or a tally sheet is made.
+#[derive(Clone, Copy, Debug, PartialEq, Eq, Hash)]
+pub enum Kind {
+    /// 1
+    Votes = 1,
+    /// 2
+    Logs = 2,
+}
+
+/// Why a box voted abort.
+#[derive(Clone, Copy, Debug, PartialEq, Eq, Hash)]
+pub enum Reason {
+    /// 1: the stamp is above clock + δ.
+    Ahead = 1,
+    /// 2: a version read is not a live entry that writes the key.
+    NoVersion = 2,
+    /// 3: a live entry writes a key read here, between the version and this stamp.
+    Overwritten = 3,
+    /// 4: a live entry above read a key written here, at a version below.
+    Undercuts = 4,
+    /// 5: a written key's read mark is above this stamp.
+    ReadMark = 5,
+    /// 6: what was waited for is aborted, lacks the key or is not held.
+    Dependency = 6,
+}
+
+impl Reason {
+    pub(crate) fn of(number: u64) -> Option<Reason> {
+        use Reason::*;
+        [Ahead, NoVersion, Overwritten, Undercuts, ReadMark, Dependency].into_iter().find(|one| *one as u64 == number)
+    }
+}
+
+/// Why nothing was done. The numbers are the paper's.
+#[derive(Clone, Copy, Debug, PartialEq, Eq, Hash)]
+pub enum Refusal {
+    /// Bytes end inside a record.
+    Short = 1,
+    /// The mark is not the one due.
+    Mark = 2,
+    /// r or w above 8, r + w = 0, list count 0 or above 26.
+    Count = 3,
+    /// Bytes after the message.
+    Trailing = 4,
+    /// Stamp 0, key above 511, box number n or more.
+    Range = 5,
+    /// Keys or box numbers not strictly rising.
+    Order = 6,
+    /// A read version at or above the own stamp.
+    Misbehaviour = 7,
+    /// Kind, decision or answer not 1 or 2; kind 2 in an LG.
+    Code = 8,
+    /// Another body is held under this stamp.
+    OtherBody = 9,
+    /// LG for a stamp not held.
+    Unknown = 10,
+    /// The list misses its threshold.
+    TooFew = 11,
+    /// The stamp is already decided otherwise.
+    Contradiction = 12,
+    /// A new entry is needed and the table is at capacity.
+    Full = 13,
+    /// f not 1 to 5, or capacity not 1 to 255.
+    Group = 14,
+    /// RD stamp above clock + δ.
+    Ahead = 15,
+    /// A lent table or tally sheet that is not in order.
+    Table = 16,
+    /// The output buffer is shorter than the record.
+    Buffer = 17,
+}
+
+impl Refusal {
+    /// The paper's number.
+    pub fn number(self) -> u8 {
+        self as u8
+    }
+
+    pub(crate) fn of(number: u64) -> Option<Refusal> {
+        use Refusal::*;
+        let all = [Short, Mark, Count, Trailing, Range, Order, Misbehaviour, Code, OtherBody, Unknown, TooFew, Contradiction, Full, Group, Ahead, Table, Buffer];
+        all.into_iter().find(|one| *one as u64 == number)
+    }
+
+    /// 0, or the number of a refusal, as the C functions answer.
+    pub(crate) fn or_done(number: u8) -> Result<(), Refusal> {
+        match number {
+            0 => Ok(()),
+            number => Err(Refusal::of(number.into()).expect("the engine tells a number of the paper's")),
+        }
+    }
+}
+
+impl std::fmt::Display for Refusal {
+    fn fmt(&self, f: &mut std::fmt::Formatter) -> std::fmt::Result {
+        write!(f, "refused {}: {self:?}", self.number())
+    }
+}
+
+impl std::error::Error for Refusal {}
+
+/// A group of 5f + 1 boxes, of which at most f are faulty, and how many answers each thing needs.
+#[derive(Clone, Copy, Debug, PartialEq, Eq, Hash)]
+pub struct Group {
+    f: u64,
+    needed: [u64; 6],
+}
+
+impl Group {
+    /// The group of f, which is 1 to 5.
+    pub fn of(f: u64) -> Result<Group, Refusal> {
+        let mut needed = [0; 6];
+        // The pointer is to six numbers.
+        Refusal::or_done(unsafe { c::stobbarel_thresholds(f, needed.as_mut_ptr()) })?;
+        Ok(Group { f, needed })
+    }
+
+    /// How many boxes may be faulty.
+    pub fn f(self) -> u64 {
+        self.f
+    }
+
+    /// n: boxes are numbered 0 to n - 1.
+    pub fn boxes(self) -> u64 {
+        self.needed[0]
+    }
+
+    /// Commit votes to log commit.
+    pub fn commit_list(self) -> u64 {
+        self.needed[1]
+    }
+
+    /// Abort votes to log abort.
+    pub fn abort_list(self) -> u64 {
+        self.needed[2]
+    }
+
+    /// Commit votes that prove commit.
+    pub fn commit_proof(self) -> u64 {
+        self.needed[3]
+    }
+
+    /// Abort votes that prove abort.
+    pub fn abort_proof(self) -> u64 {
+        self.needed[4]
+    }
+
+    /// Equal logged decisions that prove that decision.
+    pub fn log_proof(self) -> u64 {
+        self.needed[5]
+    }
+}

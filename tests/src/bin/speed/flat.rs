@@ -1,0 +1,423 @@
+//! The paper's rules over the lent table itself, in ordinary Rust that copies and allocates nothing: what the engine does, unproved.
+
+use crate::model::{Answer, Decision, Settings, THRESHOLDS};
+
+const ROW: usize = 176;
+const VOTE: usize = 172;
+const REASON: usize = 173;
+const LOG: usize = 174;
+const DECISION: usize = 175;
+
+fn u64_at(bytes: &[u8], at: usize) -> u64 {
+    u64::from_le_bytes(bytes[at..at + 8].try_into().expect("eight bytes"))
+}
+
+/// A key and a version, or a key and a value.
+fn pair(bytes: &[u8]) -> (u16, u64) {
+    (u16::from_le_bytes([bytes[0], bytes[1]]), u64_at(bytes, 2))
+}
+
+/// A TX, at the front of a row or inside a message.
+#[derive(Clone, Copy)]
+struct Body<'a>(&'a [u8]);
+
+impl<'a> Body<'a> {
+    fn length(self) -> usize {
+        12 + 10 * (self.0[2] as usize + self.0[3] as usize)
+    }
+
+    fn stamp(self) -> u64 {
+        u64_at(self.0, 4)
+    }
+
+    fn reads(self) -> impl Iterator<Item = (u16, u64)> + 'a {
+        self.0[12..12 + 10 * self.0[2] as usize].chunks_exact(10).map(pair)
+    }
+
+    fn writes(self) -> impl Iterator<Item = (u16, u64)> + 'a {
+        self.0[12 + 10 * self.0[2] as usize..self.length()].chunks_exact(10).map(pair)
+    }
+
+    fn writes_key(self, key: u16) -> bool {
+        self.writes().any(|(written, _)| written == key)
+    }
+}
+
+/// A row of the table.
+#[derive(Clone, Copy)]
+struct Row<'a>(&'a [u8; ROW]);
+
+impl<'a> Row<'a> {
+    fn body(self) -> Body<'a> {
+        Body(self.0)
+    }
+
+    fn same(self, tx: Body) -> bool {
+        self.0[..self.body().length()] == *tx.0
+    }
+
+    fn in_order(self) -> bool {
+        let reason = if self.0[VOTE] == 3 { (1..=6).contains(&self.0[REASON]) } else { self.0[REASON] == 0 };
+        self.0[2] <= 8 && self.0[3] <= 8 && self.0[VOTE] <= 3 && reason && self.0[LOG] <= 2 && self.0[DECISION] <= 2
+    }
+
+    fn live(self) -> bool {
+        self.0[DECISION] == 1 || self.0[DECISION] == 0 && matches!(self.0[VOTE], 1 | 2)
+    }
+}
+
+/// The rows of a table that is taken.
+#[derive(Clone, Copy)]
+struct Rows<'a>(&'a [[u8; ROW]]);
+
+impl<'a> Rows<'a> {
+    fn all(self) -> impl DoubleEndedIterator<Item = Row<'a>> {
+        self.0.iter().map(Row)
+    }
+
+    fn live(self) -> impl Iterator<Item = Body<'a>> {
+        self.all().filter(|row| row.live()).map(Row::body)
+    }
+
+    fn place(self, stamp: u64) -> Option<usize> {
+        self.all().position(|row| row.body().stamp() == stamp)
+    }
+
+    fn held(self, stamp: u64) -> Option<Row<'a>> {
+        self.place(stamp).map(|place| Row(&self.0[place]))
+    }
+
+    fn names(self, key: u16, version: u64) -> bool {
+        self.held(version).is_some_and(|row| row.live() && row.body().writes_key(key))
+    }
+
+    /// The number of the first failing test.
+    fn failing_test(self, marks: &[u64], tx: Body, settings: &Settings) -> Option<u8> {
+        let stamp = tx.stamp();
+        if ahead(settings, stamp) {
+            return Some(1);
+        }
+        if tx.reads().any(|(key, version)| version != 0 && !self.names(key, version)) {
+            return Some(2);
+        }
+        let missed = |held: Body| held.stamp() < stamp && tx.reads().any(|(key, version)| version < held.stamp() && held.writes_key(key));
+        if self.live().any(missed) {
+            return Some(3);
+        }
+        let undercut = |held: Body| held.stamp() > stamp && held.reads().any(|(key, version)| version < stamp && tx.writes_key(key));
+        if self.live().any(undercut) {
+            return Some(4);
+        }
+        if tx.writes().any(|(key, _)| marks[key as usize] > stamp) {
+            return Some(5);
+        }
+        None
+    }
+
+    /// The codes of vote and reason.
+    fn waiting_rule(self, tx: Body) -> (u8, u8) {
+        let mut vote = 2;
+        for (key, version) in tx.reads().filter(|(_, version)| *version != 0) {
+            match self.held(version) {
+                Some(row) if row.0[DECISION] == 0 => vote = 1,
+                Some(row) if row.0[DECISION] == 1 && row.body().writes_key(key) => {}
+                _ => return (3, 6),
+            }
+        }
+        (vote, 0)
+    }
+
+    fn first_vote(self, marks: &[u64], tx: Body, settings: &Settings) -> (u8, u8) {
+        match self.failing_test(marks, tx, settings) {
+            Some(reason) => (3, reason),
+            None => self.waiting_rule(tx),
+        }
+    }
+
+    /// Version and value of the writer with the highest stamp strictly below, the first among equals.
+    fn newest(self, key: u16, below: u64, wanted: impl Fn(Row) -> bool) -> (u64, u64) {
+        let mut best = (0, 0);
+        for row in self.all().rev() {
+            let stamp = row.body().stamp();
+            if stamp < below && stamp >= best.0 && wanted(row) {
+                if let Some((_, value)) = row.body().writes().find(|(written, _)| *written == key) {
+                    best = (stamp, value);
+                }
+            }
+        }
+        best
+    }
+}
+
+fn ahead(settings: &Settings, stamp: u64) -> bool {
+    stamp > settings.clock && stamp - settings.clock > settings.delta
+}
+
+// ---- reading
+
+fn rises(keys: impl Iterator<Item = u16>) -> bool {
+    keys.is_sorted_by(|one, next| one < next)
+}
+
+/// The TX at the front and what stands behind it, its contents not yet judged.
+fn cut_transaction(bytes: &[u8]) -> Result<(Body<'_>, &[u8]), u8> {
+    if bytes.len() < 2 {
+        return Err(1);
+    }
+    if !bytes.starts_with(b"TX") {
+        return Err(2);
+    }
+    if bytes.len() < 4 {
+        return Err(1);
+    }
+    if bytes[2] > 8 || bytes[3] > 8 || bytes[2] + bytes[3] == 0 {
+        return Err(3);
+    }
+    let (tx, rest) = bytes.split_at_checked(Body(bytes).length()).ok_or(1)?;
+    Ok((Body(tx), rest))
+}
+
+fn judge_transaction(tx: Body) -> Result<(), u8> {
+    let keys = |pair: (u16, u64)| pair.0;
+    if tx.stamp() == 0 || tx.reads().chain(tx.writes()).any(|(key, _)| key > 511) {
+        return Err(5);
+    }
+    if !rises(tx.reads().map(keys)) || !rises(tx.writes().map(keys)) {
+        return Err(6);
+    }
+    if tx.reads().any(|(_, version)| version >= tx.stamp()) {
+        return Err(7);
+    }
+    Ok(())
+}
+
+/// A VL: kind, decision, and the pairs' bytes.
+struct List<'a> {
+    kind: u8,
+    decision: u8,
+    pairs: &'a [u8],
+}
+
+fn cut_list(bytes: &[u8]) -> Result<List<'_>, u8> {
+    if bytes.len() < 2 {
+        return Err(1);
+    }
+    if !bytes.starts_with(b"VL") {
+        return Err(2);
+    }
+    if bytes.len() < 5 {
+        return Err(1);
+    }
+    if bytes[4] == 0 || bytes[4] > 26 {
+        return Err(3);
+    }
+    let (pairs, behind) = bytes[5..].split_at_checked(2 * bytes[4] as usize).ok_or(1)?;
+    if !behind.is_empty() {
+        return Err(4);
+    }
+    Ok(List { kind: bytes[2], decision: bytes[3], pairs })
+}
+
+impl List<'_> {
+    fn judge(&self, settings: &Settings, logs_allowed: bool) -> Result<(), u8> {
+        let odd = |code: u8| code != 1 && code != 2;
+        let pairs = || self.pairs.chunks_exact(2);
+        if odd(self.kind) || self.kind == 2 && !logs_allowed || odd(self.decision) || pairs().any(|pair| odd(pair[1])) {
+            return Err(8);
+        }
+        if pairs().any(|pair| u64::from(pair[0]) >= settings.boxes()) {
+            return Err(5);
+        }
+        if !rises(pairs().map(|pair| u16::from(pair[0]))) {
+            return Err(6);
+        }
+        Ok(())
+    }
+
+    fn counted(&self) -> usize {
+        self.pairs.chunks_exact(2).filter(|pair| pair[1] == self.decision).count()
+    }
+
+    /// Whether it meets its threshold, for logging or as a proof.
+    fn meets(&self, settings: &Settings, logging: bool) -> bool {
+        let column = match (logging, self.kind, self.decision) {
+            (true, _, decision) => decision as usize - 1,
+            (false, 1, decision) => decision as usize + 1,
+            (false, _, _) => 4,
+        };
+        self.counted() >= THRESHOLDS[settings.f as usize - 1][column]
+    }
+}
+
+// ---- a box
+
+/// What a call makes of a row: the codes of vote, reason, log and decision, beside the message's body.
+type Codes = [u8; 4];
+
+/// The table stays, or a row becomes the message's body with these codes.
+type Step = (Answer, Option<(usize, Codes)>);
+
+fn decision(code: u8) -> Decision {
+    if code == 1 {
+        Decision::Commit
+    } else {
+        Decision::Abort
+    }
+}
+
+fn told(vote: u8, reason: u8) -> Answer {
+    match vote {
+        1 => Answer::Wait,
+        2 => Answer::Commit,
+        _ => Answer::Abort(reason),
+    }
+}
+
+fn keep(answer: Answer) -> Step {
+    (answer, None)
+}
+
+fn prepare(rows: Rows, marks: &[u64], tx: Body, settings: &Settings) -> Step {
+    let Some(place) = rows.place(tx.stamp()) else {
+        if rows.0.len() as u64 >= settings.capacity {
+            return keep(Answer::Refused(13));
+        }
+        let (vote, reason) = rows.first_vote(marks, tx, settings);
+        return (told(vote, reason), Some((rows.0.len(), [vote, reason, 0, 0])));
+    };
+    let held = Row(&rows.0[place]);
+    if !held.same(tx) {
+        return keep(Answer::Refused(9));
+    }
+    let [vote, reason, log, decided] = [held.0[VOTE], held.0[REASON], held.0[LOG], held.0[DECISION]];
+    if decided != 0 {
+        return keep(Answer::Decided(decision(decided)));
+    }
+    let (vote, reason) = match vote {
+        0 => rows.first_vote(marks, tx, settings),
+        1 => rows.waiting_rule(tx),
+        _ => return keep(told(vote, reason)),
+    };
+    (told(vote, reason), Some((place, [vote, reason, log, 0])))
+}
+
+fn log(rows: Rows, tx: Body, list: &List, settings: &Settings) -> Step {
+    let Some(place) = rows.place(tx.stamp()) else {
+        return keep(Answer::Refused(10));
+    };
+    let held = Row(&rows.0[place]);
+    if !held.same(tx) {
+        return keep(Answer::Refused(9));
+    }
+    if held.0[DECISION] != 0 {
+        return keep(Answer::Decided(decision(held.0[DECISION])));
+    }
+    if held.0[LOG] != 0 {
+        return keep(Answer::Logged(decision(held.0[LOG])));
+    }
+    if !list.meets(settings, true) {
+        return keep(Answer::Refused(11));
+    }
+    (Answer::Logged(decision(list.decision)), Some((place, [held.0[VOTE], held.0[REASON], list.decision, 0])))
+}
+
+fn decide(rows: Rows, tx: Body, list: &List, settings: &Settings) -> Step {
+    if !list.meets(settings, false) {
+        return keep(Answer::Refused(11));
+    }
+    let alone = [0, 0, 0, list.decision];
+    let Some(place) = rows.place(tx.stamp()) else {
+        if rows.0.len() as u64 >= settings.capacity {
+            return keep(Answer::Refused(13));
+        }
+        return (Answer::Done, Some((rows.0.len(), alone)));
+    };
+    let held = Row(&rows.0[place]);
+    match (held.same(tx), held.0[DECISION]) {
+        (true, 0) => (Answer::Done, Some((place, [held.0[VOTE], held.0[REASON], held.0[LOG], list.decision]))),
+        (true, decided) if decided == list.decision => keep(Answer::Done),
+        (true, _) => keep(Answer::Refused(12)),
+        (false, _) if list.decision == 2 => keep(Answer::Refused(9)),
+        (false, 1) => keep(Answer::Refused(12)),
+        (false, _) => (Answer::Done, Some((place, alone))),
+    }
+}
+
+fn read(rows: Rows, marks: &mut [u64], message: &[u8], settings: &Settings) -> Result<Answer, u8> {
+    if message.len() < 12 {
+        return Err(1);
+    }
+    if message.len() > 12 {
+        return Err(4);
+    }
+    let (key, stamp) = pair(&message[2..]);
+    if stamp == 0 || key > 511 {
+        return Err(5);
+    }
+    if ahead(settings, stamp) {
+        return Err(15);
+    }
+    let mark = &mut marks[key as usize];
+    *mark = stamp.max(*mark);
+    let committed = rows.newest(key, stamp, |row| row.0[DECISION] == 1);
+    let undecided = rows.newest(key, stamp, |row| row.0[DECISION] == 0 && row.live());
+    Ok(Answer::Found { committed, undecided })
+}
+
+/// The rows of a lent table, or 16.
+fn taken(table: &[u8], capacity: usize) -> Result<Rows<'_>, u8> {
+    if table.len() < 1 + capacity * ROW || table[0] as usize > capacity {
+        return Err(16);
+    }
+    let rows = Rows(&table[1..].as_chunks().0[..table[0] as usize]);
+    if rows.all().all(Row::in_order) {
+        Ok(rows)
+    } else {
+        Err(16)
+    }
+}
+
+/// PR, LG or DC as one step, and the length of the message's body.
+fn step(rows: Rows, marks: &[u64], message: &[u8], settings: &Settings) -> Result<(Step, usize), u8> {
+    let (tx, behind) = cut_transaction(&message[2..])?;
+    if message.starts_with(b"PR") {
+        if !behind.is_empty() {
+            return Err(4);
+        }
+        judge_transaction(tx)?;
+        return Ok((prepare(rows, marks, tx, settings), tx.0.len()));
+    }
+    let list = cut_list(behind)?;
+    judge_transaction(tx)?;
+    let logging = message.starts_with(b"LG");
+    list.judge(settings, !logging)?;
+    let step = if logging { log(rows, tx, &list, settings) } else { decide(rows, tx, &list, settings) };
+    Ok((step, tx.0.len()))
+}
+
+fn tried(table: &mut [u8], marks: &mut [u64], settings: &Settings, message: &[u8]) -> Result<Answer, u8> {
+    if !settings.in_order() {
+        return Err(14);
+    }
+    let rows = taken(table, settings.capacity as usize)?;
+    let mark = message.get(..2).ok_or(1)?;
+    if mark == b"RD" {
+        return read(rows, marks, message, settings);
+    }
+    if !matches!(mark, b"PR" | b"LG" | b"DC") {
+        return Err(2);
+    }
+    let ((answer, stored), length) = step(rows, marks, message, settings)?;
+    if let Some((place, codes)) = stored {
+        table[0] = table[0].max(place as u8 + 1);
+        let row = &mut table[1 + place * ROW..][..ROW];
+        row[..length].copy_from_slice(&message[2..2 + length]);
+        row[VOTE..].copy_from_slice(&codes);
+    }
+    Ok(answer)
+}
+
+/// Any of the four messages.
+pub fn receive(table: &mut [u8], marks: &mut [u64], settings: &Settings, message: &[u8]) -> Answer {
+    tried(table, marks, settings, message).unwrap_or_else(Answer::Refused)
+}

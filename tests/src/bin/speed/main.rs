@@ -1,0 +1,154 @@
+//! How fast the engine is: `speed` times each call on the engine, on the model's own box and on the flat box, in turns,
+//! and prints the ratios. `speed NAME SIZE BOX TIMES` makes one call so many times on one box, for a profiler.
+
+#[path = "../../engine.rs"]
+#[allow(dead_code)]
+mod engine;
+#[path = "../../mix.rs"]
+mod mix;
+#[path = "../../model.rs"]
+#[allow(dead_code)]
+mod model;
+#[path = "../../random.rs"]
+mod random;
+
+mod boxes;
+mod calls;
+mod flat;
+
+use boxes::{Engine, Flat, Own, Timed};
+use calls::{Call, NAMES, SETTINGS};
+use std::hint::black_box;
+use std::time::{Duration, Instant};
+
+const SIZES: [usize; 4] = [1, 16, 64, 255];
+const ROUNDS: usize = 101;
+const BATCH: Duration = Duration::from_micros(200);
+
+/// Nanoseconds a call.
+fn batch<B: Timed>(timed: &mut B, call: &Call, times: u32) -> f64 {
+    let start = Instant::now();
+    for _ in 0..times {
+        black_box(timed.call(black_box(&SETTINGS), black_box(&call.message)));
+        timed.undo(call.undo);
+    }
+    start.elapsed().as_secs_f64() * 1e9 / f64::from(times)
+}
+
+/// The best of three batches, so that a batch during which another program had the core does not count.
+fn turn<B: Timed>(timed: &mut B, call: &Call, times: u32) -> f64 {
+    (0..3).map(|_| batch(timed, call, times)).fold(f64::MAX, f64::min)
+}
+
+/// How many calls make a batch.
+fn times<B: Timed>(timed: &mut B, call: &Call) -> u32 {
+    let nanos = turn(timed, call, 50);
+    (BATCH.as_nanos() as f64 / nanos).max(20.0) as u32
+}
+
+/// The call's answer and what it leaves are due, and it can be made again.
+fn check<B: Timed>(timed: &mut B, call: &Call) {
+    let mut due = call.lent.clone();
+    let all: [&[u8; 2]; 4] = [b"PR", b"LG", b"DC", b"RD"];
+    let answer = model::call(&mut due.table, &mut due.marks, &SETTINGS, &call.message, &all, &mut Vec::new());
+    assert_eq!(answer, call.due);
+    for _ in 0..2 {
+        let said = timed.call(&SETTINGS, &call.message);
+        assert_eq!(B::answer(said), Some(call.due));
+        let (entries, marks) = timed.entries();
+        assert_eq!(Some(entries), model::entries_of(&due.table, 255));
+        assert_eq!(marks, due.marks);
+        timed.undo(call.undo);
+    }
+}
+
+/// The flat box held against the model on every kind of message and table, before it is timed.
+fn check_flat(count: u64) {
+    let mut random = random::Random::new(11);
+    let all: [&[u8; 2]; 4] = [b"PR", b"LG", b"DC", b"RD"];
+    let mut done = 0;
+    while done < count {
+        let mut run = mix::Run::new(&mut random);
+        for _ in 0..run.left {
+            done += 1;
+            run.disturb(&mut random);
+            let (settings, message) = (run.next_settings(&mut random), run.message(&mut random));
+            let broken = run.broken_table(&mut random);
+            let lent = broken.is_some();
+            let mut table = broken.unwrap_or_else(|| run.table.clone());
+            let (mut got, mut got_marks, mut marks) = (table.clone(), run.marks.clone(), run.marks.clone());
+            let answer = flat::receive(&mut got, &mut got_marks, &settings, &message);
+            let due = model::call(&mut table, &mut marks, &settings, &message, &all, &mut Vec::new());
+            assert_eq!((answer, &got, &got_marks), (due, &table, &marks), "flat box, {settings:?}, {message:?}");
+            if !lent {
+                (run.table, run.marks) = (table, marks);
+            }
+        }
+    }
+}
+
+/// The tenth, fiftieth and ninetieth of a hundred.
+struct Spread {
+    low: f64,
+    middle: f64,
+    high: f64,
+}
+
+fn spread(mut numbers: Vec<f64>) -> Spread {
+    numbers.sort_by(f64::total_cmp);
+    let at = |percent: usize| numbers[(numbers.len() - 1) * percent / 100];
+    Spread { low: at(10), middle: at(50), high: at(90) }
+}
+
+/// Nanoseconds a call, each round on all three boxes: engine, own, flat.
+fn measure(call: &Call) -> Vec<[f64; 3]> {
+    let (mut engine, mut own, mut flat) = (Engine(call.lent.clone()), Own::new(&call.lent), Flat(call.lent.clone()));
+    check(&mut engine, call);
+    check(&mut own, call);
+    check(&mut flat, call);
+    let [a, b, c] = [times(&mut engine, call), times(&mut own, call), times(&mut flat, call)];
+    let round = |_| [turn(&mut engine, call, a), turn(&mut own, call, b), turn(&mut flat, call, c)];
+    (0..ROUNDS).map(round).collect()
+}
+
+/// Prints a row; the median ratio to the own box.
+fn report(name: &str, size: usize, rounds: &[[f64; 3]]) -> f64 {
+    let nanos = |which: usize| spread(rounds.iter().map(|round| round[which]).collect()).middle;
+    let ratio = |which: usize| spread(rounds.iter().map(|round| round[0] / round[which]).collect());
+    let shown = |of: &Spread| format!("{:.2} ({:.2} to {:.2})", of.middle, of.low, of.high);
+    let own = ratio(1);
+    println!("| {name} | {size} | {:.0} | {:.0} | {} | {:.0} | {} |", nanos(0), nanos(1), shown(&own), nanos(2), shown(&ratio(2)));
+    own.middle
+}
+
+fn one(words: &[String]) {
+    let (name, _) = NAMES.iter().find(|(_, name)| *name == words[0]).expect("a call's name");
+    let number = |at: usize| words[at].parse::<u32>().expect("a number is due");
+    let call = calls::call(*name, number(1) as usize);
+    let nanos = match words[2].as_str() {
+        "engine" => batch(&mut Engine(call.lent.clone()), &call, number(3)),
+        "own" => batch(&mut Own::new(&call.lent), &call, number(3)),
+        _ => batch(&mut Flat(call.lent.clone()), &call, number(3)),
+    };
+    println!("{nanos:.0}");
+}
+
+fn main() {
+    let words: Vec<String> = std::env::args().skip(1).collect();
+    if words.len() == 4 {
+        return one(&words);
+    }
+    check_flat(30_000);
+    println!("| call | entries | engine, ns | own box, ns | engine / own box | flat box, ns | engine / flat box |");
+    println!("|---|---|---|---|---|---|---|");
+    let mut aims = Vec::new();
+    for (name, title) in NAMES {
+        for size in SIZES {
+            let own = report(title, size, &measure(&calls::call(name, size)));
+            if size == 255 && title.starts_with("PR") {
+                aims.push(format!("{title} {own:.2}, {}", if own <= 1.0 { "met" } else { "missed" }));
+            }
+        }
+    }
+    println!("\nThe aim on PR at 255 entries, 1.0 or less beside the own box: {}.", aims.join("; "));
+}

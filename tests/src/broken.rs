@@ -1,0 +1,188 @@
+//! A test that cannot fail is a defect. Here boxes that are wrong stand in the engine's place, and each must be noticed: by the
+//! cluster, where demand 3 falls with the rule, and always by the comparison with the model.
+
+use crate::cluster::{self, Counts, Plan};
+use crate::compare::{first_difference, first_difference_in_tally};
+use crate::engine::Entrance;
+use crate::member::{Engine, Member, Model};
+use crate::model::{self, Answer, Reply, Rule, Rules, Settings, Sheet, PAPER};
+
+/// Messages, or answers for sheets, within which the comparison has to notice a wrong box.
+const COMPARED: u64 = 50_000;
+/// Clusters in which demand 3 has to hold where it is said to hold.
+const HELD: u64 = 500;
+
+/// A rule left out.
+struct Broken {
+    what: &'static str,
+    rules: Rules,
+    /// Why demand 3 holds all the same; empty where it falls.
+    safe: &'static str,
+}
+
+const fn falls(what: &'static str, broken: &'static [Rule]) -> Broken {
+    Broken { what, rules: Rules { broken }, safe: "" }
+}
+
+const fn holds(what: &'static str, broken: &'static [Rule], safe: &'static str) -> Broken {
+    Broken { what, rules: Rules { broken }, safe }
+}
+
+/// The slips that were seen.
+const SLIPS: [Broken; 6] = [
+    falls("answers are counted, not boxes", &[Rule::NamedOnce]),
+    falls("a waiting entry is dropped from the live set", &[Rule::WaitingLives]),
+    falls("a second valid list is logged afresh", &[Rule::FirstLogStays]),
+    holds("a read mark equal to the stamp is a clash", &[Rule::EqualMark], "a box only aborts more"),
+    // 2f + 1 sound boxes hold the body that committed, and test 2 makes each of them abort a reader of a key that it lacks
+    holds("a wait is decided by the stamp alone", &[Rule::KeyWritten], "test 2 stands before it"),
+    falls("a wait is decided by the stamp alone, and no test 2", &[Rule::KeyWritten, Rule::Test(2)]),
+];
+
+const THRESHOLDS_AND_LISTS: [Broken; 7] = [
+    falls("commit list of 3f", &[Rule::Threshold(0)]),
+    falls("abort list of f", &[Rule::Threshold(1)]),
+    falls("commit proof of 5f votes", &[Rule::Threshold(2)]),
+    falls("abort proof of 3f votes", &[Rule::Threshold(3)]),
+    // each sound box logs once, and two times 2f + 1 sound boxes are more than there are
+    holds("proof of 4f logs", &[Rule::Threshold(4)], "3f + 1 would do"),
+    falls("proof of 3f logs", &[Rule::MostLogs]),
+    falls("answers against the list's decision are counted", &[Rule::NamedAnswer]),
+];
+
+const TESTS: [Broken; 6] = [
+    holds("no test 1", &[Rule::Test(1)], "a clock proves nothing"),
+    // an aborted version, and one without the key, still give reason 6
+    holds("no test 2", &[Rule::Test(2)], "the waiting rule stands behind it"),
+    falls("no test 3", &[Rule::Test(3)]),
+    falls("no test 4", &[Rule::Test(4)]),
+    holds("no test 5", &[Rule::Test(5)], "read marks are for readers"),
+    falls("a version above the own stamp may be read", &[Rule::PastReads]),
+];
+
+const ENTRIES: [Broken; 7] = [
+    falls("a committed entry is dropped from the live set", &[Rule::CommittedLives]),
+    falls("an entry with a commit vote is dropped from the live set", &[Rule::VotedLives]),
+    falls("a version decided abort gives no reason 6", &[Rule::AbortedVersion]),
+    falls("an undecided version is not waited for", &[Rule::UndecidedWaits]),
+    falls("another body is answered like the held one", &[Rule::SameBody]),
+    falls("a vote cast is cast anew", &[Rule::VoteStays]),
+    falls("a full table drops its first entry", &[Rule::EntriesStay]),
+];
+
+/// Where to look: so many clusters from a seed on.
+#[derive(Clone, Copy)]
+struct Search {
+    most: u64,
+    seed: u64,
+}
+
+impl Search {
+    /// The cluster, counted from 1, that sees demand 3 broken, and how.
+    fn first_broken(self, one: &mut dyn Member, rules: Rules, too_many: u64) -> Option<(u64, String)> {
+        let mut counts = Counts::new();
+        (1..=self.most).find_map(|number| {
+            let plan = Plan { seed: self.seed + number - 1, rules, too_many, told: false };
+            cluster::run(one, plan, &mut counts).err().map(|how| (number, how))
+        })
+    }
+}
+
+fn noticed(broken: &Broken, search: Search) -> bool {
+    let mut one = Model(broken.rules);
+    let most = if broken.safe.is_empty() { search.most } else { HELD };
+    let differs = first_difference(&mut one, COMPARED, search.seed).map(|(at, _)| at);
+    let found = Search { most, ..search }.first_broken(&mut one, broken.rules, 0);
+    let passed = differs.is_some() && found.is_some() == broken.safe.is_empty();
+    let seen = match &found {
+        Some((clusters, how)) => format!("cluster {clusters:5}: {how}"),
+        None if broken.safe.is_empty() => format!("NOT SEEN in {most} clusters"),
+        None => format!("demand 3 holds, {}", broken.safe),
+    };
+    let differs = differs.map_or("NO message".into(), |at| format!("message {at:5}"));
+    println!("{:60} {differs}  {seen}{}", broken.what, if passed { "" } else { "  FAILED" });
+    passed
+}
+
+/// With one liar more than f the engine itself cannot keep demand 3, and the cluster has to see that.
+fn one_liar_too_many(search: Search) -> bool {
+    let found = search.first_broken(&mut Engine, PAPER, 1);
+    let seen = found.as_ref().map_or(format!("NOT SEEN in {} clusters  FAILED", search.most), |(at, how)| format!("cluster {at:5}: {how}"));
+    println!("{:75} {seen}", "the engine among f + 1 liars");
+    found.is_some()
+}
+
+/// Boxes that no rule describes.
+enum Bad {
+    RefusesAll,
+    VotesCommit,
+    StoresNothing,
+    RepeatsItsFirstAnswer(Option<Answer>),
+    /// Its tally counts a box that has not answered.
+    InventsAnAnswer,
+}
+
+impl Member for Bad {
+    fn call(&mut self, entrance: Entrance, table: &mut Vec<u8>, marks: &mut Vec<u64>, settings: &Settings, message: &[u8]) -> Result<Answer, String> {
+        let properly = |table: &mut Vec<u8>, marks: &mut Vec<u64>| Model(PAPER).call(entrance, table, marks, settings, message);
+        match self {
+            Bad::RefusesAll => Ok(Answer::Refused(13)),
+            Bad::VotesCommit => Ok(match properly(table, marks)? {
+                Answer::Abort(_) | Answer::Wait => commit_instead(table, message),
+                other => other,
+            }),
+            Bad::StoresNothing => properly(&mut table.clone(), &mut marks.clone()),
+            Bad::RepeatsItsFirstAnswer(Some(first)) => Ok(*first),
+            Bad::RepeatsItsFirstAnswer(first) => {
+                *first = Some(properly(table, marks)?);
+                Ok(first.unwrap())
+            }
+            Bad::InventsAnAnswer => properly(table, marks),
+        }
+    }
+
+    fn tally(&mut self, sheet: &mut Sheet, f: u64, number: u64, answer: u64) -> Result<Reply, String> {
+        let reply = model::tally(sheet, f, number, answer);
+        if !matches!(self, Bad::InventsAnAnswer) || matches!(reply, Reply::Repeat | Reply::Refused(_)) {
+            return Ok(reply);
+        }
+        let silent = (0..5 * f + 1).find(|number| (sheet.commits | sheet.aborts) & 1 << number == 0);
+        Ok(silent.map_or(reply, |number| model::tally(&mut sheet.clone(), f, number, answer)))
+    }
+}
+
+/// The vote on the message's transaction becomes commit, in the table too.
+fn commit_instead(table: &mut [u8], message: &[u8]) -> Answer {
+    let row = table[1..].chunks_mut(176).find(|row| row[4..12] == message[6..14]).expect("a vote was stored");
+    row[172..174].copy_from_slice(&[2, 0]);
+    Answer::Commit
+}
+
+/// A box, and whether the comparison must refuse it.
+fn compared(what: &str, mut one: impl Member, seed: u64, wrong: bool) -> bool {
+    let first = first_difference(&mut one, COMPARED, seed).map(|(at, _)| format!("message {at}"));
+    let first = first.or_else(|| first_difference_in_tally(&mut one, COMPARED, seed).map(|(at, _)| format!("answer {at} for a sheet")));
+    let passed = first.is_some() == wrong;
+    let seen = first.map_or(format!("agrees on {COMPARED} messages and answers"), |at| format!("refused at {at}"));
+    println!("{what:60} {seen}{}", if passed { "" } else { "  FAILED" });
+    passed
+}
+
+/// Each in turn. False where one was not noticed, or the engine was.
+pub fn check(most: u64, seed: u64) -> bool {
+    let search = Search { most, seed };
+    println!("a rule broken: the first message at which the comparison differs, the first cluster that sees demand 3 broken");
+    let mut passed = true;
+    for broken in SLIPS.iter().chain(&THRESHOLDS_AND_LISTS).chain(&TESTS).chain(&ENTRIES) {
+        passed &= noticed(broken, search);
+    }
+    passed &= one_liar_too_many(search);
+    passed &= compared("a box that refuses all", Bad::RefusesAll, seed, true);
+    passed &= compared("a box that votes the same every time", Bad::VotesCommit, seed, true);
+    passed &= compared("a box that accepts and stores nothing", Bad::StoresNothing, seed, true);
+    passed &= compared("a box that checks on its first call and repeats that answer", Bad::RepeatsItsFirstAnswer(None), seed, true);
+    passed &= compared("a tally with an invented count", Bad::InventsAnAnswer, seed, true);
+    passed &= compared("the engine", Engine, seed, false);
+    println!("{}", if passed { "each broken rule and each bad box was noticed" } else { "FAILED" });
+    passed
+}

@@ -1,0 +1,845 @@
+//! Many boxes at once: 5f + 1 of them, up to f of them liars, gateways that come, go on, die and take over, and a network that
+//! loses, doubles and reorders. After every call demand 3 is judged (judge.rs).
+//!
+//! Lists keep to the demand's premise: under a sound box's number stands only what it gave for exactly this body; under a liar's
+//! number stands anything. A list that names a box twice is sent too: a box has to refuse it.
+
+use crate::engine::Entrance;
+use crate::judge::{Judge, Word};
+use crate::member::Member;
+use crate::messages::{code, pr, rd, transaction, with_list};
+use crate::model::{Answer, Decision, Kind, Reply, Rules, Settings, Sheet, Transaction, PAPER};
+use crate::random::Random;
+use std::collections::{BTreeMap, VecDeque};
+
+/// What a standard number of runs has to meet.
+const EVENTS: [&str; 50] = [
+    "run with f = 1",
+    "run with f = 2",
+    "run with f = 3",
+    "run with f = 4",
+    "run with f = 5",
+    "vote commit",
+    "wait",
+    "abort 1",
+    "abort 2",
+    "abort 3",
+    "abort 4",
+    "abort 5",
+    "abort 6",
+    "a wait became commit",
+    "a wait became abort 6",
+    "decided commit",
+    "decided abort",
+    "logged commit",
+    "logged abort",
+    "logged as before, against the list",
+    "logged against the own vote",
+    "commit list and abort list for one body",
+    "one body logged both ways",
+    "done",
+    "a decision brought to a box that had not seen the body",
+    "a held body was replaced",
+    "abort 6, the body waited for replaced by one that lacks the key",
+    "found",
+    "refused  6",
+    "refused  7",
+    "refused  9",
+    "refused 10",
+    "refused 11",
+    "refused 13",
+    "refused 15",
+    "commit proof from votes",
+    "commit proof from logs",
+    "abort proof from votes",
+    "abort proof from logs",
+    "a committed body read a committed version",
+    "a second body under one stamp",
+    "a second body under one stamp committed",
+    "a gateway died",
+    "a body taken over by another gateway",
+    "a liar told one gateway commit and another abort",
+    "a message lost",
+    "a message doubled",
+    "a message overtaken",
+    "a repeat on a gateway's sheet",
+    "a clock went back",
+];
+
+/// How often each event occurred.
+pub struct Counts {
+    times: BTreeMap<&'static str, u64>,
+    pub calls: u64,
+    /// Refusals that fair and well-formed messages cannot meet, 12 among them.
+    pub unlisted: u64,
+}
+
+impl Counts {
+    pub fn new() -> Counts {
+        Counts { times: EVENTS.iter().map(|event| (*event, 0)).collect(), calls: 0, unlisted: 0 }
+    }
+
+    fn count(&mut self, event: &'static str) {
+        *self.times.get_mut(event).expect("an event of the list") += 1;
+    }
+
+    fn refused(&mut self, number: u8) {
+        match number {
+            6 => self.count("refused  6"),
+            7 => self.count("refused  7"),
+            9 => self.count("refused  9"),
+            10 => self.count("refused 10"),
+            11 => self.count("refused 11"),
+            13 => self.count("refused 13"),
+            15 => self.count("refused 15"),
+            _ => self.unlisted += 1,
+        }
+    }
+
+    /// Prints them; how many did not occur.
+    pub fn print(&self) -> u64 {
+        for event in EVENTS {
+            println!("{:9}  {event}{}", self.times[event], if self.times[event] == 0 { "  DID NOT OCCUR" } else { "" });
+        }
+        self.times.values().filter(|times| **times == 0).count() as u64
+    }
+}
+
+/// What kind of cluster a seed stands for.
+#[derive(Clone, Copy)]
+pub struct Plan {
+    pub seed: u64,
+    /// The rules that the boxes and the judge share: thresholds are theirs.
+    pub rules: Rules,
+    /// Liars above f.
+    pub too_many: u64,
+    /// Each call is printed.
+    pub told: bool,
+}
+
+/// A sound box.
+struct Sound {
+    table: Vec<u8>,
+    marks: Vec<u64>,
+    settings: Settings,
+    /// The body under each stamp, as its answers tell.
+    held: BTreeMap<u64, usize>,
+}
+
+/// A gateway at work on one body.
+struct Gateway {
+    body: usize,
+    votes: Sheet,
+    logs: Sheet,
+    alive: bool,
+    /// It knows what every gateway has heard, and liars say what it likes.
+    sly: bool,
+    /// It wants one decision only, and sends lists for it that are one short too.
+    wants: Option<Decision>,
+}
+
+/// What a gateway does next.
+#[derive(Clone, Copy)]
+enum Act {
+    Ask,
+    Log,
+    Prove,
+}
+
+/// A message on its way.
+#[derive(Clone)]
+struct Letter {
+    from: usize,
+    to: usize,
+    mark: [u8; 2],
+    /// Kind, decision and answers of an LG's or a DC's list.
+    list: Option<Listed>,
+}
+
+#[derive(Clone)]
+struct Listed {
+    kind: Kind,
+    decision: Decision,
+    pairs: Vec<(u8, Decision)>,
+}
+
+/// What has been seen of a body, beside what the judge knows.
+#[derive(Clone, Copy, Default)]
+struct Seen {
+    waiting: u32,
+    liars_said: [u32; 2],
+    logged_both_ways: bool,
+    both_lists: bool,
+}
+
+fn other(decision: Decision) -> Decision {
+    match decision {
+        Decision::Commit => Decision::Abort,
+        Decision::Abort => Decision::Commit,
+    }
+}
+
+struct Cluster<'a> {
+    one: &'a mut dyn Member,
+    counts: &'a mut Counts,
+    plan: Plan,
+    random: Random,
+    f: u64,
+    liars: u32,
+    boxes: Vec<Sound>,
+    judge: Judge,
+    seen: Vec<Seen>,
+    gateways: Vec<Gateway>,
+    letters: Vec<Letter>,
+    /// What gateways have in mind, in this order.
+    script: VecDeque<(usize, Act)>,
+    keys: Vec<u16>,
+    base: u64,
+    spread: u64,
+    most_bodies: usize,
+    /// How far back the message may stand that arrives next.
+    window: u64,
+}
+
+/// One run, which the plan determines. An error says how demand 3 was broken.
+pub fn run(one: &mut dyn Member, plan: Plan, counts: &mut Counts) -> Result<(), String> {
+    let mut cluster = Cluster::new(one, plan, counts);
+    let steps = cluster.random.between(12, 60) * cluster.boxes.len() as u64;
+    for _ in 0..steps {
+        cluster.step()?;
+    }
+    Ok(())
+}
+
+// ---- the boxes
+
+impl<'a> Cluster<'a> {
+    fn new(one: &'a mut dyn Member, plan: Plan, counts: &'a mut Counts) -> Cluster<'a> {
+        let mut random = Random::new(plan.seed);
+        let f = random.one_of(&[1, 1, 1, 1, 1, 1, 1, 2, 2, 2, 2, 2, 3, 3, 4, 5]);
+        counts.count(EVENTS[f as usize - 1]);
+        let wanted = if random.chance(80) { f } else { random.below(f + 1) } + plan.too_many;
+        let mut liars = 0u32;
+        while u64::from(liars.count_ones()) < wanted {
+            liars |= 1 << random.below(5 * f + 1);
+        }
+        let spread = random.between(2, 12);
+        let base = random.one_of(&[1, 1, 100, 1 << 63, u64::MAX - 20]);
+        let mut keys: Vec<u16> = (0..random.between(1, 3)).map(|_| random.below(512) as u16).collect();
+        keys.sort_unstable();
+        keys.dedup();
+        let boxes = (0..5 * f + 1).map(|_| Sound::new(&mut random, f, base, spread)).collect();
+        let judge = Judge::new(plan.rules, f, liars.count_ones() as usize);
+        let most_bodies = random.between(2, 9) as usize;
+        let window = random.one_of(&[3, 12, 100]);
+        Cluster { one, counts, plan, random, f, liars, boxes, judge, seen: Vec::new(), gateways: Vec::new(), letters: Vec::new(), script: VecDeque::new(), keys, base, spread, most_bodies, window }
+    }
+
+    fn lies(&self, number: usize) -> bool {
+        self.liars & 1 << number != 0
+    }
+
+    /// A clock and a δ of its own, either of which may move, also back.
+    fn turn_a_clock(&mut self) {
+        let number = self.random.below(self.boxes.len() as u64) as usize;
+        let (ahead, behind) = (self.base + self.spread, self.base + self.random.below(self.spread + 1));
+        let settings = &mut self.boxes[number].settings;
+        let before = settings.clock;
+        settings.clock = if self.random.chance(70) { ahead } else { behind };
+        settings.delta = self.random.one_of(&[0, 1, 2, self.spread, u64::MAX]);
+        if settings.clock < before {
+            self.counts.count("a clock went back");
+        }
+    }
+
+    /// A sound box is called.
+    fn call(&mut self, number: usize, message: &[u8]) -> Result<Answer, String> {
+        self.counts.calls += 1;
+        let Sound { table, marks, settings, .. } = &mut self.boxes[number];
+        let entrance = match &message[..2] {
+            _ if self.random.chance(50) => Entrance::Receive,
+            b"PR" => Entrance::Prepare,
+            b"LG" => Entrance::Log,
+            b"DC" => Entrance::Decide,
+            _ => Entrance::Read,
+        };
+        self.one.call(entrance, table, marks, settings, message)
+    }
+
+    fn step(&mut self) -> Result<(), String> {
+        if self.random.chance(2) {
+            self.turn_a_clock();
+        }
+        // few enough on their way that gateways get answers while they live
+        let room = self.letters.len() < 5 * self.boxes.len();
+        if self.letters.is_empty() || self.random.chance(2) {
+            if let Some((from, act)) = self.script.pop_front() {
+                self.act(from, act);
+                return Ok(());
+            }
+        }
+        if self.gateways.is_empty() || room && self.random.chance(5) {
+            return self.start();
+        }
+        if self.letters.is_empty() || room && self.random.chance(15) {
+            self.go_on();
+            return Ok(());
+        }
+        self.deliver()
+    }
+}
+
+impl Sound {
+    fn new(random: &mut Random, f: u64, base: u64, spread: u64) -> Sound {
+        let capacity = if random.chance(90) { random.between(9, 14) } else { random.between(1, 5) };
+        let clock = if random.chance(92) { base + spread } else { base + random.below(spread) };
+        let settings = Settings { f, capacity, clock, delta: random.below(3) };
+        Sound { table: vec![0; 1 + capacity as usize * 176], marks: vec![0; 512], settings, held: BTreeMap::new() }
+    }
+}
+
+// ---- gateways
+
+impl Cluster<'_> {
+    /// A gateway begins: with a new transaction, with another body under a stamp that is in use, or with one that another began.
+    fn start(&mut self) -> Result<(), String> {
+        let known = self.judge.bodies.len() as u64;
+        if (known as usize) < self.most_bodies {
+            match self.random.below(100) {
+                0..=5 => return self.make_a_chain(),
+                6..=11 => return self.show_two_faces(),
+                _ => {}
+            }
+        }
+        let body = if known > 0 && (known as usize >= self.most_bodies || self.random.chance(15)) {
+            self.counts.count("a body taken over by another gateway");
+            self.random.below(known) as usize
+        } else if known > 0 && self.random.chance(15) {
+            let stamp = self.judge.bodies[self.random.below(known) as usize].tx.stamp;
+            self.new_body(stamp)?
+        } else {
+            let stamp = self.unused_stamp(1);
+            self.new_body(stamp)?
+        };
+        let sly = self.random.chance(50);
+        let from = self.gateway(body, sly);
+        self.ask(from);
+        Ok(())
+    }
+
+    fn gateway(&mut self, body: usize, sly: bool) -> usize {
+        let sheet = |kind| Sheet { kind, commits: 0, aborts: 0 };
+        let wants = self.random.one_of(&[None, None, None, Some(Decision::Commit), Some(Decision::Abort)]);
+        self.gateways.push(Gateway { body, votes: sheet(1), logs: sheet(2), alive: true, sly, wants });
+        self.gateways.len() - 1
+    }
+
+    /// The first of so many stamps in a row that no body has, if that is easily found.
+    fn unused_stamp(&mut self, in_a_row: u64) -> u64 {
+        let mut stamp = self.base;
+        for _ in 0..6 {
+            stamp = self.base + self.random.below(self.spread + 2 - in_a_row);
+            if !self.judge.bodies.iter().any(|body| (stamp..stamp + in_a_row).contains(&body.tx.stamp)) {
+                break;
+            }
+        }
+        stamp
+    }
+
+    /// A key that all use, or one for a scene of its own.
+    fn some_key(&mut self) -> u16 {
+        if self.random.chance(50) {
+            self.random.one_of(&self.keys)
+        } else {
+            self.random.below(512) as u16
+        }
+    }
+
+    /// One stamp, two bodies: some boxes, about f at most, are shown one that writes a key, the rest one that does not; a third
+    /// transaction reads the key from the first. If the second commits it replaces the first, and the reader has waited in vain.
+    fn show_two_faces(&mut self) -> Result<(), String> {
+        let (stamp, key) = (self.unused_stamp(3), self.some_key());
+        let beside = self.keys.iter().copied().find(|other| *other != key);
+        let (reads, writes) = beside.map_or((vec![(key, 0)], vec![]), |other| (vec![], vec![(other, 1)]));
+        let few = self.new_gateway(transaction(stamp, &[], &[(key, 1)]));
+        let most = self.new_gateway(transaction(stamp, &reads, &writes));
+        let shown = self.random.between(1, self.f);
+        for to in 0..self.boxes.len() {
+            let from = if self.random.below(self.boxes.len() as u64) < shown { few } else { most };
+            self.letters.push(Letter { from, to, mark: *b"PR", list: None });
+        }
+        let later = stamp + self.random.between(1, 2);
+        let reader = self.new_gateway(transaction(later, &[(key, stamp)], &[]));
+        self.script.extend([(reader, Act::Ask), (most, Act::Log), (most, Act::Prove), (reader, Act::Ask)]);
+        Ok(())
+    }
+
+    /// A write, a read of it, and a write that would slip in between. The first is doomed where a box has been read before, votes
+    /// abort for that, and the liars help.
+    fn make_a_chain(&mut self) -> Result<(), String> {
+        let (stamp, key) = (self.unused_stamp(3), self.some_key());
+        let first = self.new_gateway(transaction(stamp, &[], &[(key, 1)]));
+        let reader = self.new_gateway(transaction(stamp + 2, &[(key, stamp)], &[]));
+        let between = self.new_gateway(transaction(stamp + 1, &[], &[(key, 2)]));
+        if self.random.chance(50) {
+            self.read(key, stamp + 1)?;
+            self.gateways[first].wants = Some(Decision::Abort);
+            self.gateways[reader].wants = Some(Decision::Commit);
+        }
+        self.script.extend([(first, Act::Ask), (reader, Act::Ask), (between, Act::Ask), (first, Act::Log), (first, Act::Prove)]);
+        self.script.extend([(reader, Act::Ask), (reader, Act::Log), (reader, Act::Prove)]);
+        Ok(())
+    }
+
+    fn new_gateway(&mut self, tx: Transaction) -> usize {
+        let body = self.known(tx);
+        self.gateway(body, true)
+    }
+
+    fn new_body(&mut self, stamp: u64) -> Result<usize, String> {
+        let (mut reads, mut writes) = (Vec::new(), Vec::new());
+        for key in self.keys.clone() {
+            if self.random.chance(55) {
+                reads.push((key, self.version_to_read(key, stamp)?));
+            }
+            if self.random.chance(60) {
+                writes.push((key, self.random.below(4)));
+            }
+        }
+        if reads.is_empty() && writes.is_empty() {
+            writes.push((self.keys[0], self.random.below(4)));
+        }
+        Ok(self.known(transaction(stamp, &reads, &writes)))
+    }
+
+    /// The number of a body, from now on known.
+    fn known(&mut self, tx: Transaction) -> usize {
+        let stamp = tx.stamp;
+        let body = self.judge.body(tx);
+        if body == self.seen.len() {
+            self.seen.push(Seen::default());
+            if self.judge.bodies[..body].iter().any(|known| known.tx.stamp == stamp) {
+                self.counts.count("a second body under one stamp");
+            }
+        }
+        body
+    }
+
+    /// Learnt through an RD, from what other gateways wrote, or guessed.
+    fn version_to_read(&mut self, key: u16, stamp: u64) -> Result<u64, String> {
+        let mut writers: Vec<u64> = self.judge.bodies.iter().filter(|body| body.tx.writes.iter().any(|write| write.0 == key)).map(|body| body.tx.stamp).collect();
+        writers.push(0);
+        let newest = writers.iter().copied().filter(|written| *written < stamp).max().unwrap_or(0);
+        let latest = writers.iter().copied().max().unwrap_or(0);
+        Ok(match self.random.below(100) {
+            0..=19 => self.read(key, stamp)?,
+            20..=69 => newest,
+            70..=84 => 0,
+            85..=91 => self.random.one_of(&writers).min(stamp - 1),
+            // from a later one, or the transaction's own: misbehaviour
+            92..=95 => latest,
+            _ => (self.base + self.random.below(self.spread + 1)).min(stamp - 1),
+        })
+    }
+
+    /// An RD at one box; the higher of the two versions mostly.
+    fn read(&mut self, key: u16, stamp: u64) -> Result<u64, String> {
+        let number = self.random.below(self.boxes.len() as u64) as usize;
+        if self.lies(number) {
+            return Ok(self.base - 1 + self.random.below(stamp - self.base + 1));
+        }
+        let answer = self.call(number, &rd(key, stamp))?;
+        if self.plan.told {
+            println!("  box {number}: RD key {key} at {stamp}: {answer:?}");
+        }
+        match answer {
+            Answer::Found { committed, undecided } => {
+                self.counts.count("found");
+                Ok(if self.random.chance(80) { committed.0.max(undecided.0) } else { committed.0 })
+            }
+            Answer::Refused(number) => {
+                self.counts.refused(number);
+                Ok(0)
+            }
+            odd => Err(format!("an RD was answered {odd:?}")),
+        }
+    }
+
+    /// The next thing that a gateway does, wherever it stands.
+    fn go_on(&mut self) {
+        let from = self.random.below(self.gateways.len() as u64) as usize;
+        if !self.gateways[from].alive {
+            return;
+        }
+        if self.random.chance(4) {
+            self.gateways[from].alive = false;
+            self.counts.count("a gateway died");
+            return;
+        }
+        if self.seen[self.gateways[from].body].waiting != 0 && self.random.chance(50) {
+            self.help_on(from);
+        }
+        let act = self.random.one_of(&[Act::Ask, Act::Ask, Act::Log, Act::Log, Act::Prove]);
+        self.act(from, act);
+    }
+
+    fn act(&mut self, from: usize, act: Act) {
+        match act {
+            _ if !self.gateways[from].alive => {}
+            Act::Ask => self.ask(from),
+            Act::Log => self.ask_to_log(from),
+            Act::Prove => self.bring_proof(from),
+        }
+    }
+
+    /// A gateway that waits sees to a transaction that it waits for: logs it, or brings its proof, and asks again.
+    fn help_on(&mut self, from: usize) {
+        let body = self.gateways[from].body;
+        let versions: Vec<u64> = self.judge.bodies[body].tx.reads.iter().map(|read| read.1).filter(|version| *version != 0).collect();
+        let version = self.random.one_of(&versions);
+        let under: Vec<usize> = (0..self.judge.bodies.len()).filter(|known| self.judge.bodies[*known].tx.stamp == version).collect();
+        if under.is_empty() {
+            return;
+        }
+        let waited_for = self.random.one_of(&under);
+        let helper = self.gateway(waited_for, true);
+        if self.random.chance(40) {
+            self.ask_to_log(helper);
+        }
+        self.bring_proof(helper);
+        self.ask(from);
+    }
+
+    /// All boxes, or some of them.
+    fn some_boxes(&mut self) -> Vec<usize> {
+        let share = self.random.one_of(&[100, 100, 100, 100, 100, 80, 50]);
+        (0..self.boxes.len()).filter(|_| self.random.chance(share)).collect()
+    }
+
+    fn ask(&mut self, from: usize) {
+        for to in self.some_boxes() {
+            self.letters.push(Letter { from, to, mark: *b"PR", list: None });
+        }
+    }
+
+    /// An LG to each box: one list for all, or, where both can be made, the one here and the other there.
+    fn ask_to_log(&mut self, from: usize) {
+        let wants = self.gateways[from].wants;
+        let named = wants.unwrap_or(self.random.one_of(&[Decision::Commit, Decision::Abort]));
+        let mut lists = [self.list(from, Kind::Votes, named, true), self.list(from, Kind::Votes, other(named), true)];
+        if wants.is_some() {
+            lists[1] = None;
+        }
+        self.see_both_lists(from);
+        let split = self.random.chance(40);
+        for to in self.some_boxes() {
+            let pick = usize::from(split && self.random.chance(50));
+            if let Some(list) = lists[pick].clone().or(lists[1 - pick].clone()) {
+                self.letters.push(Letter { from, to, mark: *b"LG", list: Some(list) });
+            }
+        }
+    }
+
+    fn see_both_lists(&mut self, from: usize) {
+        let body = self.gateways[from].body;
+        let row = PAPER.row(self.f);
+        let [commits, aborts] = [Decision::Commit, Decision::Abort].map(|named| self.nameable(from, Kind::Votes, named).count_ones() as usize);
+        if commits >= row[0] && aborts >= row[1] && !self.seen[body].both_lists {
+            self.seen[body].both_lists = true;
+            self.counts.count("commit list and abort list for one body");
+        }
+    }
+
+    fn bring_proof(&mut self, from: usize) {
+        let wants = self.gateways[from].wants;
+        let mut lists = Vec::new();
+        for kind in [Kind::Votes, Kind::Logs] {
+            for decision in [Decision::Commit, Decision::Abort] {
+                if wants.is_none() || wants == Some(decision) {
+                    lists.extend(self.list(from, kind, decision, false));
+                }
+            }
+        }
+        if lists.is_empty() {
+            return;
+        }
+        let list = lists.swap_remove(self.random.below(lists.len() as u64) as usize);
+        for to in self.some_boxes() {
+            self.letters.push(Letter { from, to, mark: *b"DC", list: Some(list.clone()) });
+        }
+    }
+
+    /// The boxes that a gateway can name with this answer: those on its sheet, or, for a sly one, all that ever gave it and the liars.
+    fn nameable(&self, from: usize, kind: Kind, decision: Decision) -> u32 {
+        let gateway = &self.gateways[from];
+        let sheet = if kind == Kind::Votes { &gateway.votes } else { &gateway.logs };
+        match (gateway.sly, decision) {
+            (true, _) => self.judge.bodies[gateway.body].given(kind, decision) | self.liars,
+            (false, Decision::Commit) => sheet.commits,
+            (false, Decision::Abort) => sheet.aborts,
+        }
+    }
+
+    /// A list that meets its threshold; now and then one that misses it by one, or makes it up by naming boxes twice.
+    fn list(&mut self, from: usize, kind: Kind, decision: Decision, for_log: bool) -> Option<Listed> {
+        let needed = match (for_log, decision) {
+            (true, Decision::Commit) => PAPER.row(self.f)[0],
+            (true, Decision::Abort) => PAPER.row(self.f)[1],
+            (false, _) => PAPER.proof(self.f, kind, decision),
+        };
+        let (agree, differ) = (self.nameable(from, kind, decision), self.nameable(from, kind, other(decision)));
+        let mut pairs: Vec<(u8, Decision)> = Vec::new();
+        let beside = self.random.one_of(&[0, 50, 100]);
+        for number in 0..self.boxes.len() {
+            if agree & 1 << number != 0 {
+                pairs.push((number as u8, decision));
+            } else if differ & 1 << number != 0 && self.random.chance(beside) {
+                pairs.push((number as u8, other(decision)));
+            }
+        }
+        let have = agree.count_ones() as usize;
+        let surplus = have.saturating_sub(needed);
+        if self.random.chance(40) {
+            self.leave_out(&mut pairs, decision, surplus);
+        }
+        let twice = have > 0 && self.random.chance(6);
+        if twice {
+            self.name_twice(&mut pairs, decision, needed);
+        }
+        let bold = self.gateways[from].wants == Some(decision);
+        let short = have + 1 == needed && (bold || self.random.chance(20));
+        (twice || have >= needed || short).then_some(Listed { kind, decision, pairs }).filter(|list| !list.pairs.is_empty())
+    }
+
+    fn leave_out(&mut self, pairs: &mut Vec<(u8, Decision)>, decision: Decision, surplus: usize) {
+        for _ in 0..surplus {
+            let at = self.random.below(pairs.len() as u64) as usize;
+            if pairs[at].1 == decision {
+                pairs.remove(at);
+            }
+        }
+    }
+
+    /// Boxes named again, side by side, until the answers would do.
+    fn name_twice(&mut self, pairs: &mut Vec<(u8, Decision)>, decision: Decision, needed: usize) {
+        let counted = |pairs: &[(u8, Decision)]| pairs.iter().filter(|pair| pair.1 == decision).count();
+        pairs.retain(|pair| pair.1 == decision);
+        while pairs.len() < 26 {
+            let again = pairs[self.random.below(pairs.len() as u64) as usize];
+            pairs.push(again);
+            if counted(pairs) >= needed {
+                break;
+            }
+        }
+        pairs.sort_by_key(|pair| pair.0);
+    }
+}
+
+// ---- the network
+
+impl Cluster<'_> {
+    /// Any of the messages on their way arrives, or is lost, or arrives and will arrive again.
+    fn deliver(&mut self) -> Result<(), String> {
+        let at = self.random.below(self.window.min(self.letters.len() as u64)) as usize;
+        if at > 0 {
+            self.counts.count("a message overtaken");
+        }
+        let fate = self.random.below(100);
+        if fate < 4 {
+            self.letters.remove(at);
+            self.counts.count("a message lost");
+            return Ok(());
+        }
+        let letter = if fate < 8 {
+            self.counts.count("a message doubled");
+            self.letters[at].clone()
+        } else {
+            self.letters.remove(at)
+        };
+        if self.lies(letter.to) {
+            return self.lie(&letter);
+        }
+        assert!(self.backed(&letter), "the premise of demand 3");
+        let answer = self.call(letter.to, &self.message(&letter))?;
+        if self.plan.told {
+            self.tell(&letter, answer);
+        }
+        self.hear(&letter, answer)
+    }
+
+    /// Each sound box on the list gave what stands there, for exactly this body.
+    fn backed(&self, letter: &Letter) -> bool {
+        let body = &self.judge.bodies[self.gateways[letter.from].body];
+        letter.list.iter().all(|list| {
+            let gave = |number: u8, answer| body.given(list.kind, answer) & 1 << number != 0;
+            list.pairs.iter().all(|(number, answer)| self.lies(*number as usize) || gave(*number, *answer))
+        })
+    }
+
+    fn message(&self, letter: &Letter) -> Vec<u8> {
+        let body = &self.judge.bodies[self.gateways[letter.from].body].bytes;
+        match &letter.list {
+            None => pr(body),
+            Some(list) => with_list(&letter.mark, body, list.kind, list.decision, &list.pairs),
+        }
+    }
+
+    fn tell(&self, letter: &Letter, answer: Answer) {
+        let body = self.gateways[letter.from].body;
+        let list = letter.list.as_ref().map_or(String::new(), |list| {
+            let pairs: Vec<String> = list.pairs.iter().map(|(number, answer)| format!("{number}:{}", code(*answer))).collect();
+            format!(" {:?} {:?} [{}]", list.kind, list.decision, pairs.join(" "))
+        });
+        let tx = &self.judge.bodies[body].tx;
+        println!("  box {}: {} body {body} (stamp {}, reads {:?}, writes {:?}){list}: {answer:?}", letter.to, String::from_utf8_lossy(&letter.mark), tx.stamp, tx.reads, tx.writes);
+    }
+
+    /// A liar says either, to each gateway what it likes, whatever it was asked.
+    fn lie(&mut self, letter: &Letter) -> Result<(), String> {
+        let decision = self.random.one_of(&[Decision::Commit, Decision::Abort]);
+        let kind = if &letter.mark == b"LG" { Kind::Logs } else { Kind::Votes };
+        let body = self.gateways[letter.from].body;
+        let said = &mut self.seen[body].liars_said;
+        let bit = 1 << letter.to;
+        if said[usize::from(decision == Decision::Commit)] & bit != 0 && said[usize::from(decision == Decision::Abort)] & bit == 0 {
+            self.counts.count("a liar told one gateway commit and another abort");
+        }
+        said[usize::from(decision == Decision::Abort)] |= bit;
+        self.put_on_sheet(letter, Word { kind, decision })
+    }
+
+    fn put_on_sheet(&mut self, letter: &Letter, word: Word) -> Result<(), String> {
+        let gateway = &mut self.gateways[letter.from];
+        if !gateway.alive {
+            return Ok(());
+        }
+        let sheet = if word.kind == Kind::Votes { &mut gateway.votes } else { &mut gateway.logs };
+        match self.one.tally(sheet, self.f, letter.to as u64, u64::from(code(word.decision)))? {
+            Reply::Repeat => self.counts.count("a repeat on a gateway's sheet"),
+            Reply::Refused(number) => return Err(format!("a sheet in order was refused {number}")),
+            Reply::Votes(_) | Reply::Logs(_) => {}
+        }
+        Ok(())
+    }
+
+    /// What a sound box answered.
+    fn hear(&mut self, letter: &Letter, answer: Answer) -> Result<(), String> {
+        let body = self.gateways[letter.from].body;
+        let stamp = self.judge.bodies[body].tx.stamp;
+        match answer {
+            Answer::Commit => self.voted(letter, Decision::Commit, 0),
+            Answer::Abort(reason) => self.voted(letter, Decision::Abort, reason),
+            Answer::Wait => {
+                self.counts.count("wait");
+                self.seen[body].waiting |= 1 << letter.to;
+                self.boxes[letter.to].held.insert(stamp, body);
+                Ok(())
+            }
+            Answer::Logged(decision) => self.logged(letter, decision),
+            Answer::Decided(decision) => {
+                self.counts.count(if decision == Decision::Commit { "decided commit" } else { "decided abort" });
+                Ok(())
+            }
+            Answer::Done => {
+                self.counts.count("done");
+                match self.boxes[letter.to].held.insert(stamp, body) {
+                    None => self.counts.count("a decision brought to a box that had not seen the body"),
+                    Some(before) if before != body => self.counts.count("a held body was replaced"),
+                    Some(_) => {}
+                }
+                Ok(())
+            }
+            Answer::Refused(number) => {
+                self.counts.refused(number);
+                Ok(())
+            }
+            Answer::Found { .. } => Err("something other than an RD was answered with versions".into()),
+        }
+    }
+
+    fn voted(&mut self, letter: &Letter, decision: Decision, reason: u8) -> Result<(), String> {
+        let body = self.gateways[letter.from].body;
+        let stamp = self.judge.bodies[body].tx.stamp;
+        self.boxes[letter.to].held.insert(stamp, body);
+        self.counts.count(["vote commit", "abort 1", "abort 2", "abort 3", "abort 4", "abort 5", "abort 6"][reason as usize]);
+        let waiting = &mut self.seen[body].waiting;
+        if *waiting & 1 << letter.to != 0 {
+            self.counts.count(if decision == Decision::Commit { "a wait became commit" } else { "a wait became abort 6" });
+            *waiting &= !(1 << letter.to);
+            if decision == Decision::Abort && self.lacks_a_key(letter.to, body) {
+                self.counts.count("abort 6, the body waited for replaced by one that lacks the key");
+            }
+        }
+        self.given(letter, Word { kind: Kind::Votes, decision })
+    }
+
+    /// What a box holds under a version that this body read does not write the key.
+    fn lacks_a_key(&self, number: usize, body: usize) -> bool {
+        let held = |version| self.boxes[number].held.get(version).map(|held| &self.judge.bodies[*held].tx);
+        let lacks = |key: u16, tx: &Transaction| !tx.writes.iter().any(|write| write.0 == key);
+        self.judge.bodies[body].tx.reads.iter().any(|(key, version)| held(version).is_some_and(|tx| lacks(*key, tx)))
+    }
+
+    fn logged(&mut self, letter: &Letter, decision: Decision) -> Result<(), String> {
+        let body = self.gateways[letter.from].body;
+        self.counts.count(if decision == Decision::Commit { "logged commit" } else { "logged abort" });
+        if letter.list.as_ref().is_some_and(|list| list.decision != decision) {
+            self.counts.count("logged as before, against the list");
+        }
+        if self.judge.bodies[body].given(Kind::Votes, other(decision)) & 1 << letter.to != 0 {
+            self.counts.count("logged against the own vote");
+        }
+        if self.judge.bodies[body].given(Kind::Logs, other(decision)) != 0 && !self.seen[body].logged_both_ways {
+            self.seen[body].logged_both_ways = true;
+            self.counts.count("one body logged both ways");
+        }
+        self.given(letter, Word { kind: Kind::Logs, decision })
+    }
+
+    /// A word that a sound box gave: it goes to the gateway, and demand 3 is judged.
+    fn given(&mut self, letter: &Letter, word: Word) -> Result<(), String> {
+        let body = self.gateways[letter.from].body;
+        self.put_on_sheet(letter, word)?;
+        let fresh = self.judge.committed(self.judge.bodies[body].tx.stamp) != Some(body);
+        if !self.judge.note(body, letter.to, word)? {
+            return Ok(());
+        }
+        self.counts.count(match (word.kind, word.decision) {
+            (Kind::Votes, Decision::Commit) => "commit proof from votes",
+            (Kind::Logs, Decision::Commit) => "commit proof from logs",
+            (Kind::Votes, Decision::Abort) => "abort proof from votes",
+            (Kind::Logs, Decision::Abort) => "abort proof from logs",
+        });
+        if word.decision == Decision::Commit && fresh {
+            self.newly_committed(body);
+        }
+        Ok(())
+    }
+
+    fn newly_committed(&mut self, body: usize) {
+        let tx = &self.judge.bodies[body].tx;
+        if tx.reads.iter().any(|read| read.1 != 0) {
+            self.counts.count("a committed body read a committed version");
+        }
+        if self.judge.bodies.iter().filter(|known| known.tx.stamp == tx.stamp).count() > 1 {
+            self.counts.count("a second body under one stamp committed");
+        }
+    }
+}
+
+/// The engine in many clusters. False where demand 3 is broken, or an event did not occur.
+pub fn check(one: &mut dyn Member, runs: u64, seed: u64) -> bool {
+    let mut counts = Counts::new();
+    for seed in seed..seed + runs {
+        let plan = Plan { seed, rules: PAPER, too_many: 0, told: false };
+        if let Err(broken) = run(one, plan, &mut counts) {
+            println!("seed {seed}: {broken}; the calls:");
+            let _ = run(one, Plan { told: true, ..plan }, &mut Counts::new());
+            return false;
+        }
+    }
+    println!("{runs} clusters from seed {seed}, {} calls, demand 3 judged after each", counts.calls);
+    let missing = counts.print();
+    println!("demand 3 held throughout; {missing} events did not occur; {} refusals that cannot be", counts.unlisted);
+    missing == 0 && counts.unlisted == 0
+}

@@ -1,0 +1,204 @@
+//! The incident, replayed.
+//!
+//! Train 7402 rolls past a detector: 240 axles, and number 238 runs hot. The detector counts in its own order, and that evening
+//! the train ran the other way: seen from the front, the hot axle is number 3. A dispatcher sends the correction, 238 becomes 3.
+//!
+//! Of six boxes three vote for it. Two vote against it, rightly: a panel has read the hot axle at a later stamp, and nothing may
+//! slip in under that read. The sixth box is broken in the worst way, it answers whatever it likes. It tells the day gateway
+//! `commit`. It tells the night gateway `abort`, and a minute later it tells it `abort` again.
+//!
+//! The day gateway has four commit votes, has them logged, and has its proof. The night gateway has abort votes from three boxes,
+//! one too few for a proof; but it has four answers, and the old program counted answers. So it had a proof too. The same
+//! correction was decided both ways: three boxes showed axle 3, two showed axle 238, and a fitter walked to the wrong end of a
+//! train in the dark.
+//!
+//! Below the same messages go to the old program's boxes and then to ours.
+
+use crate::engine::Entrance;
+use crate::judge::{Judge, Word};
+use crate::member::{Engine, Member, Model};
+use crate::messages::{pr, rd, transaction, with_list};
+use crate::model::{transaction_bytes, Answer, Decision, Kind, Reply, Rule, Rules, Settings, Sheet, Transaction, PAPER};
+use Decision::{Abort, Commit};
+use Kind::{Logs, Votes};
+
+/// Passage 5 owns keys 20 to 23.
+const TRAIN: u16 = 20;
+const DIRECTION: u16 = 21;
+const AXLES: u16 = 22;
+const HOT_AXLE: u16 = 23;
+
+const EVENING: u64 = 50;
+const CORRECTED: u64 = 60;
+const PANEL: u64 = 70;
+const MORNING: u64 = 90;
+
+/// Boxes 0 to 4 are sound. Box 5 is the one that answers twice, and it needs no table to do that.
+const SOUND: [usize; 5] = [0, 1, 2, 3, 4];
+const LIAR: u8 = 5;
+
+fn passage() -> Transaction {
+    transaction(EVENING, &[], &[(TRAIN, 7402), (DIRECTION, 0), (AXLES, 240), (HOT_AXLE, 238)])
+}
+
+fn correction() -> Transaction {
+    transaction(CORRECTED, &[(TRAIN, EVENING), (DIRECTION, EVENING), (AXLES, EVENING), (HOT_AXLE, EVENING)], &[(HOT_AXLE, 3)])
+}
+
+/// Those boxes, each with this answer.
+fn all(boxes: &[u8], answer: Decision) -> Vec<(u8, Decision)> {
+    boxes.iter().map(|number| (*number, answer)).collect()
+}
+
+/// The five sound boxes beside the line.
+struct Line<'a> {
+    one: &'a mut dyn Member,
+    boxes: Vec<(Vec<u8>, Vec<u64>)>,
+}
+
+impl Line<'_> {
+    fn new(one: &mut dyn Member) -> Line<'_> {
+        let empty = (vec![0; 1 + 8 * 176], vec![0; 512]);
+        Line { one, boxes: vec![empty; SOUND.len()] }
+    }
+
+    fn send(&mut self, number: usize, message: &[u8]) -> Answer {
+        let settings = Settings { f: 1, capacity: 8, clock: 100, delta: 10 };
+        let (table, marks) = &mut self.boxes[number];
+        self.one.call(Entrance::Receive, table, marks, &settings, message).expect("an answer")
+    }
+
+    /// To each sound box in turn.
+    fn send_all(&mut self, message: &[u8]) -> Vec<Answer> {
+        SOUND.iter().map(|number| self.send(*number, message)).collect()
+    }
+
+    /// The hot axle on each box's panel in the morning: what is committed there.
+    fn panels(&mut self) -> Vec<u64> {
+        let shown = |answer| match answer {
+            Answer::Found { committed: (_, value), .. } => value,
+            other => panic!("an RD was answered {other:?}"),
+        };
+        self.send_all(&rd(HOT_AXLE, MORNING)).into_iter().map(shown).collect()
+    }
+
+    /// The evening: the passage is written and decided; a panel at boxes 3 and 4 reads the hot axle; the correction is asked for.
+    fn evening(&mut self) {
+        let written = transaction_bytes(&passage());
+        assert_eq!(self.send_all(&pr(&written)), [Answer::Commit; 5]);
+        let proof = with_list(b"DC", &written, Votes, Commit, &all(&[0, 1, 2, 3, 4, LIAR], Commit));
+        assert_eq!(self.send_all(&proof), [Answer::Done; 5]);
+        for number in [3, 4] {
+            let read = self.send(number, &rd(HOT_AXLE, PANEL));
+            assert_eq!(read, Answer::Found { committed: (EVENING, 238), undecided: (0, 0) });
+        }
+        let votes = self.send_all(&pr(&transaction_bytes(&correction())));
+        assert_eq!(votes, [Answer::Commit, Answer::Commit, Answer::Commit, Answer::Abort(5), Answer::Abort(5)]);
+    }
+}
+
+/// What the day gateway sends: an LG with four commit votes, the liar's among them, and the proof from the logs that it gets.
+fn day_log() -> Vec<u8> {
+    with_list(b"LG", &transaction_bytes(&correction()), Votes, Commit, &all(&[0, 1, 2, LIAR], Commit))
+}
+
+fn day_proof() -> Vec<u8> {
+    with_list(b"DC", &transaction_bytes(&correction()), Logs, Commit, &all(&[0, 1, 2, 3, 4], Commit))
+}
+
+/// What the night gateway sends: four abort answers, of three boxes.
+fn night_proof() -> Vec<u8> {
+    with_list(b"DC", &transaction_bytes(&correction()), Votes, Abort, &all(&[3, 4, LIAR, LIAR], Abort))
+}
+
+/// The night: all have logged commit. The night gateway's proof gets to boxes 3 and 4 first, the day gateway's to all.
+fn night(line: &mut Line) -> (Vec<Answer>, Vec<Answer>) {
+    assert_eq!(line.send_all(&day_log()), [Answer::Logged(Commit); 5]);
+    let to_abort = [3, 4].map(|number| line.send(number, &night_proof())).to_vec();
+    let to_commit = line.send_all(&day_proof());
+    (to_abort, to_commit)
+}
+
+/// The old program: its boxes took a list that names a box twice, and counted both answers.
+fn as_it_was() {
+    let counts_answers = Rules { broken: &[Rule::NamedOnce] };
+    let mut old = Model(counts_answers);
+    let mut line = Line::new(&mut old);
+    line.evening();
+    let (to_abort, to_commit) = night(&mut line);
+    assert_eq!(to_abort, [Answer::Done; 2], "four answers did");
+    assert_eq!(to_commit, [Answer::Done, Answer::Done, Answer::Done, Answer::Refused(12), Answer::Refused(12)]);
+    assert_eq!(line.panels(), [3, 3, 3, 238, 238], "decided both ways");
+}
+
+/// Ours: the list that names box 5 twice is refused for that, and the correction has one proof.
+fn as_it_is() {
+    let mut engine = Engine;
+    let mut line = Line::new(&mut engine);
+    line.evening();
+    let (to_abort, to_commit) = night(&mut line);
+    assert_eq!(to_abort, [Answer::Refused(6); 2], "a box is named twice");
+    assert_eq!(to_commit, [Answer::Done; 5]);
+    assert_eq!(line.panels(), [3; 5], "one train, one hot axle");
+    let once = with_list(b"DC", &transaction_bytes(&correction()), Votes, Abort, &all(&[3, 4, LIAR], Abort));
+    assert_eq!(line.send_all(&once), [Answer::Refused(11); 5], "named once, they are too few");
+}
+
+/// The night gateway would have known: its own sheet says Repeat to the second answer, and no abort proof is reached.
+fn at_the_gateway() {
+    let mut sheet = Sheet { kind: 1, commits: 0, aborts: 0 };
+    let mut take = |number: u8| Engine.tally(&mut sheet, 1, u64::from(number), 2).expect("a reply");
+    assert_eq!(take(3), Reply::Votes([false, false, false, false]));
+    assert_eq!(take(4), Reply::Votes([false, true, false, false]), "two abort votes can be logged");
+    assert_eq!(take(LIAR), Reply::Votes([false, true, false, false]), "three are no proof");
+    assert_eq!(take(LIAR), Reply::Repeat, "and an answer given again is no fourth");
+    assert_eq!((sheet.commits, sheet.aborts), (0, 0b111000));
+}
+
+/// A judge who has seen the passage written.
+fn judge_of_the_evening() -> Judge {
+    let mut judge = Judge::new(PAPER, 1, 1);
+    let written = judge.body(passage());
+    for number in SOUND {
+        judge.note(written, number, Word { kind: Votes, decision: Commit }).expect("a passage that read nothing");
+    }
+    judge
+}
+
+/// And had the night gateway been quicker? Two abort votes may be logged, so at each box either gateway's LG may come first:
+/// thirty-two nights. In some there is no proof yet, in the others there is one, and in none are there two.
+fn had_it_been_quicker() -> [u32; 2] {
+    let night_log = with_list(b"LG", &transaction_bytes(&correction()), Votes, Abort, &all(&[3, 4, LIAR], Abort));
+    let mut proofs = [0, 0];
+    for first in 0..32u32 {
+        let mut engine = Engine;
+        let mut line = Line::new(&mut engine);
+        line.evening();
+        let mut judge = judge_of_the_evening();
+        let body = judge.body(correction());
+        for number in SOUND {
+            let day_first = first & 1 << number != 0;
+            for message in if day_first { [day_log(), night_log.clone()] } else { [night_log.clone(), day_log()] } {
+                let expected = if day_first { Commit } else { Abort };
+                assert_eq!(line.send(number, &message), Answer::Logged(expected), "the first log stays");
+                let proved = judge.note(body, number, Word { kind: Logs, decision: expected }).expect("never both proofs");
+                proofs[usize::from(expected == Abort)] += u32::from(proved);
+            }
+        }
+    }
+    proofs
+}
+
+/// True, or a panic that says which sentence of the story is not so.
+pub fn check() -> bool {
+    as_it_was();
+    println!("incident: counting answers, the correction was decided both ways: boxes 0, 1, 2 show axle 3, boxes 3 and 4 axle 238");
+    as_it_is();
+    println!("incident: the engine refuses the list that names box 5 twice (6); all five sound boxes show axle 3");
+    at_the_gateway();
+    println!("incident: the gateway's sheet answers Repeat, and reaches no abort proof");
+    let [commits, aborts] = had_it_been_quicker();
+    assert_eq!([commits, aborts], [6, 6], "four or five of five logs and the liar's are a proof");
+    println!("incident: of 32 nights {commits} have a commit proof, {aborts} an abort proof, none both");
+    true
+}

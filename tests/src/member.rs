@@ -1,0 +1,62 @@
+//! A box as the tests see it: it answers messages on a table that is lent to it, and counts answers for a gateway.
+//! The engine is one; the model is one, with rules that may be broken; broken.rs has bad ones.
+
+use crate::engine::{self, Entrance};
+use crate::model::{self, Answer, Reply, Rules, Settings, Sheet};
+
+pub trait Member {
+    /// Table and read marks become what the box leaves. An error is an answer that cannot be read, or a write beside what was lent.
+    fn call(&mut self, entrance: Entrance, table: &mut Vec<u8>, marks: &mut Vec<u64>, settings: &Settings, message: &[u8]) -> Result<Answer, String>;
+
+    fn tally(&mut self, sheet: &mut Sheet, f: u64, number: u64, answer: u64) -> Result<Reply, String>;
+}
+
+pub struct Engine;
+
+impl Member for Engine {
+    fn call(&mut self, entrance: Entrance, table: &mut Vec<u8>, marks: &mut Vec<u64>, settings: &Settings, message: &[u8]) -> Result<Answer, String> {
+        let out = engine::call(entrance, table, marks, settings, message)?;
+        engine::answer_of(out).ok_or_else(|| format!("{out:?} is no answer"))
+    }
+
+    fn tally(&mut self, sheet: &mut Sheet, f: u64, number: u64, answer: u64) -> Result<Reply, String> {
+        engine::tally(sheet, f, number, answer).ok_or_else(|| "the tally's five numbers are no reply".into())
+    }
+}
+
+pub struct Model(pub Rules);
+
+impl Member for Model {
+    fn call(&mut self, entrance: Entrance, table: &mut Vec<u8>, marks: &mut Vec<u64>, settings: &Settings, message: &[u8]) -> Result<Answer, String> {
+        Ok(model::call_by(self.0, table, marks, settings, message, entrance.due(), &mut Vec::new()))
+    }
+
+    fn tally(&mut self, sheet: &mut Sheet, f: u64, number: u64, answer: u64) -> Result<Reply, String> {
+        Ok(model::tally(sheet, f, number, answer))
+    }
+}
+
+/// The engine with the model beside it: an error where an answer or a byte differs.
+pub struct Beside;
+
+impl Member for Beside {
+    fn call(&mut self, entrance: Entrance, table: &mut Vec<u8>, marks: &mut Vec<u64>, settings: &Settings, message: &[u8]) -> Result<Answer, String> {
+        let (mut due_table, mut due_marks) = (table.clone(), marks.clone());
+        let answer = Engine.call(entrance, table, marks, settings, message)?;
+        let due = Model(model::PAPER).call(entrance, &mut due_table, &mut due_marks, settings, message)?;
+        if answer != due || *table != due_table || *marks != due_marks {
+            return Err(format!("the engine answers {answer:?}, the model {due:?}, or they leave other bytes"));
+        }
+        Ok(answer)
+    }
+
+    fn tally(&mut self, sheet: &mut Sheet, f: u64, number: u64, answer: u64) -> Result<Reply, String> {
+        let mut due_sheet = *sheet;
+        let reply = Engine.tally(sheet, f, number, answer)?;
+        let due = model::tally(&mut due_sheet, f, number, answer);
+        if reply != due || *sheet != due_sheet {
+            return Err(format!("the engine's tally replies {reply:?}, the model's {due:?}, or the sheets differ"));
+        }
+        Ok(reply)
+    }
+}

@@ -1,0 +1,35 @@
+//! Messages put together from their parts.
+
+use crate::model::{transaction_bytes, Decision, Kind, Transaction};
+
+pub fn transaction(stamp: u64, reads: &[(u16, u64)], writes: &[(u16, u64)]) -> Transaction {
+    Transaction { mark: *b"TX", stamp, reads: reads.to_vec(), writes: writes.to_vec() }
+}
+
+pub fn tx(stamp: u64, reads: &[(u16, u64)], writes: &[(u16, u64)]) -> Vec<u8> {
+    transaction_bytes(&transaction(stamp, reads, writes))
+}
+
+pub fn pr(tx: &[u8]) -> Vec<u8> {
+    [b"PR", tx].concat()
+}
+
+pub fn rd(key: u16, stamp: u64) -> Vec<u8> {
+    [&b"RD"[..], &key.to_le_bytes(), &stamp.to_le_bytes()].concat()
+}
+
+/// The paper's number for a decision or an answer.
+pub fn code(decision: Decision) -> u8 {
+    match decision {
+        Decision::Commit => 1,
+        Decision::Abort => 2,
+    }
+}
+
+/// An LG or a DC.
+pub fn with_list(mark: &[u8; 2], tx: &[u8], kind: Kind, decision: Decision, answers: &[(u8, Decision)]) -> Vec<u8> {
+    let kind = if kind == Kind::Votes { 1 } else { 2 };
+    let mut bytes = [&mark[..], tx, b"VL", &[kind, code(decision), answers.len() as u8]].concat();
+    bytes.extend(answers.iter().flat_map(|(number, answer)| [*number, code(*answer)]));
+    bytes
+}

@@ -1,0 +1,106 @@
+/* How much stack a call takes, all its callees with it: the call is made on a stack of its own, filled with a pattern beforehand, and
+ * the bytes that no longer hold the pattern are counted. Prints a line for each call; fails where one takes more than the smallest
+ * box has (8 KiB). */
+#define _GNU_SOURCE
+#include "../include/stobbarel.h"
+#include <stdio.h>
+#include <stdlib.h>
+#include <string.h>
+#include <ucontext.h>
+
+enum { STACK = 1 << 18, LIMIT = 8192, CAPACITY = 255, PATTERN = 0xA5 };
+
+static uint8_t stack[STACK], table[1 + CAPACITY * STOBBAREL_ROW], message[400];
+static uint64_t marks[STOBBAREL_KEYS], answer[5];
+static size_t message_len;
+static uint64_t group = 5;
+static ucontext_t here, there;
+
+static void nothing(void) {}
+
+static void call(void) {
+    stobbarel_receive(table, sizeof table, marks, group, CAPACITY, 1000, 0, message, message_len, answer);
+}
+
+/* Bytes of a fresh stack that a function leaves other than they were. */
+static size_t used(void (*function)(void)) {
+    memset(stack, PATTERN, sizeof stack);
+    getcontext(&there);
+    there.uc_stack.ss_sp = stack;
+    there.uc_stack.ss_size = sizeof stack;
+    there.uc_link = &here;
+    makecontext(&there, function, 0);
+    swapcontext(&here, &there);
+    size_t clean = 0;
+    while (clean < sizeof stack && stack[clean] == PATTERN) clean++;
+    return sizeof stack - clean;
+}
+
+static void put(uint8_t *at, uint64_t number, int bytes) {
+    for (int i = 0; i < bytes; i++) at[i] = (uint8_t)(number >> (8 * i));
+}
+
+/* A TX of eight reads at version 0 and eight writes. */
+static size_t transaction(uint8_t *at, uint64_t stamp) {
+    memcpy(at, "TX\x08\x08", 4);
+    put(at + 4, stamp, 8);
+    for (int i = 0; i < 16; i++) {
+        put(at + 12 + 10 * i, (uint64_t)(i < 8 ? i : 100 + i), 2);
+        put(at + 14 + 10 * i, 0, 8);
+    }
+    return 172;
+}
+
+static void make(const char *mark, uint64_t stamp, int kind) {
+    memcpy(message, mark, 2);
+    message_len = 2 + transaction(message + 2, stamp);
+    if (kind == 0) return;
+    uint8_t *list = message + message_len;
+    memcpy(list, "VL", 2);
+    list[2] = (uint8_t)kind;
+    list[3] = 1;
+    list[4] = 26;
+    for (int i = 0; i < 26; i++) {
+        list[5 + 2 * i] = (uint8_t)i;
+        list[6 + 2 * i] = 1;
+    }
+    message_len += 57;
+}
+
+static int failed = 0;
+
+static void show(const char *what, uint64_t due) {
+    static uint8_t before[sizeof table];
+    memcpy(before, table, sizeof table);
+    call(); /* once before, so that the dynamic linker has done its work */
+    memcpy(table, before, sizeof table);
+    size_t bytes = used(call) - used(nothing);
+    printf("%-52s %5zu\n", what, bytes);
+    if (answer[0] != due || bytes > LIMIT) {
+        printf("  answer %llu, due %llu, limit %d\n", (unsigned long long)answer[0], (unsigned long long)due, LIMIT);
+        failed = 1;
+    }
+}
+
+int main(void) {
+    for (uint64_t stamp = 1; stamp <= 254; stamp++) {
+        make("PR", 2 * stamp, 0);
+        call();
+    }
+    make("PR", 900, 0);
+    show("PR, eight reads and eight writes, 254 entries held", STOBBAREL_VOTED);
+    make("LG", 2, 1);
+    show("LG, a list of 26", STOBBAREL_LOGGED);
+    make("DC", 4, 1);
+    show("DC, a list of 26", STOBBAREL_DONE);
+    memcpy(message, "RD", 2);
+    put(message + 2, 110, 2);
+    put(message + 4, 900, 8);
+    message_len = 12;
+    show("RD, 254 entries held", STOBBAREL_FOUND);
+    message_len = 1;
+    show("a message that cannot be cut", STOBBAREL_REFUSED);
+    group = 0;
+    show("refused with 14", STOBBAREL_REFUSED);
+    return failed;
+}
