@@ -1,5 +1,5 @@
 //! A box as the paper describes it, in ordinary Rust: records read from bytes, a list of entries, and the four messages.
-//! It is written from the paper alone, and shares nothing with the engine that it is held against.
+//! It is written from the paper, with docs/DECISIONS.md where that leaves room, and shares no code with the engine that it is held against.
 //! `self.rules.hold(..)` marks the rules that broken.rs breaks, one at a time; in the paper's box all of them hold.
 
 /// For each f from 1 on: commit list, abort list, commit proof, abort proof, proof from logs.

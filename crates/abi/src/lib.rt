@@ -21,12 +21,6 @@ use terms::Group;
 use terms::Key;
 use terms::Stamp;
 
-fn wide(x: u8) -> u64
-    ensures { λ r. ⌜ r ≡ x ⌝ }
-{
-    x as u64
-}
-
 fn decision_number(d: Decision) -> u64
     ensures { λ r. ⌜ r ≡ decisionNumber d ⌝ }
 {
@@ -41,12 +35,18 @@ pub fn values(a: Answer) -> [u64; 5]
     ensures { λ r. ⌜ r ≡ answerRow a ⌝ }
 {
     match a {
-        Answer::Voted(v) => [1, wide(v.number()), wide(v.reason()), 0, 0],
+        Answer::Voted(v) => [
+            1,
+            records::widened(v.number()),
+            records::widened(v.reason()),
+            0,
+            0,
+        ],
         Answer::Decided(d) => [2, decision_number(d), 0, 0, 0],
         Answer::Logged(d) => [3, decision_number(d), 0, 0, 0],
         Answer::Done => [4, 0, 0, 0, 0],
         Answer::Found(version, value, undecided, its) => [5, version, value, undecided, its],
-        Answer::Refused(r) => [6, wide(r.number()), 0, 0, 0],
+        Answer::Refused(r) => [6, records::widened(r.number()), 0, 0, 0],
     }
 }
 

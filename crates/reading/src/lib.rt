@@ -89,7 +89,7 @@ pub fn behind_wrong(s: &[u8], n: usize) -> u8
 }
 
 // What stands behind the first n bytes.
-fn behind(s: &[u8], n: usize) -> &[u8]
+pub fn behind(s: &[u8], n: usize) -> &[u8]
     requires { ⌜ n ≤ length (now s) ⌝ }
     ensures { λ r. ⌜ now r ≡ drop n (now (s .entry)) ⌝ }
 {

@@ -71,7 +71,7 @@ pub fn wide(x: u8) -> usize
     x as usize
 }
 
-fn wide64(x: u8) -> u64
+pub fn widened(x: u8) -> u64
     ensures { λ r. ⌜ (r ≡ x) × (r < 256) ⌝ }
 {
     x as u64
@@ -82,14 +82,14 @@ pub fn u64_at(s: &[u8], at: usize) -> u64
     requires { ⌜ at + 8 ≤ length (now s) ⌝ }
     ensures { λ r. ⌜ r ≡ numAt 8 at (now (s .entry)) ⌝ }
 {
-    let b0 = wide64(s[at]);
-    let b1 = wide64(s[at + 1]);
-    let b2 = wide64(s[at + 2]);
-    let b3 = wide64(s[at + 3]);
-    let b4 = wide64(s[at + 4]);
-    let b5 = wide64(s[at + 5]);
-    let b6 = wide64(s[at + 6]);
-    let b7 = wide64(s[at + 7]);
+    let b0 = widened(s[at]);
+    let b1 = widened(s[at + 1]);
+    let b2 = widened(s[at + 2]);
+    let b3 = widened(s[at + 3]);
+    let b4 = widened(s[at + 4]);
+    let b5 = widened(s[at + 5]);
+    let b6 = widened(s[at + 6]);
+    let b7 = widened(s[at + 7]);
     b0 + 256 * (b1 + 256 * (b2 + 256 * (b3 + 256 * (b4 + 256 * (b5 + 256 * (b6 + 256 * b7))))))
 }
 
@@ -98,8 +98,8 @@ pub fn u16_at(s: &[u8], at: usize) -> u16
     requires { ⌜ at + 2 ≤ length (now s) ⌝ }
     ensures { λ r. ⌜ r ≡ numAt 2 at (now (s .entry)) ⌝ }
 {
-    let b0 = wide64(s[at]);
-    let b1 = wide64(s[at + 1]);
+    let b0 = widened(s[at]);
+    let b1 = widened(s[at + 1]);
     (b0 + 256 * b1) as u16
 }
 
@@ -143,7 +143,8 @@ pub fn tx_len(s: &[u8]) -> usize
     12 + 10 * (wide(s[2]) + wide(s[3]))
 }
 
-fn read_at(s: &[u8], p: usize, j: usize) -> Read
+// The j-th of the reads that begin at p.
+pub fn read_at(s: &[u8], p: usize, j: usize) -> Read
     requires { ⌜ (p ≤ 200) × (j < 8) × (p + j * 10 + 10 ≤ length (now s)) ⌝ }
     ensures { λ r. ⌜ r ≡ readAt (now (s .entry)) p j ⌝ }
 {
@@ -155,7 +156,8 @@ fn read_at(s: &[u8], p: usize, j: usize) -> Read
     }
 }
 
-fn write_at(s: &[u8], p: usize, j: usize) -> Write
+// The j-th of the writes that begin at p.
+pub fn write_at(s: &[u8], p: usize, j: usize) -> Write
     requires { ⌜ (p ≤ 200) × (j < 8) × (p + j * 10 + 10 ≤ length (now s)) ⌝ }
     ensures { λ r. ⌜ r ≡ writeAt (now (s .entry)) p j ⌝ }
 {

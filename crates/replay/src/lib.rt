@@ -24,12 +24,6 @@ use terms::Refusal;
 // Room for the lines of every input: a line is at most 112 bytes, and all records but the last have at least ten.
 pub const ROOM: usize = 786_544;
 
-fn wide(x: u8) -> u64
-    ensures { λ r. ⌜ r ≡ x ⌝ }
-{
-    x as u64
-}
-
 // A GP at the front: 2 or 1, then 14.
 fn gp_wrong(s: &[u8]) -> u8
     ensures { λ r. ⌜ r ≡ gpRefusal (now (s .entry)) ⌝ }
@@ -41,7 +35,7 @@ fn gp_wrong(s: &[u8]) -> u8
     if s.len() < 12 {
         return terms::SHORT;
     }
-    engine::config_wrong(wide(s[2]), wide(s[3]))
+    engine::config_wrong(records::widened(s[2]), records::widened(s[3]))
 }
 
 // A CK at the front, by its mark.
@@ -173,14 +167,6 @@ fn refused(n: u8) -> Said
     Said::Answered(Answer::Refused(Refusal::of(n)))
 }
 
-// What stands behind the first n bytes.
-fn behind(s: &[u8], n: usize) -> &[u8]
-    requires { ⌜ n ≤ length (now s) ⌝ }
-    ensures { λ r. ⌜ now r ≡ drop n (now (s .entry)) ⌝ }
-{
-    &s[n..]
-}
-
 // A record that is cut, without what follows it.
 fn front_of(s: &[u8]) -> &[u8]
     requires { ⌜ recordCut (now s) ≡ 0 ⌝ }
@@ -201,15 +187,15 @@ fn rest(
     requires { ⌜ (gpRefusal (now input) ≡ 0) × (length (now input) ≤ longest) × (room ≤ length (now out)) × (first ≤ 112) × (tableWrong (getD (now input) 3 0) (now table) ≡ 0) × (boxIn (now table) (now marks) ≡ empty) ⌝ }
     ensures { λ r. ⌜ Puts (now (out .entry)) first (restText (now (input .entry))) 786400 (now (out .exit)) r ⌝ }
 {
-    let f = wide(input[2]);
-    let capacity = wide(input[3]);
+    let f = records::widened(input[2]);
+    let capacity = records::widened(input[3]);
     let delta = records::u64_at(input, 4);
     let mut clock = 0;
     let mut number = 1;
     let mut at = 12;
     let mut n = first;
     while at < input.len() {
-        let s = behind(input, at);
+        let s = reading::behind(input, at);
         let cut = record_cut(s);
         if cut != 0 {
             return lines::put_line(out, n, number, s, refused(cut));

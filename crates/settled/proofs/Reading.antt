@@ -20,6 +20,9 @@ module _ {M : Type 1} (𝓤 : URA M) (H : Heap 𝓤) where
   pub behind-wrong : Settled 𝓤 H reading.behind_wrong.ended (reading.behind_wrong.spec 𝓤 H) (reading.behind_wrong.clauses 𝓤 H)
   behind-wrong A mem run = (refl, λ k o o′. settled 𝓤 (λ p q. one p q & refl))
 
+  pub behind : SettledPart 𝓤 H reading.behind.ended (λ κs r. now r) (reading.behind.spec 𝓤 H) (reading.behind.clauses 𝓤 H)
+  behind A mem run = (refl, λ k o o′. settled 𝓤 (λ p q. one p q & refl))
+
   pub pr-cut : Settled 𝓤 H reading.pr_cut.ended (reading.pr_cut.spec 𝓤 H) (reading.pr_cut.clauses 𝓤 H)
   pr-cut A mem run = (refl, λ k o o′. settled 𝓤 (λ p q. one p q & refl))
 

@@ -10,6 +10,9 @@ module _ {M : Type 1} (𝓤 : URA M) (H : Heap 𝓤) where
   pub wide : Settled 𝓤 H records.wide.ended (records.wide.spec 𝓤 H) (records.wide.clauses 𝓤 H)
   wide A mem run = (refl, λ k o o′. settled 𝓤 (λ p q. one (p .0) (q .0) & refl))
 
+  pub widened : Settled 𝓤 H records.widened.ended (records.widened.spec 𝓤 H) (records.widened.clauses 𝓤 H)
+  widened A mem run = (refl, λ k o o′. settled 𝓤 (λ p q. one (p .0) (q .0) & refl))
+
   pub u64-at : Settled 𝓤 H records.u64_at.ended (records.u64_at.spec 𝓤 H) (records.u64_at.clauses 𝓤 H)
   u64-at A mem run = (refl, λ k o o′. settled 𝓤 (λ p q. one p q & refl))
 
@@ -24,6 +27,12 @@ module _ {M : Type 1} (𝓤 : URA M) (H : Heap 𝓤) where
 
   pub tx-len : Settled 𝓤 H records.tx_len.ended (records.tx_len.spec 𝓤 H) (records.tx_len.clauses 𝓤 H)
   tx-len A mem run = (refl, λ k o o′. settled 𝓤 (λ p q. one p q & refl))
+
+  pub read-at : Settled 𝓤 H records.read_at.ended (records.read_at.spec 𝓤 H) (records.read_at.clauses 𝓤 H)
+  read-at A mem run = (refl, λ k o o′. settled 𝓤 (λ p q. one p q & refl))
+
+  pub write-at : Settled 𝓤 H records.write_at.ended (records.write_at.spec 𝓤 H) (records.write_at.clauses 𝓤 H)
+  write-at A mem run = (refl, λ k o o′. settled 𝓤 (λ p q. one p q & refl))
 
   pub transaction-of : Settled 𝓤 H records.transaction_of.ended (records.transaction_of.spec 𝓤 H) (records.transaction_of.clauses 𝓤 H)
   transaction-of A mem run = (refl, λ k o o′. settled 𝓤 (λ p q. one (p .0) (q .0) & refl))

@@ -120,9 +120,7 @@ pub fn read_at(s: &[u8], j: usize) -> Read
     requires { ⌜ TxThere (now s) × (j < rCount (now s)) ⌝ }
     ensures { λ r. ⌜ r ≡ readAt (now (s .entry)) 12 j ⌝ }
 {
-    let key = Key(records::u16_at(s, 12 + j * 10));
-    let version = Stamp(records::u64_at(s, 12 + j * 10 + 2));
-    Read { key, version }
+    records::read_at(s, 12, j)
 }
 
 // Its j-th write.
@@ -130,10 +128,7 @@ pub fn write_at(s: &[u8], j: usize) -> Write
     requires { ⌜ TxThere (now s) × (j < wCount (now s)) ⌝ }
     ensures { λ r. ⌜ r ≡ writeAt (now (s .entry)) (writesFrom (now (s .entry))) j ⌝ }
 {
-    let p = 12 + records::wide(s[2]) * 10;
-    let key = Key(records::u16_at(s, p + j * 10));
-    let value = records::u64_at(s, p + j * 10 + 2);
-    Write { key, value }
+    records::write_at(s, 12 + records::wide(s[2]) * 10, j)
 }
 
 // Whether it writes the key.

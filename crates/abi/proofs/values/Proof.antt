@@ -5,7 +5,7 @@ use Rattle.abi.proofs.values.Tie as tie
 use Rattle.abi.proofs.values.Reads as reads
 use Rattle.abi.proofs.values.Lts as lts
 use Rattle.abi.proofs.decision_number.Reads as decision-number-reads
-use Rattle.abi.proofs.wide.Reads as wide-reads
+use Rattle.records.proofs.widened.Reads as widened-reads
 use Rattle.rules.proofs.Vote.number.Reads as Vote-number-reads
 use Rattle.rules.proofs.Vote.reason.Reads as reason-reads
 use Rattle.terms.proofs.Refusal.number.Reads as Refusal-number-reads
@@ -16,14 +16,14 @@ enum-known-a c = search needs
 number-requires : tie.Need-number-requires
 number-requires c κs = search needs
 
-wide-requires : tie.Need-wide-requires
-wide-requires c κs = search needs
+widened-requires : tie.Need-widened-requires
+widened-requires c κs = search needs
 
 reason-requires : tie.Need-reason-requires
 reason-requires c κs = search needs
 
-wide-requires-2 : tie.Need-wide-requires-2
-wide-requires-2 c κs = search needs
+widened-requires-2 : tie.Need-widened-requires-2
+widened-requires-2 c κs = search needs
 
 enum-known-a-2 : tie.Need-enum-known-a-2
 enum-known-a-2 c = search needs
@@ -49,11 +49,11 @@ enum-known-a-5 c = search needs
 number-requires-2 : tie.Need-number-requires-2
 number-requires-2 c κs = search needs
 
-wide-requires-3 : tie.Need-wide-requires-3
-wide-requires-3 c κs = search needs
+widened-requires-3 : tie.Need-widened-requires-3
+widened-requires-3 c κs = search needs
 
 returns : tie.Need-returns
-returns c = rw (c .before .before .before .before .before .a .given .1, c .before .before .wide .ensures, c .before .before .before .number .ensures, c .wide2 .ensures, c .before .reason .ensures)
+returns c = rw (c .before .before .before .before .before .a .given .1, c .before .before .widened .ensures .0, c .before .before .before .number .ensures, c .widened2 .ensures .0, c .before .reason .ensures)
 
 returns-2 : tie.Need-returns-2
 returns-2 c = rw (c .before .before .a2 .given .1, c .decision-number .ensures)
@@ -68,7 +68,7 @@ returns-5 : tie.Need-returns-5
 returns-5 c = rw (c .before .a4 .given .1)
 
 returns-6 : tie.Need-returns-6
-returns-6 c = rw (c .before .before .before .a5 .given .1, c .wide3 .ensures, c .before .number2 .ensures)
+returns-6 c = rw (c .before .before .before .a5 .given .1, c .widened3 .ensures .0, c .before .number2 .ensures)
 
 pub values-spec : {M : Type 1} → statement M
 values-spec =
@@ -76,9 +76,9 @@ values-spec =
     (tie.spec
     enum-known-a
     number-requires
-    wide-requires
+    widened-requires
     reason-requires
-    wide-requires-2
+    widened-requires-2
     enum-known-a-2
     decision-number-requires
     enum-known-a-3
@@ -87,7 +87,7 @@ values-spec =
     enum-known-a-4
     enum-known-a-5
     number-requires-2
-    wide-requires-3
+    widened-requires-3
     returns
     returns-2
     returns-3

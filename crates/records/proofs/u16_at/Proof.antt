@@ -6,20 +6,20 @@ use borrow.Author.Needs.{needs}
 use Rattle.records.proofs.u16_at.Statement.{statement}
 use Rattle.records.proofs.u16_at.Tie as tie
 
-shared-slice-read-wide64 : tie.Need-shared-slice-read-wide64
-shared-slice-read-wide64 c = search needs
+shared-slice-read-widened : tie.Need-shared-slice-read-widened
+shared-slice-read-widened c = search needs
 
-wide64-requires : tie.Need-wide64-requires
-wide64-requires c κs = search needs
+widened-requires : tie.Need-widened-requires
+widened-requires c κs = search needs
 
-add-wide64 : tie.Need-add-wide64
-add-wide64 c = search needs
+add-widened : tie.Need-add-widened
+add-widened c = search needs
 
-shared-slice-read-wide64-2 : tie.Need-shared-slice-read-wide64-2
-shared-slice-read-wide64-2 c = search needs
+shared-slice-read-widened-2 : tie.Need-shared-slice-read-widened-2
+shared-slice-read-widened-2 c = search needs
 
-wide64-requires-2 : tie.Need-wide64-requires-2
-wide64-requires-2 c κs = search needs
+widened-requires-2 : tie.Need-widened-requires-2
+widened-requires-2 c κs = search needs
 
 mul-result : tie.Need-mul-result
 mul-result c = search needs
@@ -38,11 +38,11 @@ pub u16-at-spec : {M : Type 1} → statement M
 u16-at-spec =
     tie.close
     (tie.spec
-    shared-slice-read-wide64
-    wide64-requires
-    add-wide64
-    shared-slice-read-wide64-2
-    wide64-requires-2
+    shared-slice-read-widened
+    widened-requires
+    add-widened
+    shared-slice-read-widened-2
+    widened-requires-2
     mul-result
     add-result
     cast-result

@@ -6,74 +6,74 @@ use borrow.Author.Needs.{needs}
 use Rattle.records.proofs.u64_at.Statement.{statement}
 use Rattle.records.proofs.u64_at.Tie as tie
 
-shared-slice-read-wide64 : tie.Need-shared-slice-read-wide64
-shared-slice-read-wide64 c = search needs
+shared-slice-read-widened : tie.Need-shared-slice-read-widened
+shared-slice-read-widened c = search needs
 
-wide64-requires : tie.Need-wide64-requires
-wide64-requires c κs = search needs
+widened-requires : tie.Need-widened-requires
+widened-requires c κs = search needs
 
-add-wide64 : tie.Need-add-wide64
-add-wide64 c = search needs
+add-widened : tie.Need-add-widened
+add-widened c = search needs
 
-shared-slice-read-wide64-2 : tie.Need-shared-slice-read-wide64-2
-shared-slice-read-wide64-2 c = search needs
+shared-slice-read-widened-2 : tie.Need-shared-slice-read-widened-2
+shared-slice-read-widened-2 c = search needs
 
-wide64-requires-2 : tie.Need-wide64-requires-2
-wide64-requires-2 c κs = search needs
+widened-requires-2 : tie.Need-widened-requires-2
+widened-requires-2 c κs = search needs
 
-add-wide64-2 : tie.Need-add-wide64-2
-add-wide64-2 c = search needs
+add-widened-2 : tie.Need-add-widened-2
+add-widened-2 c = search needs
 
-shared-slice-read-wide64-3 : tie.Need-shared-slice-read-wide64-3
-shared-slice-read-wide64-3 c = search needs
+shared-slice-read-widened-3 : tie.Need-shared-slice-read-widened-3
+shared-slice-read-widened-3 c = search needs
 
-wide64-requires-3 : tie.Need-wide64-requires-3
-wide64-requires-3 c κs = search needs
+widened-requires-3 : tie.Need-widened-requires-3
+widened-requires-3 c κs = search needs
 
-add-wide64-3 : tie.Need-add-wide64-3
-add-wide64-3 c = search needs
+add-widened-3 : tie.Need-add-widened-3
+add-widened-3 c = search needs
 
-shared-slice-read-wide64-4 : tie.Need-shared-slice-read-wide64-4
-shared-slice-read-wide64-4 c = search needs
+shared-slice-read-widened-4 : tie.Need-shared-slice-read-widened-4
+shared-slice-read-widened-4 c = search needs
 
-wide64-requires-4 : tie.Need-wide64-requires-4
-wide64-requires-4 c κs = search needs
+widened-requires-4 : tie.Need-widened-requires-4
+widened-requires-4 c κs = search needs
 
-add-wide64-4 : tie.Need-add-wide64-4
-add-wide64-4 c = search needs
+add-widened-4 : tie.Need-add-widened-4
+add-widened-4 c = search needs
 
-shared-slice-read-wide64-5 : tie.Need-shared-slice-read-wide64-5
-shared-slice-read-wide64-5 c = search needs
+shared-slice-read-widened-5 : tie.Need-shared-slice-read-widened-5
+shared-slice-read-widened-5 c = search needs
 
-wide64-requires-5 : tie.Need-wide64-requires-5
-wide64-requires-5 c κs = search needs
+widened-requires-5 : tie.Need-widened-requires-5
+widened-requires-5 c κs = search needs
 
-add-wide64-5 : tie.Need-add-wide64-5
-add-wide64-5 c = search needs
+add-widened-5 : tie.Need-add-widened-5
+add-widened-5 c = search needs
 
-shared-slice-read-wide64-6 : tie.Need-shared-slice-read-wide64-6
-shared-slice-read-wide64-6 c = search needs
+shared-slice-read-widened-6 : tie.Need-shared-slice-read-widened-6
+shared-slice-read-widened-6 c = search needs
 
-wide64-requires-6 : tie.Need-wide64-requires-6
-wide64-requires-6 c κs = search needs
+widened-requires-6 : tie.Need-widened-requires-6
+widened-requires-6 c κs = search needs
 
-add-wide64-6 : tie.Need-add-wide64-6
-add-wide64-6 c = search needs
+add-widened-6 : tie.Need-add-widened-6
+add-widened-6 c = search needs
 
-shared-slice-read-wide64-7 : tie.Need-shared-slice-read-wide64-7
-shared-slice-read-wide64-7 c = search needs
+shared-slice-read-widened-7 : tie.Need-shared-slice-read-widened-7
+shared-slice-read-widened-7 c = search needs
 
-wide64-requires-7 : tie.Need-wide64-requires-7
-wide64-requires-7 c κs = search needs
+widened-requires-7 : tie.Need-widened-requires-7
+widened-requires-7 c κs = search needs
 
-add-wide64-7 : tie.Need-add-wide64-7
-add-wide64-7 c = search needs
+add-widened-7 : tie.Need-add-widened-7
+add-widened-7 c = search needs
 
-shared-slice-read-wide64-8 : tie.Need-shared-slice-read-wide64-8
-shared-slice-read-wide64-8 c = search needs
+shared-slice-read-widened-8 : tie.Need-shared-slice-read-widened-8
+shared-slice-read-widened-8 c = search needs
 
-wide64-requires-8 : tie.Need-wide64-requires-8
-wide64-requires-8 c κs = search needs
+widened-requires-8 : tie.Need-widened-requires-8
+widened-requires-8 c κs = search needs
 
 mul-result : tie.Need-mul-result
 mul-result c = search needs
@@ -125,29 +125,29 @@ pub u64-at-spec : {M : Type 1} → statement M
 u64-at-spec =
     tie.close
     (tie.spec
-    shared-slice-read-wide64
-    wide64-requires
-    add-wide64
-    shared-slice-read-wide64-2
-    wide64-requires-2
-    add-wide64-2
-    shared-slice-read-wide64-3
-    wide64-requires-3
-    add-wide64-3
-    shared-slice-read-wide64-4
-    wide64-requires-4
-    add-wide64-4
-    shared-slice-read-wide64-5
-    wide64-requires-5
-    add-wide64-5
-    shared-slice-read-wide64-6
-    wide64-requires-6
-    add-wide64-6
-    shared-slice-read-wide64-7
-    wide64-requires-7
-    add-wide64-7
-    shared-slice-read-wide64-8
-    wide64-requires-8
+    shared-slice-read-widened
+    widened-requires
+    add-widened
+    shared-slice-read-widened-2
+    widened-requires-2
+    add-widened-2
+    shared-slice-read-widened-3
+    widened-requires-3
+    add-widened-3
+    shared-slice-read-widened-4
+    widened-requires-4
+    add-widened-4
+    shared-slice-read-widened-5
+    widened-requires-5
+    add-widened-5
+    shared-slice-read-widened-6
+    widened-requires-6
+    add-widened-6
+    shared-slice-read-widened-7
+    widened-requires-7
+    add-widened-7
+    shared-slice-read-widened-8
+    widened-requires-8
     mul-result
     add-result
     mul-result-2

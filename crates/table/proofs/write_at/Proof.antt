@@ -1,7 +1,11 @@
-use Rattle.records.specs.Tx.{writeAt}
+use native.Mathlib.Omega.{arith}
 use borrow.Author.Needs.{needs}
 use Rattle.table.proofs.write_at.Statement.{statement}
 use Rattle.table.proofs.write_at.Tie as tie
+use Rattle.table.proofs.write_at.Reads as reads
+use Rattle.table.proofs.write_at.Lts as lts
+use Rattle.records.proofs.wide.Reads as wide-reads
+use Rattle.records.proofs.write_at.Reads as write-at-reads
 
 shared-slice-read-wide : tie.Need-shared-slice-read-wide
 shared-slice-read-wide c = search needs
@@ -9,36 +13,17 @@ shared-slice-read-wide c = search needs
 wide-requires : tie.Need-wide-requires
 wide-requires c κs = search needs
 
-mul-p : tie.Need-mul-p
-mul-p c = search needs
+mul-write-at : tie.Need-mul-write-at
+mul-write-at c = search needs
 
-add-p : tie.Need-add-p
-add-p c = search needs
+add-write-at : tie.Need-add-write-at
+add-write-at c = search needs
 
-mul-u16-at : tie.Need-mul-u16-at
-mul-u16-at c = search needs
-
-add-u16-at : tie.Need-add-u16-at
-add-u16-at c = search needs
-
-u16-at-requires : tie.Need-u16-at-requires
-u16-at-requires c κs = search needs
-
-mul-u64-at : tie.Need-mul-u64-at
-mul-u64-at c = search needs
-
-add-u64-at : tie.Need-add-u64-at
-add-u64-at c = search needs
-
-add-u64-at-2 : tie.Need-add-u64-at-2
-add-u64-at-2 c = search needs
-
-u64-at-requires : tie.Need-u64-at-requires
-u64-at-requires c κs = search needs
+write-at-requires : tie.Need-write-at-requires
+write-at-requires c κs = search needs
 
 returns : tie.Need-returns
-unfolding writeAt
-returns c = rw (← c .before .before .wide .ensures .0, c .before .u16-at .ensures, c .u64-at .ensures)
+returns c = rw (← c .before .wide .ensures .0) (c .write-at .ensures)
 
 pub write-at-spec : {M : Type 1} → statement M
 write-at-spec =
@@ -46,13 +31,7 @@ write-at-spec =
     (tie.spec
     shared-slice-read-wide
     wide-requires
-    mul-p
-    add-p
-    mul-u16-at
-    add-u16-at
-    u16-at-requires
-    mul-u64-at
-    add-u64-at
-    add-u64-at-2
-    u64-at-requires
+    mul-write-at
+    add-write-at
+    write-at-requires
     returns)
