@@ -1,20 +1,44 @@
 -- An answer as five numbers: which answer it is, then this paper's number and values for it, then zeros.
 use Prim.Native.Nat.{ℕ, zero, suc}
+use mathlib.Core.Path.{_≡_}
 use mathlib.Core.List.{List, [], _∷_}
-use Rattle.terms.specs.Refusals.{numberOf}
 use Rattle.terms.specs.Group.{boxes, commitList, abortList, commitProof, abortProof, logProof}
-use Rattle.rules.specs.Answers.{decisionNumber, voteNumber, voteReason}
+use Rattle.rules.specs.Answers.{answerValues}
 use Rattle.rules.specs.declared.Answer.{Answer}
 use Rattle.rules.specs.declared.Answer.the-variants.{Voted, Decided, Logged, Done, Found, Refused}
+use Rattle.rules.specs.Calls.{Act}
+use Rattle.rules.specs.Act.{answerIn, marksBy}
+use Rattle.engine.specs.Outcome.{tableBy}
 use Rattle.sheet.specs.declared.Sheet.{Sheet}
 
+abbrev pub answerNumber : Answer → ℕ
+answerNumber (Voted v) = 1
+answerNumber (Decided d) = 2
+answerNumber (Logged d) = 3
+answerNumber Done = 4
+answerNumber (Found version value undecided its) = 5
+answerNumber (Refused r) = 6
+
+-- at most four values, zeros behind them
+abbrev pub four : List ℕ → List ℕ
+four [] = 0 ∷ 0 ∷ 0 ∷ 0 ∷ []
+four (a ∷ []) = a ∷ 0 ∷ 0 ∷ 0 ∷ []
+four (a ∷ b ∷ []) = a ∷ b ∷ 0 ∷ 0 ∷ []
+four (a ∷ b ∷ c ∷ []) = a ∷ b ∷ c ∷ 0 ∷ []
+four (a ∷ b ∷ c ∷ d ∷ more) = a ∷ b ∷ c ∷ d ∷ []
+
 abbrev pub answerRow : Answer → List ℕ
-answerRow (Voted v) = 1 ∷ voteNumber v ∷ voteReason v ∷ 0 ∷ 0 ∷ []
-answerRow (Decided d) = 2 ∷ decisionNumber d ∷ 0 ∷ 0 ∷ 0 ∷ []
-answerRow (Logged d) = 3 ∷ decisionNumber d ∷ 0 ∷ 0 ∷ 0 ∷ []
-answerRow Done = 4 ∷ 0 ∷ 0 ∷ 0 ∷ 0 ∷ []
-answerRow (Found version value undecided its) = 5 ∷ version ∷ value ∷ undecided ∷ its ∷ []
-answerRow (Refused r) = 6 ∷ numberOf r ∷ 0 ∷ 0 ∷ 0 ∷ []
+answerRow a = answerNumber a ∷ four (answerValues a)
+
+-- what a call leaves, as the engine's, the answer as its row
+abbrev pub RowTable : Act → List ℕ → List ℕ → List ℕ → List ℕ → Type 0
+RowTable a t m row t' = (row ≡ answerRow (answerIn a)) × (t' ≡ tableBy t m a)
+
+abbrev pub RowMarks : Act → List ℕ → List ℕ → List ℕ → List ℕ → Type 0
+RowMarks a marks m row marks' = (row ≡ answerRow (answerIn a)) × (marks' ≡ marksBy marks m (answerIn a))
+
+abbrev pub RowBoth : Act → List ℕ → List ℕ → List ℕ → List ℕ → List ℕ → List ℕ → Type 0
+RowBoth a t marks m row t' marks' = (row ≡ answerRow (answerIn a)) × (t' ≡ tableBy t m a) × (marks' ≡ marksBy marks m (answerIn a))
 
 -- the sheet that is lent as a kind and two masks
 abbrev pub sheetOf : ℕ → ℕ → ℕ → Sheet

@@ -2,14 +2,13 @@
 // numbers, records read and written, the tally, the thresholds.
 ghost use mathlib.Core.Path.{_≡_};
 ghost use Rattle.rules.specs.Answers.{decisionNumber};
-ghost use Rattle.rules.specs.Act.{answerIn, marksBy};
 ghost use Rattle.steps.specs.Step.{config};
-ghost use Rattle.engine.specs.Outcome.{prOutcome, lgOutcome, dcOutcome, rdOutcome, outcome, tableBy};
+ghost use Rattle.engine.specs.Outcome.{prOutcome, lgOutcome, dcOutcome, rdOutcome, outcome};
 ghost use lib.ListN.{length};
 ghost use Rattle.records.specs.Messages.{readTX, readVL, readMessage, handedBack};
 ghost use Rattle.sheet.specs.Sheets.{replyTo, replyValues, sheetAfter};
 ghost use Rattle.terms.specs.Group.{groupWrong};
-ghost use Rattle.abi.specs.Rows.{answerRow, sheetOf, groupRow, thresholdsBy};
+ghost use Rattle.abi.specs.Rows.{answerRow, sheetOf, groupRow, thresholdsBy, RowTable, RowMarks, RowBoth};
 ghost use Rattle.lent.specs.Lent.{lentTx, lentList, foundNumber, fields, fieldsOf};
 ghost use Rattle.abi.specs.Left.{left, txLeft, vlLeft, prLeft, lgLeft, dcLeft, rdLeft};
 use records::Reading;
@@ -69,7 +68,7 @@ pub extern "C" fn stobbarel_receive(
     message: &[u8],
     out: &mut [u64; 5],
 )
-    ensures { λ r. ⌜ (now (out .exit) ≡ answerRow (answerIn (outcome (config f capacity clock delta) (now (table .entry)) (now (marks .entry)) (now (message .entry))))) × (now (table .exit) ≡ tableBy (now (table .entry)) (now (message .entry)) (outcome (config f capacity clock delta) (now (table .entry)) (now (marks .entry)) (now (message .entry)))) × (now (marks .exit) ≡ marksBy (now (marks .entry)) (now (message .entry)) (answerIn (outcome (config f capacity clock delta) (now (table .entry)) (now (marks .entry)) (now (message .entry))))) ⌝ }
+    ensures { λ r. ⌜ RowBoth (outcome (config f capacity clock delta) (now (table .entry)) (now (marks .entry)) (now (message .entry))) (now (table .entry)) (now (marks .entry)) (now (message .entry)) (now (out .exit)) (now (table .exit)) (now (marks .exit)) ⌝ }
 {
     let answer = engine::receive(table, marks, f, capacity, clock, delta, message);
     put(out, values(answer));
@@ -87,7 +86,7 @@ pub extern "C" fn stobbarel_prepare(
     message: &[u8],
     out: &mut [u64; 5],
 )
-    ensures { λ r. ⌜ (now (out .exit) ≡ answerRow (answerIn (prOutcome (config f capacity clock delta) (now (table .entry)) (now (marks .entry)) (now (message .entry))))) × (now (table .exit) ≡ tableBy (now (table .entry)) (now (message .entry)) (prOutcome (config f capacity clock delta) (now (table .entry)) (now (marks .entry)) (now (message .entry)))) ⌝ }
+    ensures { λ r. ⌜ RowTable (prOutcome (config f capacity clock delta) (now (table .entry)) (now (marks .entry)) (now (message .entry))) (now (table .entry)) (now (message .entry)) (now (out .exit)) (now (table .exit)) ⌝ }
 {
     let answer = engine::prepare(table, marks, f, capacity, clock, delta, message);
     put(out, values(answer));
@@ -104,7 +103,7 @@ pub extern "C" fn stobbarel_log(
     message: &[u8],
     out: &mut [u64; 5],
 )
-    ensures { λ r. ⌜ (now (out .exit) ≡ answerRow (answerIn (lgOutcome (config f capacity clock delta) (now (table .entry)) (now (message .entry))))) × (now (table .exit) ≡ tableBy (now (table .entry)) (now (message .entry)) (lgOutcome (config f capacity clock delta) (now (table .entry)) (now (message .entry)))) ⌝ }
+    ensures { λ r. ⌜ RowTable (lgOutcome (config f capacity clock delta) (now (table .entry)) (now (message .entry))) (now (table .entry)) (now (message .entry)) (now (out .exit)) (now (table .exit)) ⌝ }
 {
     let answer = engine::log(table, f, capacity, clock, delta, message);
     put(out, values(answer));
@@ -121,7 +120,7 @@ pub extern "C" fn stobbarel_decide(
     message: &[u8],
     out: &mut [u64; 5],
 )
-    ensures { λ r. ⌜ (now (out .exit) ≡ answerRow (answerIn (dcOutcome (config f capacity clock delta) (now (table .entry)) (now (message .entry))))) × (now (table .exit) ≡ tableBy (now (table .entry)) (now (message .entry)) (dcOutcome (config f capacity clock delta) (now (table .entry)) (now (message .entry)))) ⌝ }
+    ensures { λ r. ⌜ RowTable (dcOutcome (config f capacity clock delta) (now (table .entry)) (now (message .entry))) (now (table .entry)) (now (message .entry)) (now (out .exit)) (now (table .exit)) ⌝ }
 {
     let answer = engine::decide(table, f, capacity, clock, delta, message);
     put(out, values(answer));
@@ -139,7 +138,7 @@ pub extern "C" fn stobbarel_read(
     message: &[u8],
     out: &mut [u64; 5],
 )
-    ensures { λ r. ⌜ (now (out .exit) ≡ answerRow (answerIn (rdOutcome (config f capacity clock delta) (now (table .entry)) (now (message .entry))))) × (now (marks .exit) ≡ marksBy (now (marks .entry)) (now (message .entry)) (answerIn (rdOutcome (config f capacity clock delta) (now (table .entry)) (now (message .entry))))) ⌝ }
+    ensures { λ r. ⌜ RowMarks (rdOutcome (config f capacity clock delta) (now (table .entry)) (now (message .entry))) (now (marks .entry)) (now (message .entry)) (now (out .exit)) (now (marks .exit)) ⌝ }
 {
     let answer = engine::read(table, marks, f, capacity, clock, delta, message);
     put(out, values(answer));

@@ -82,51 +82,59 @@ fn case_13_f1() {
     );
 }
 
-fn case_14_f1() {
+// A body held undecided, then another body of the same stamp and a commit proof for that.
+fn case_14(f: u64, name: &[u8], what: &[u8], proof: &[u8]) {
     let mut table = [0u8; 1409];
     let mut marks = [0u64; 512];
-    io::write_all(STDOUT_FILENO, b"case 14, f 1\n");
+    io::write_all(STDOUT_FILENO, name);
     send(
         &mut table,
         &mut marks,
-        1,
+        f,
         b"50 writes key 3",
         b"PRTX\x00\x01\x32\x00\x00\x00\x00\x00\x00\x00\x03\x00\x07\x00\x00\x00\x00\x00\x00\x00",
     );
     send(
         &mut table,
         &mut marks,
-        1,
+        f,
         b"another body of 50",
         b"PRTX\x00\x01\x32\x00\x00\x00\x00\x00\x00\x00\x03\x00\x08\x00\x00\x00\x00\x00\x00\x00",
     );
+    send(&mut table, &mut marks, f, what, proof);
+    body_replaced(&mut table, &mut marks, f);
+}
+
+fn body_replaced(table: &mut [u8], marks: &mut [u64; 512], f: u64) {
     send(
-        &mut table,
-        &mut marks,
-        1,
-        b"6 commit votes for that body",
-        b"DCTX\x00\x01\x32\x00\x00\x00\x00\x00\x00\x00\x03\x00\x08\x00\x00\x00\x00\x00\x00\x00VL\x01\x01\x06\x00\x01\x01\x01\x02\x01\x03\x01\x04\x01\x05\x01",
-    );
-    send(
-        &mut table,
-        &mut marks,
-        1,
+        table,
+        marks,
+        f,
         b"PR for that body",
         b"PRTX\x00\x01\x32\x00\x00\x00\x00\x00\x00\x00\x03\x00\x08\x00\x00\x00\x00\x00\x00\x00",
     );
     send(
-        &mut table,
-        &mut marks,
-        1,
+        table,
+        marks,
+        f,
         b"PR for the first body",
         b"PRTX\x00\x01\x32\x00\x00\x00\x00\x00\x00\x00\x03\x00\x07\x00\x00\x00\x00\x00\x00\x00",
     );
     send(
-        &mut table,
-        &mut marks,
-        1,
+        table,
+        marks,
+        f,
         b"RD key 3 at 60",
         b"RD\x03\x00\x3c\x00\x00\x00\x00\x00\x00\x00",
+    );
+}
+
+fn case_14_f1() {
+    case_14(
+        1,
+        b"case 14, f 1\n",
+        b"6 commit votes for that body",
+        b"DCTX\x00\x01\x32\x00\x00\x00\x00\x00\x00\x00\x03\x00\x08\x00\x00\x00\x00\x00\x00\x00VL\x01\x01\x06\x00\x01\x01\x01\x02\x01\x03\x01\x04\x01\x05\x01",
     );
 }
 
@@ -405,50 +413,11 @@ fn case_13_f5() {
 }
 
 fn case_14_f5() {
-    let mut table = [0u8; 1409];
-    let mut marks = [0u64; 512];
-    io::write_all(STDOUT_FILENO, b"case 14, f 5\n");
-    send(
-        &mut table,
-        &mut marks,
+    case_14(
         5,
-        b"50 writes key 3",
-        b"PRTX\x00\x01\x32\x00\x00\x00\x00\x00\x00\x00\x03\x00\x07\x00\x00\x00\x00\x00\x00\x00",
-    );
-    send(
-        &mut table,
-        &mut marks,
-        5,
-        b"another body of 50",
-        b"PRTX\x00\x01\x32\x00\x00\x00\x00\x00\x00\x00\x03\x00\x08\x00\x00\x00\x00\x00\x00\x00",
-    );
-    send(
-        &mut table,
-        &mut marks,
-        5,
+        b"case 14, f 5\n",
         b"26 commit votes for that body",
         b"DCTX\x00\x01\x32\x00\x00\x00\x00\x00\x00\x00\x03\x00\x08\x00\x00\x00\x00\x00\x00\x00VL\x01\x01\x1a\x00\x01\x01\x01\x02\x01\x03\x01\x04\x01\x05\x01\x06\x01\x07\x01\x08\x01\x09\x01\x0a\x01\x0b\x01\x0c\x01\x0d\x01\x0e\x01\x0f\x01\x10\x01\x11\x01\x12\x01\x13\x01\x14\x01\x15\x01\x16\x01\x17\x01\x18\x01\x19\x01",
-    );
-    send(
-        &mut table,
-        &mut marks,
-        5,
-        b"PR for that body",
-        b"PRTX\x00\x01\x32\x00\x00\x00\x00\x00\x00\x00\x03\x00\x08\x00\x00\x00\x00\x00\x00\x00",
-    );
-    send(
-        &mut table,
-        &mut marks,
-        5,
-        b"PR for the first body",
-        b"PRTX\x00\x01\x32\x00\x00\x00\x00\x00\x00\x00\x03\x00\x07\x00\x00\x00\x00\x00\x00\x00",
-    );
-    send(
-        &mut table,
-        &mut marks,
-        5,
-        b"RD key 3 at 60",
-        b"RD\x03\x00\x3c\x00\x00\x00\x00\x00\x00\x00",
     );
 }
 

@@ -56,4 +56,4 @@ module _ (f : ℕ) (start : ℕ → Kept) (capacity : ℕ → ℕ) (fresh : (i :
       ap answerIn (outcome-act (configAt f e) (x .table) (x .marks) (e .message) (rw c (k .taken)) ∙ ap (λ (y : Box). act (configAt f e) y (e .message)) (k .same))
 
   pub engine-safety : (faulty : ℕ → Bool) → count faulty (boxes f) ≤ f → (es : List Event) → Own capacity es → Fair f faulty es → EngineSafe f faulty capacity start es
-  engine-safety faulty few es own fair = record { alike = alike es own; safe = safety f faulty few es fair }
+  engine-safety faulty few es own fair = record { alike = alike es own; held = λ (i : ℕ). tracks i es own .same; safe = safety f faulty few es fair }

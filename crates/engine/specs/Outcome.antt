@@ -14,7 +14,7 @@ use Rattle.rules.specs.declared.Answer.the-variants.{Voted, Decided, Logged, Do
 use Rattle.rules.specs.Bodies.{Body, stampOf}
 use Rattle.rules.specs.Table.{Box, Config}
 use Rattle.rules.specs.Calls.{Act, guarded, prRule, lgRule, dcRule, rdRule}
-use Rattle.rules.specs.Act.{configWrong, bodyOf, listOf, rule}
+use Rattle.rules.specs.Act.{configWrong, bodyOf, listOf, rule, answerIn, marksBy}
 use Rattle.table.specs.Table.{entriesOf, tableWrong, place, stored, rowLen}
 use Rattle.steps.specs.declared.Step.{Step}
 use Rattle.steps.specs.declared.Step.the-variants.{Keep, Store}
@@ -76,6 +76,16 @@ stepIn t b a = stepBy (place (stampOf b) (entriesOf t)) a
 -- the table afterwards
 unfoldable pub tableBy : List ℕ → List ℕ → Act → List ℕ
 tableBy t m a = tableOf t (bodyOf m) (stepIn t (bodyOf m) a)
+
+-- ---- what a call leaves of what it was lent, where its act is a: the answer, and the table or the read marks or both afterwards
+abbrev pub LeavesTable : Act → List ℕ → List ℕ → Answer → List ℕ → Type 0
+LeavesTable a t m r t' = (r ≡ answerIn a) × (t' ≡ tableBy t m a)
+
+abbrev pub LeavesMarks : Act → List ℕ → List ℕ → Answer → List ℕ → Type 0
+LeavesMarks a marks m r marks' = (r ≡ answerIn a) × (marks' ≡ marksBy marks m (answerIn a))
+
+abbrev pub LeavesBoth : Act → List ℕ → List ℕ → List ℕ → Answer → List ℕ → List ℕ → Type 0
+LeavesBoth a t marks m r t' marks' = (r ≡ answerIn a) × (t' ≡ tableBy t m a) × (marks' ≡ marksBy marks m (answerIn a))
 
 -- ---- inside
 -- whether a message was read

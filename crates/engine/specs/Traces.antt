@@ -9,9 +9,9 @@ use Rattle.terms.specs.Choice.{pick}
 use Rattle.rules.specs.declared.Answer.{Answer}
 use Rattle.rules.specs.Table.{Config}
 use Rattle.rules.specs.Act.{answerIn, marksBy}
-use Rattle.rules.specs.System.{Event, configAt, answerTo, Safe}
+use Rattle.rules.specs.System.{Event, configAt, boxAt, answerTo, Safe}
 use Rattle.table.specs.Table.{tableWrong, countOf}
-use Rattle.engine.specs.Outcome.{outcome, tableBy}
+use Rattle.engine.specs.Outcome.{boxIn, outcome, tableBy}
 
 -- what a box's owner keeps for it: the bytes of its table, and its read marks
 pub record Kept : Type 0 where
@@ -46,7 +46,8 @@ unfoldable pub Own : (ℕ → ℕ) → List Event → Type 0
 Own capacity [] = Unit {0}
 Own capacity (e ∷ es) = (e .capacity ≡ capacity (e .box)) × Own capacity es
 
--- the entry points answer as the rules do, and the rules are safe
+-- the entry points answer as the rules do, what is kept for each box is what the rules hold, and the rules are safe
 pub record EngineSafe (f : ℕ) (faulty : ℕ → Bool) (capacity : ℕ → ℕ) (start : ℕ → Kept) (es : List Event) : Type 0 where
   pub alike : (e : Event) → e .capacity ≡ capacity (e .box) → answered f start e es ≡ answerTo f e es
+  pub held : (i : ℕ) → boxIn (keptAt f start i es .table) (keptAt f start i es .marks) ≡ boxAt f i es
   pub safe : Safe f faulty es

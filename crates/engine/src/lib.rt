@@ -1,16 +1,11 @@
 // The entry points of a box: prepare, log, decide, read, and one for any of the four. Each is 14, 16, a reading, then one act of the rules.
 ghost use mathlib.Core.Path.{_≡_};
-ghost use mathlib.Core.List.{[]};
-ghost use Prim.Native.Nat.{ℕ, _+_, _*_, _<_, _≤_};
-ghost use lib.ListN.{length};
-ghost use lib.Dec.{ltb};
-ghost use Rattle.terms.specs.Checks.{orElse};
+ghost use Prim.Native.Nat.{_≤_};
 ghost use Rattle.records.specs.Cutting.{txPart};
 ghost use Rattle.rules.specs.Act.{configWrong, bodyOf, answerIn, marksBy, raise};
 ghost use Rattle.steps.specs.Step.{config, configIn};
-ghost use Rattle.engine.specs.Outcome.{lentWrong, prLent, lgLent, dcLent, rdLent, prOutcome, lgOutcome, dcOutcome, rdOutcome, outcome, answerOf, tableOf, stepIn, tableBy, verdictOf, Ready, RdReady};
+ghost use Rattle.engine.specs.Outcome.{lentWrong, prLent, lgLent, dcLent, rdLent, prOutcome, lgOutcome, dcOutcome, rdOutcome, outcome, answerOf, tableOf, stepIn, LeavesTable, LeavesMarks, LeavesBoth, verdictOf, Ready, RdReady};
 use records::Found;
-use records::Reading;
 use rules::Answer;
 use steps::Step;
 use steps::Told;
@@ -211,7 +206,7 @@ pub fn prepare(
     delta: u64,
     message: &[u8],
 ) -> Answer
-    ensures { λ r. ⌜ (r ≡ answerIn (prOutcome (config f capacity clock delta) (now (table .entry)) (now (marks .entry)) (now (message .entry)))) × (now (table .exit) ≡ tableBy (now (table .entry)) (now (message .entry)) (prOutcome (config f capacity clock delta) (now (table .entry)) (now (marks .entry)) (now (message .entry)))) ⌝ }
+    ensures { λ r. ⌜ LeavesTable (prOutcome (config f capacity clock delta) (now (table .entry)) (now (marks .entry)) (now (message .entry))) (now (table .entry)) (now (message .entry)) r (now (table .exit)) ⌝ }
 {
     let wrong = lent_wrong(table, f, capacity);
     if wrong != 0 {
@@ -231,7 +226,7 @@ pub fn log(
     delta: u64,
     message: &[u8],
 ) -> Answer
-    ensures { λ r. ⌜ (r ≡ answerIn (lgOutcome (config f capacity clock delta) (now (table .entry)) (now (message .entry)))) × (now (table .exit) ≡ tableBy (now (table .entry)) (now (message .entry)) (lgOutcome (config f capacity clock delta) (now (table .entry)) (now (message .entry)))) ⌝ }
+    ensures { λ r. ⌜ LeavesTable (lgOutcome (config f capacity clock delta) (now (table .entry)) (now (message .entry))) (now (table .entry)) (now (message .entry)) r (now (table .exit)) ⌝ }
 {
     let wrong = lent_wrong(table, f, capacity);
     if wrong != 0 {
@@ -251,7 +246,7 @@ pub fn decide(
     delta: u64,
     message: &[u8],
 ) -> Answer
-    ensures { λ r. ⌜ (r ≡ answerIn (dcOutcome (config f capacity clock delta) (now (table .entry)) (now (message .entry)))) × (now (table .exit) ≡ tableBy (now (table .entry)) (now (message .entry)) (dcOutcome (config f capacity clock delta) (now (table .entry)) (now (message .entry)))) ⌝ }
+    ensures { λ r. ⌜ LeavesTable (dcOutcome (config f capacity clock delta) (now (table .entry)) (now (message .entry))) (now (table .entry)) (now (message .entry)) r (now (table .exit)) ⌝ }
 {
     let wrong = lent_wrong(table, f, capacity);
     if wrong != 0 {
@@ -272,7 +267,7 @@ pub fn read(
     delta: u64,
     message: &[u8],
 ) -> Answer
-    ensures { λ r. ⌜ (r ≡ answerIn (rdOutcome (config f capacity clock delta) (now (table .entry)) (now (message .entry)))) × (now (marks .exit) ≡ marksBy (now (marks .entry)) (now (message .entry)) (answerIn (rdOutcome (config f capacity clock delta) (now (table .entry)) (now (message .entry))))) ⌝ }
+    ensures { λ r. ⌜ LeavesMarks (rdOutcome (config f capacity clock delta) (now (table .entry)) (now (message .entry))) (now (marks .entry)) (now (message .entry)) r (now (marks .exit)) ⌝ }
 {
     let wrong = lent_wrong(table, f, capacity);
     if wrong != 0 {
@@ -294,7 +289,7 @@ pub fn receive(
     delta: u64,
     message: &[u8],
 ) -> Answer
-    ensures { λ r. ⌜ (r ≡ answerIn (outcome (config f capacity clock delta) (now (table .entry)) (now (marks .entry)) (now (message .entry)))) × (now (table .exit) ≡ tableBy (now (table .entry)) (now (message .entry)) (outcome (config f capacity clock delta) (now (table .entry)) (now (marks .entry)) (now (message .entry)))) × (now (marks .exit) ≡ marksBy (now (marks .entry)) (now (message .entry)) (answerIn (outcome (config f capacity clock delta) (now (table .entry)) (now (marks .entry)) (now (message .entry))))) ⌝ }
+    ensures { λ r. ⌜ LeavesBoth (outcome (config f capacity clock delta) (now (table .entry)) (now (marks .entry)) (now (message .entry))) (now (table .entry)) (now (marks .entry)) (now (message .entry)) r (now (table .exit)) (now (marks .exit)) ⌝ }
 {
     let wrong = lent_wrong(table, f, capacity);
     if wrong != 0 {

@@ -1,11 +1,9 @@
 // The bench's work: from the bytes of its records to the lines of their answers, in a lent buffer.
 ghost use mathlib.Core.Path.{_≡_};
-ghost use mathlib.Core.List.{_++_};
-ghost use Prim.Native.Nat.{_+_, _*_, _≤_};
-ghost use lib.ListN.{length, drop, getD};
+ghost use Prim.Native.Nat.{_≤_};
+ghost use lib.ListN.{length, getD};
 ghost use Rattle.terms.specs.Checks.{ifLess, short};
 ghost use Rattle.records.specs.Writing.{wroteBy, bufferBy};
-ghost use Rattle.records.specs.Numbers.{numAt};
 ghost use Rattle.steps.specs.Step.{config};
 ghost use Rattle.replay.specs.Bench.{gpRefusal, recordCut, recordLen, ckLen, clockNext, stopsAt, answerStops, stops, restText, runText, benchText, roomWrong, room, longest, wroteIn};
 ghost use Rattle.lines.specs.Lines.{Puts};
@@ -218,7 +216,7 @@ fn run(input: &[u8], out: &mut [u8]) -> usize
     requires { ⌜ (gpRefusal (now input) ≡ 0) × (length (now input) ≤ longest) × (room ≤ length (now out)) ⌝ }
     ensures { λ r. ⌜ Puts (now (out .entry)) 0 (runText (now (input .entry))) room (now (out .exit)) r ⌝ }
 {
-    let mut table = [0u8; 44881];
+    let mut table = [0u8; 44881]; // a count and 255 rows of 176
     let mut marks = [0u64; 512];
     let first = lines::put_line(out, 0, 0, input, Said::Taken);
     rest(&mut table, &mut marks, input, out, first)
