@@ -1,4 +1,4 @@
-//! The C interface as include/stobbarel.h declares it.
+//! The C interface as include/stobbarel.h declares it, but for `stobbarel_reading`: `stobbarel_fields` answers the same number.
 
 extern "C" {
     pub fn stobbarel_receive(table: *mut u8, table_len: usize, marks: *mut u64, f: u64, capacity: u64, clock: u64, delta: u64, message: *const u8, message_len: usize, answer: *mut u64);

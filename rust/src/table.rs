@@ -77,7 +77,8 @@ impl Table {
         Ok(Table { group, capacity, bytes: vec![0; 1 + ROW * capacity as usize], marks: Box::new([0; KEYS]) })
     }
 
-    /// A table as it was kept. Any bytes may be given: each call refuses a table that is not in order ([`Refusal::Table`]).
+    /// A table as it was kept. Any bytes may be given: each call refuses a table that is not in order ([`Refusal::Table`]), and a
+    /// capacity that is not 1 to 255 ([`Refusal::Group`]).
     pub fn kept(group: Group, capacity: u64, bytes: Vec<u8>, marks: [u64; KEYS]) -> Table {
         Table { group, capacity, bytes, marks: Box::new(marks) }
     }

@@ -23,29 +23,10 @@ pub struct Run {
 impl Run {
     pub fn new(random: &mut Random) -> Run {
         let spread = random.between(3, 40);
-        let base = match random.below(8) {
-            0 => u64::MAX - spread,
-            1 => (1 << 63) - spread / 2,
-            2 => 250 - spread / 2,
-            3 => random.between(1, u64::MAX - 2 * spread - 1),
-            _ => random.between(1, 100),
-        };
-        let capacity = match random.below(20) {
-            0 => 255,
-            1 => random.between(41, 255),
-            2..=6 => random.between(1, 4),
-            7..=13 => random.between(3, 10),
-            _ => random.between(8, 40),
-        };
-        let length = 1 + capacity as usize * 176 + if random.chance(10) { random.below(400) as usize } else { 0 };
-        let mut table: Vec<u8> = (0..length).map(|_| if random.chance(10) { random.next() as u8 } else { 0 }).collect();
-        table[0] = 0;
-        let mut keys: Vec<u16> = (0..random.between(1, 10)).map(|_| random.below(512) as u16).collect();
-        if random.chance(30) {
-            keys.extend([0, 511]);
-        }
-        keys.sort_unstable();
-        keys.dedup();
+        let base = lowest_stamp(random, spread);
+        let capacity = capacity(random);
+        let table = empty_table(random, capacity);
+        let keys = keys(random);
         let marked = random.chance(15);
         let marks = (0..512).map(|_| if marked { base.saturating_add(random.below(spread)) } else { 0 }).collect();
         let settings = Settings { f: random.between(1, 5), capacity, clock: 0, delta: 0 };
@@ -53,12 +34,7 @@ impl Run {
         let damage = random.one_of(&[0, 5, 15, 60]);
         let lent = random.one_of(&[0, 0, 0, 4, 30]);
         let mut run = Run { settings, table, marks, keys, base, spread, bodies: Vec::new(), damage, lent, left };
-        run.settings.delta = match random.below(6) {
-            0 => 0,
-            1 => u64::MAX - random.below(3),
-            2 => random.next(),
-            _ => random.below(run.spread),
-        };
+        run.settings.delta = delta(random, spread);
         run.turn_clock(random);
         run
     }
@@ -168,42 +144,19 @@ impl Run {
     /// A list that meets its threshold, or misses it by one.
     fn list(&self, random: &mut Random, log: bool) -> Vec<u8> {
         let f = if (1..=5).contains(&self.settings.f) { self.settings.f } else { 1 };
-        let row = THRESHOLDS[f as usize - 1];
-        let boxes = 5 * f;
+        let boxes = 5 * f + 1;
         let kind = if log || random.chance(60) { 1 } else { 2 };
         let decision = random.one_of(&[Decision::Commit, Decision::Commit, Decision::Abort]);
-        let needed = match (log, kind, decision) {
-            (true, _, Decision::Commit) => row[0],
-            (true, _, Decision::Abort) => row[1],
-            (false, 2, _) => row[4],
-            (false, _, Decision::Commit) => row[2],
-            (false, _, Decision::Abort) => row[3],
-        } as u64;
+        let needed = threshold(f, log, kind, decision);
         let counted = match random.below(10) {
             0 | 1 => needed - 1,
-            2 => (needed + 1).min(boxes + 1),
-            3 => random.between(1, boxes + 1),
+            2 => (needed + 1).min(boxes),
+            3 => random.between(1, boxes),
             _ => needed,
         };
-        let mut numbers: Vec<u8> = (0..=boxes as u8).collect();
-        let mut chosen = Vec::new();
-        for _ in 0..counted {
-            chosen.push(numbers.remove(random.below(numbers.len() as u64) as usize));
-        }
-        let code = |d| if d == Decision::Commit { 1u8 } else { 2 };
-        let mut pairs: Vec<(u8, u8)> = chosen.into_iter().map(|number| (number, code(decision))).collect();
-        if random.chance(40) {
-            for number in numbers {
-                if random.chance(50) {
-                    pairs.push((number, 3 - code(decision)));
-                }
-            }
-        }
-        if pairs.is_empty() {
-            pairs.push((0, code(decision)));
-        }
-        pairs.sort_unstable();
-        let mut bytes = vec![b'V', b'L', kind, code(decision), pairs.len() as u8];
+        let decided = if decision == Decision::Commit { 1 } else { 2 };
+        let pairs = pairs(random, boxes, counted, decided);
+        let mut bytes = vec![b'V', b'L', kind, decided, pairs.len() as u8];
         for (number, answer) in pairs {
             bytes.extend([number, answer]);
         }
@@ -264,109 +217,35 @@ impl Run {
 
     /// One place of a message set wrong.
     fn spoil(&self, random: &mut Random, m: &mut Vec<u8>) {
-        let put = |m: &mut Vec<u8>, at: usize, bytes: &[u8]| {
-            for (i, byte) in bytes.iter().enumerate() {
-                if at + i < m.len() {
-                    m[at + i] = *byte;
-                }
-            }
-        };
-        let n = (5 * self.settings.f.clamp(1, 5) + 1) as u8;
-        let of = |m: &Vec<u8>, at: usize| m.get(at).copied().unwrap_or(0) as usize;
         if m.starts_with(b"RD") {
-            match random.below(4) {
-                0 => put(m, 4, &[0; 8]),
-                1 => {
-                    let key = random.one_of(&[512u16, 513, 767, 65535]);
-                    put(m, 2, &key.to_le_bytes())
-                }
-                2 => put(m, 4, &(u64::MAX - random.below(4)).to_le_bytes()),
-                _ => self.spoil_raw(random, m),
-            }
-            return;
+            return spoil_read(random, m);
         }
-        let (r, w) = (of(m, 4).min(8), of(m, 5).min(8));
-        let pairs = (r + w) as u64;
-        let list = 14 + 10 * (r + w);
-        let listed = of(m, list + 4).min(26) as u64;
-        let pair = 14 + 10 * random.below(pairs) as usize;
-        let at = list + 5 + 2 * random.below(listed) as usize;
+        let parts = Parts::of(m);
+        let pair = parts.some_pair(random);
+        let place = parts.some_listed(random);
         match random.below(20) {
-            0 => put(m, 6, &[0; 8]),
-            1 => {
-                let key = random.one_of(&[512u16, 513, 1023, 65535]);
-                put(m, pair, &key.to_le_bytes())
-            }
-            2 if pairs > 1 => {
-                let other = 14 + 10 * random.below(pairs) as usize;
-                let key = [of(m, other) as u8, of(m, other + 1) as u8];
-                put(m, pair, &key)
-            }
-            3 => put(m, pair, &[0, 0]),
-            4 | 5 if r > 0 => {
-                let stamp: Vec<u8> = m.iter().skip(6).take(8).copied().collect();
-                let read = 14 + 10 * random.below(r as u64) as usize;
-                put(m, read + 2, &stamp);
-                if random.chance(30) {
-                    put(m, read + 2, &u64::MAX.to_le_bytes());
-                }
-            }
-            6 => put(m, 4, &[random.one_of(&[0, 8, 9, 255])]),
-            7 => put(m, 5, &[random.one_of(&[0, 8, 9, 255])]),
-            8 => put(m, 4, &[0, 0]),
-            9 => put(m, list + 2, &[random.one_of(&[0, 2, 3, 255])]),
-            10 => put(m, list + 3, &[random.one_of(&[0, 3, 255])]),
-            11 => put(m, list + 4, &[random.one_of(&[0, 26, 27, 255])]),
-            12 => put(m, at + 1, &[random.one_of(&[0, 3, 255])]),
-            13 => put(m, at, &[random.one_of(&[n, n - 1, n.wrapping_add(1), 26, 255])]),
-            14 | 15 if listed > 1 => {
-                let other = list + 5 + 2 * random.below(listed) as usize;
-                let number = of(m, other) as u8;
-                put(m, at, &[number])
-            }
-            16 => {
-                let mark = random.one_of(&[b"PR", b"LG", b"DC", b"RD", b"TX", b"VL", b"GP", b"pr"]);
-                put(m, 0, mark)
-            }
-            17 => {
-                let mark = random.one_of(&[b"VL", b"TY", b"tx"]);
-                put(m, 2, mark)
-            }
-            18 => {
-                let mark = random.one_of(&[b"TX", b"VM", b"vl"]);
-                put(m, list, mark)
-            }
-            _ => self.spoil_raw(random, m),
+            choice @ 0..=5 => spoil_contents(random, m, &parts, pair, choice),
+            choice @ 6..=8 => spoil_counts(random, m, choice),
+            choice @ 9..=15 => self.spoil_list(random, m, &parts, place, choice),
+            choice @ 16..=18 => spoil_mark(random, m, &parts, choice),
+            _ => spoil_raw(random, m),
         }
     }
 
-    /// Cut, flipped or lengthened anywhere.
-    fn spoil_raw(&self, random: &mut Random, m: &mut Vec<u8>) {
-        match random.below(5) {
-            0 => m.truncate(random.below(m.len() as u64 + 1) as usize),
-            3 => {
-                // cut at or beside the end of a mark, of the counts, or of a part
-                let list = m.len().min(14 + 10 * (m.get(4).copied().unwrap_or(0).min(8) + m.get(5).copied().unwrap_or(0).min(8)) as usize);
-                let length = if random.chance(50) { random.below(7) as usize } else { list.saturating_sub(1) + random.below(8) as usize };
-                if m.len() > 4 && random.chance(50) {
-                    m[4] = random.one_of(&[0, 9, 255]);
-                }
-                m.truncate(length);
+    /// Kind, decision or count of the list, or box number or answer at `place` in it.
+    fn spoil_list(&self, random: &mut Random, m: &mut Vec<u8>, parts: &Parts, place: usize, choice: u64) {
+        let n = (5 * self.settings.f.clamp(1, 5) + 1) as u8;
+        match choice {
+            9 => put(m, parts.list + 2, &[random.one_of(&[0, 2, 3, 255])]),
+            10 => put(m, parts.list + 3, &[random.one_of(&[0, 3, 255])]),
+            11 => put(m, parts.list + 4, &[random.one_of(&[0, 26, 27, 255])]),
+            12 => put(m, place + 1, &[random.one_of(&[0, 3, 255])]),
+            13 => put(m, place, &[random.one_of(&[n, n - 1, n.wrapping_add(1), 26, 255])]),
+            _ if parts.listed > 1 => {
+                let number = byte(m, parts.some_listed(random));
+                put(m, place, &[number])
             }
-            1 if !m.is_empty() => {
-                let at = random.below(m.len() as u64) as usize;
-                m[at] ^= 1 << random.below(8);
-            }
-            2 if !m.is_empty() => {
-                let at = random.below(m.len() as u64) as usize;
-                m[at] = random.next() as u8;
-            }
-            _ => {
-                for _ in 0..random.between(1, 12) {
-                    let byte = random.one_of(&[0, 1, 2, b'V', b'T', 255]);
-                    m.push(byte);
-                }
-            }
+            _ => spoil_raw(random, m),
         }
     }
 
@@ -406,61 +285,13 @@ impl Run {
         if !random.chance(self.lent) {
             return;
         }
-        let entries = self.table[0] as u64;
         for _ in 0..random.between(1, 3) {
-            let row = 1 + 176 * random.below(entries.max(1)) as usize;
-            let other = 1 + 176 * random.below(entries.max(1)) as usize;
+            let row = self.some_row(random);
+            let other = self.some_row(random);
             match random.below(20) {
-                0 => self.table[row + 172] = random.below(4) as u8,
-                1 => {
-                    // an abort vote, where there is one on an entry that is waited for
-                    let held = self.held();
-                    let waited: Vec<u64> = held.iter().filter(|entry| entry.decision.is_none() && entry.vote == Vote::Waiting).flat_map(|entry| entry.body.reads.iter().map(|read| read.1)).collect();
-                    let row = held.iter().position(|entry| entry.decision.is_none() && waited.contains(&entry.body.stamp)).map_or(row, |place| 1 + 176 * place);
-                    self.table[row + 172] = 3;
-                    self.table[row + 173] = random.between(1, 6) as u8;
-                }
-                2 => {
-                    self.table[row + 172] = random.below(3) as u8;
-                    self.table[row + 173] = 0;
-                }
-                3 => self.table[row + 174] = random.below(3) as u8,
-                4 | 5 => self.table[row + 175] = random.below(3) as u8,
-                6 | 7 => {
-                    self.table[row + 172] = 0;
-                    self.table[row + 173] = 0;
-                    self.table[row + 175] = 0;
-                }
-                8 | 9 => {
-                    let stamp: Vec<u8> = self.table[other + 4..other + 12].to_vec();
-                    self.table[row + 4..row + 12].copy_from_slice(&stamp);
-                }
-                10 => self.table[row + 4..row + 12].copy_from_slice(&random.below(2).to_le_bytes()),
-                11 => {
-                    let key: Vec<u8> = self.table[row + 12..row + 14].to_vec();
-                    self.table[row + 22..row + 24].copy_from_slice(&key);
-                }
-                12 => {
-                    let from: Vec<u8> = self.table[other..other + 176].to_vec();
-                    self.table[row..row + 176].copy_from_slice(&from);
-                }
-                13 => {
-                    let at = random.below(176) as usize;
-                    self.table[row + at] = random.next() as u8;
-                }
-                14 => {
-                    let at = random.one_of(&[2usize, 3]);
-                    self.table[row + at] = random.below(9) as u8;
-                }
-                15..=17 => {
-                    // one stamp twice: the first without a vote, the second live
-                    let (first, second) = (row.min(other), row.max(other));
-                    let stamp: Vec<u8> = self.table[first + 4..first + 12].to_vec();
-                    self.table[second + 4..second + 12].copy_from_slice(&stamp);
-                    self.table[second + 172..second + 176].copy_from_slice(&[random.between(1, 2) as u8, 0, 0, random.below(2) as u8]);
-                    self.table[first + 172..first + 174].copy_from_slice(&[0, 0]);
-                    self.table[first + 175] = 0;
-                }
+                choice @ 0..=7 => self.disturb_codes(random, row, choice),
+                choice @ 8..=14 => self.disturb_body(random, row, other, choice),
+                15..=17 => self.hold_twice(random, row.min(other), row.max(other)),
                 _ => {
                     let key = random.one_of(&self.keys);
                     self.marks[key as usize] = self.stamp(random);
@@ -469,14 +300,77 @@ impl Run {
         }
     }
 
+    /// Where one of the entries begins.
+    fn some_row(&self, random: &mut Random) -> usize {
+        let entries = self.table[0] as u64;
+        1 + 176 * random.below(entries.max(1)) as usize
+    }
+
+    /// Vote, reason, log or decision of the entry at `row`.
+    fn disturb_codes(&mut self, random: &mut Random, row: usize, choice: u64) {
+        match choice {
+            0 => self.table[row + 172] = random.below(4) as u8,
+            1 => {
+                let row = self.waited_for().unwrap_or(row);
+                self.table[row + 172] = 3;
+                self.table[row + 173] = random.between(1, 6) as u8;
+            }
+            2 => {
+                self.table[row + 172] = random.below(3) as u8;
+                self.table[row + 173] = 0;
+            }
+            3 => self.table[row + 174] = random.below(3) as u8,
+            4 | 5 => self.table[row + 175] = random.below(3) as u8,
+            _ => {
+                self.table[row + 172] = 0;
+                self.table[row + 173] = 0;
+                self.table[row + 175] = 0;
+            }
+        }
+    }
+
+    /// Where the first undecided entry begins that another waits for: an abort vote is to be met there.
+    fn waited_for(&self) -> Option<usize> {
+        let held = self.held();
+        let waiting = held.iter().filter(|entry| entry.decision.is_none() && entry.vote == Vote::Waiting);
+        let versions: Vec<u64> = waiting.flat_map(|entry| entry.body.reads.iter().map(|read| read.1)).collect();
+        let place = held.iter().position(|entry| entry.decision.is_none() && versions.contains(&entry.body.stamp))?;
+        Some(1 + 176 * place)
+    }
+
+    /// Stamp, keys, counts or any byte of the entry at `row`, or all of it, at times as they are at `other`.
+    fn disturb_body(&mut self, random: &mut Random, row: usize, other: usize, choice: u64) {
+        match choice {
+            8 | 9 => self.table.copy_within(other + 4..other + 12, row + 4),
+            10 => self.table[row + 4..row + 12].copy_from_slice(&random.below(2).to_le_bytes()),
+            11 => self.table.copy_within(row + 12..row + 14, row + 22),
+            12 => self.table.copy_within(other..other + 176, row),
+            13 => {
+                let at = random.below(176) as usize;
+                self.table[row + at] = random.next() as u8;
+            }
+            _ => {
+                let at = random.one_of(&[2usize, 3]);
+                self.table[row + at] = random.below(9) as u8;
+            }
+        }
+    }
+
+    /// One stamp twice: the first without a vote, the second live.
+    fn hold_twice(&mut self, random: &mut Random, first: usize, second: usize) {
+        self.table.copy_within(first + 4..first + 12, second + 4);
+        self.table[second + 172..second + 176].copy_from_slice(&[random.between(1, 2) as u8, 0, 0, random.below(2) as u8]);
+        self.table[first + 172..first + 174].copy_from_slice(&[0, 0]);
+        self.table[first + 175] = 0;
+    }
+
     /// Damage that is lent for one call only, most of it refused with 16.
     pub fn broken_table(&self, random: &mut Random) -> Option<Vec<u8>> {
         if !random.chance(2) {
             return None;
         }
         let mut table = self.table.clone();
-        let entries = table[0] as u64;
-        let row = 1 + 176 * random.below(entries.max(1)) as usize;
+        let row = self.some_row(random);
         match random.below(8) {
             0 => table[0] = random.one_of(&[self.settings.capacity as u8, (self.settings.capacity as u8).wrapping_add(1), 255]),
             1 => table[row + 2] = random.one_of(&[8, 9, 255]),
@@ -491,5 +385,226 @@ impl Run {
             }
         }
         Some(table)
+    }
+}
+
+// ---- a run at its start
+
+/// Mostly small, but also where stamps outgrow a byte, where their top bit is set, and where they end.
+fn lowest_stamp(random: &mut Random, spread: u64) -> u64 {
+    match random.below(8) {
+        0 => u64::MAX - spread,
+        1 => (1 << 63) - spread / 2,
+        2 => 250 - spread / 2,
+        3 => random.between(1, u64::MAX - 2 * spread - 1),
+        _ => random.between(1, 100),
+    }
+}
+
+/// Mostly small, so that tables fill up.
+fn capacity(random: &mut Random) -> u64 {
+    match random.below(20) {
+        0 => 255,
+        1 => random.between(41, 255),
+        2..=6 => random.between(1, 4),
+        7..=13 => random.between(3, 10),
+        _ => random.between(8, 40),
+    }
+}
+
+/// No entries; what lies behind the count need not be zero, nor the table end where the capacity does.
+fn empty_table(random: &mut Random, capacity: u64) -> Vec<u8> {
+    let length = 1 + capacity as usize * 176 + if random.chance(10) { random.below(400) as usize } else { 0 };
+    let mut table: Vec<u8> = (0..length).map(|_| if random.chance(10) { random.next() as u8 } else { 0 }).collect();
+    table[0] = 0;
+    table
+}
+
+/// Few, so that transactions meet at them.
+fn keys(random: &mut Random) -> Vec<u16> {
+    let mut keys: Vec<u16> = (0..random.between(1, 10)).map(|_| random.below(512) as u16).collect();
+    if random.chance(30) {
+        keys.extend([0, 511]);
+    }
+    keys.sort_unstable();
+    keys.dedup();
+    keys
+}
+
+/// Mostly within the spread of the stamps, so that test 1 goes both ways.
+fn delta(random: &mut Random, spread: u64) -> u64 {
+    match random.below(6) {
+        0 => 0,
+        1 => u64::MAX - random.below(3),
+        2 => random.next(),
+        _ => random.below(spread),
+    }
+}
+
+// ---- lists
+
+/// What a list needs: for logging, or else as a proof of its kind.
+fn threshold(f: u64, log: bool, kind: u8, decision: Decision) -> u64 {
+    let row = THRESHOLDS[f as usize - 1];
+    let needed = match (log, kind, decision) {
+        (true, _, Decision::Commit) => row[0],
+        (true, _, Decision::Abort) => row[1],
+        (false, 2, _) => row[4],
+        (false, _, Decision::Commit) => row[2],
+        (false, _, Decision::Abort) => row[3],
+    };
+    needed as u64
+}
+
+/// Box numbers, rising, with their answers: so many as decided, and at times others that are not counted.
+fn pairs(random: &mut Random, boxes: u64, counted: u64, decided: u8) -> Vec<(u8, u8)> {
+    let mut numbers: Vec<u8> = (0..boxes as u8).collect();
+    let mut pairs = Vec::new();
+    for _ in 0..counted {
+        let number = numbers.remove(random.below(numbers.len() as u64) as usize);
+        pairs.push((number, decided));
+    }
+    if random.chance(40) {
+        for number in numbers {
+            if random.chance(50) {
+                pairs.push((number, 3 - decided));
+            }
+        }
+    }
+    // a list has at least one pair
+    if pairs.is_empty() {
+        pairs.push((0, decided));
+    }
+    pairs.sort_unstable();
+    pairs
+}
+
+// ---- damage
+
+/// Where a PR, LG or DC has its parts, as far as its counts can be believed.
+struct Parts {
+    reads: u64,
+    /// Reads and writes together.
+    pairs: u64,
+    /// Where the list begins.
+    list: usize,
+    /// Pairs in the list.
+    listed: u64,
+}
+
+impl Parts {
+    fn of(m: &[u8]) -> Parts {
+        let [reads, writes] = [4, 5].map(|at| byte(m, at).min(8) as u64);
+        let pairs = reads + writes;
+        let list = 14 + 10 * pairs as usize;
+        Parts { reads, pairs, list, listed: byte(m, list + 4).min(26) as u64 }
+    }
+
+    /// Where one of the reads and writes begins.
+    fn some_pair(&self, random: &mut Random) -> usize {
+        14 + 10 * random.below(self.pairs) as usize
+    }
+
+    /// Where one of the reads begins.
+    fn some_read(&self, random: &mut Random) -> usize {
+        14 + 10 * random.below(self.reads) as usize
+    }
+
+    /// Where one of the list's pairs begins.
+    fn some_listed(&self, random: &mut Random) -> usize {
+        self.list + 5 + 2 * random.below(self.listed) as usize
+    }
+}
+
+/// 0 behind the end, since a message may have been cut before.
+fn byte(m: &[u8], at: usize) -> u8 {
+    m.get(at).copied().unwrap_or(0)
+}
+
+/// As far as the message goes.
+fn put(m: &mut [u8], at: usize, bytes: &[u8]) {
+    for (place, byte) in m.iter_mut().skip(at).zip(bytes) {
+        *place = *byte;
+    }
+}
+
+/// Key or stamp of an RD.
+fn spoil_read(random: &mut Random, m: &mut Vec<u8>) {
+    match random.below(4) {
+        0 => put(m, 4, &[0; 8]),
+        1 => put(m, 2, &random.one_of(&[512u16, 513, 767, 65535]).to_le_bytes()),
+        2 => put(m, 4, &(u64::MAX - random.below(4)).to_le_bytes()),
+        _ => spoil_raw(random, m),
+    }
+}
+
+/// The stamp, the key at `pair`, or the version of a read.
+fn spoil_contents(random: &mut Random, m: &mut Vec<u8>, parts: &Parts, pair: usize, choice: u64) {
+    match choice {
+        0 => put(m, 6, &[0; 8]),
+        1 => put(m, pair, &random.one_of(&[512u16, 513, 1023, 65535]).to_le_bytes()),
+        2 if parts.pairs > 1 => {
+            let other = parts.some_pair(random);
+            let key = [byte(m, other), byte(m, other + 1)];
+            put(m, pair, &key)
+        }
+        3 => put(m, pair, &[0, 0]),
+        4 | 5 if parts.reads > 0 => {
+            let stamp: Vec<u8> = m.iter().skip(6).take(8).copied().collect();
+            let read = parts.some_read(random);
+            put(m, read + 2, &stamp);
+            if random.chance(30) {
+                put(m, read + 2, &u64::MAX.to_le_bytes());
+            }
+        }
+        _ => spoil_raw(random, m),
+    }
+}
+
+/// How many reads and writes there are.
+fn spoil_counts(random: &mut Random, m: &mut [u8], choice: u64) {
+    match choice {
+        6 => put(m, 4, &[random.one_of(&[0, 8, 9, 255])]),
+        7 => put(m, 5, &[random.one_of(&[0, 8, 9, 255])]),
+        _ => put(m, 4, &[0, 0]),
+    }
+}
+
+/// The mark of the message, of its transaction or of its list.
+fn spoil_mark(random: &mut Random, m: &mut [u8], parts: &Parts, choice: u64) {
+    match choice {
+        16 => put(m, 0, random.one_of(&[b"PR", b"LG", b"DC", b"RD", b"TX", b"VL", b"GP", b"pr"])),
+        17 => put(m, 2, random.one_of(&[b"VL", b"TY", b"tx"])),
+        _ => put(m, parts.list, random.one_of(&[b"TX", b"VM", b"vl"])),
+    }
+}
+
+/// Cut, flipped or lengthened anywhere.
+fn spoil_raw(random: &mut Random, m: &mut Vec<u8>) {
+    match random.below(5) {
+        0 => m.truncate(random.below(m.len() as u64 + 1) as usize),
+        3 => {
+            // cut at or beside the end of a mark, of the counts, or of a part
+            let list = m.len().min(Parts::of(m).list);
+            let length = if random.chance(50) { random.below(7) as usize } else { list.saturating_sub(1) + random.below(8) as usize };
+            if m.len() > 4 && random.chance(50) {
+                m[4] = random.one_of(&[0, 9, 255]);
+            }
+            m.truncate(length);
+        }
+        1 if !m.is_empty() => {
+            let at = random.below(m.len() as u64) as usize;
+            m[at] ^= 1 << random.below(8);
+        }
+        2 if !m.is_empty() => {
+            let at = random.below(m.len() as u64) as usize;
+            m[at] = random.next() as u8;
+        }
+        _ => {
+            for _ in 0..random.between(1, 12) {
+                let byte = random.one_of(&[0, 1, 2, b'V', b'T', 255]);
+                m.push(byte);
+            }
+        }
     }
 }
