@@ -14,7 +14,7 @@ use Rattle.rules.specs.Act.{act, after, boxAfter, answerIn, marksBy, tableAfter
 use Rattle.rules.specs.System.{Event, configAt, boxAt, answerTo, count, Fair, Safe}
 use Rattle.rules.proofs.Safety.{safety}
 use Rattle.table.specs.Table.{entriesOf, tableWrong, countOf}
-use Rattle.engine.specs.Outcome.{boxIn, outcome, tableBy}
+use Rattle.engine.specs.Outcome.{boxIn, outcome, tableBy, LeavesBoth}
 use Rattle.engine.specs.Traces.{Kept, leaves, keptAt, answered, Empty, Own, EngineSafe}
 use Rattle.engine.proofs.Bridge.{bridged, act-stores, outcome-act}
 
@@ -34,6 +34,12 @@ tracked cf x y m k =
       taken = rw o (b .1);
       same = rw (o, ← k .same) (ap (λ (es : _). record { table = es; marks = marksBy marks m (answerIn (act cf (boxIn t marks) m)) }) (b .0));
     }
+
+-- what the contract of `receive` says is left is the step that a trace takes
+pub left-kept : (cf : Config) (x : Kept) (m : List ℕ) (r : Answer) (t marks : List ℕ) → LeavesBoth (outcome cf (x .table) (x .marks) m) (x .table) (x .marks) m r t marks
+    → _≡_ {A = Kept} (record { table = t; marks = marks }) (leaves cf x m)
+unfolding leaves
+left-kept cf x m r t marks h = rw (h .1, h .2)
 
 module _ (f : ℕ) (start : ℕ → Kept) (capacity : ℕ → ℕ) (fresh : (i : ℕ) → Empty (capacity i) (start i)) where
   tracks : (i : ℕ) (es : List Event) → Own capacity es → Tracks (capacity i) (keptAt f start i es) (boxAt f i es)

@@ -1,10 +1,10 @@
 -- Text put down at a place, and more text put down behind it.
 use Prim.Native.Nat.{ℕ, suc, _+_, _-_, _≤_, _<_}
 use native.Mathlib.Omega.{arith}
-use native.Mathlib.Nat.{le-refl}
+use native.Mathlib.Nat.{le-refl, add-zero}
 use mathlib.Core.Path.{_≡_, refl, ap, sym, _∙_}
-use mathlib.Core.List.{List, _++_, append-assoc}
-use lib.ListN.{length, take, drop, set, getD, length-append, length-drop}
+use mathlib.Core.List.{List, [], _++_, append-assoc}
+use lib.ListN.{length, take, drop, set, getD, length-append, length-drop, take-append-drop}
 use lib.Seq.{length-take-le, take-at, drop-at, drop-drop, take-all, paste, paste-zero, paste-suc, length-paste}
 use Rattle.lines.specs.Lines.{putAt, Puts}
 
@@ -40,6 +40,13 @@ module _ (o : List ℕ) (at : ℕ) (p : List ℕ) (h : at + length p ≤ length 
       ∙ append-assoc (take at o) p (q ++ drop (at + length (p ++ q)) o)
       ∙ ap (λ (x : List ℕ). take at o ++ x) (sym (append-assoc p q (drop (at + length (p ++ q)) o)))
 
+pub puts-none : (o : List ℕ) (at m : ℕ) → at ≤ length o → Puts o at [] m o at
+unfolding putAt
+puts-none o at m h = record { place = omega arith; written = rw add-zero (sym (take-append-drop at o)); short = omega arith }
+
+pub puts-same : {o t e : List ℕ} {at b m : ℕ} → Puts o at t m e b → at + m ≤ length o → length e ≡ length o
+puts-same {o} {t} {e} {at} x h = let s = x .short in ap length (x .written) ∙ put-long o at t (omega arith)
+
 -- text behind text, where both have room
 pub puts-both : {o p q e f : List ℕ} {at b c m n : ℕ} → Puts o at p m e b → Puts e b q n f c → at + m ≤ length o → Puts o at (p ++ q) (m + n) f c
 puts-both {o} {p} {q} {e} {f} {at} {b} {c} x y h =
@@ -64,6 +71,10 @@ puts-as h x w = rw (← h) (puts-within x w)
 
 pub puts-text : {o t e : List ℕ} {at b n : ℕ} → (b ≡ at + length t) × (e ≡ putAt o at t) → length t ≤ n → Puts o at t n e b
 puts-text x h = record { place = x .0; written = x .1; short = h }
+
+-- what put_line tells
+pub line-put : {o t e : List ℕ} {at b : ℕ} → (b ≡ at + length t) × (e ≡ putAt o at t) × (length t ≤ 112) → Puts o at t 112 e b
+line-put x = record { place = x .0; written = x .1; short = x .2 }
 
 -- ---- put_text's loop: the first i bytes are put down
 pub record Copied (o : List ℕ) (at : ℕ) (t e : List ℕ) (i : ℕ) : Type 0 where

@@ -140,3 +140,17 @@ module _ (s : List ℕ) (z : recordCut s ≡ 0) where
                 let h : 12 ≤ length s = rd-long s _ refl (sym (by-rd s _ _ _ _ _ a b c p) ∙ chosen) in
                 sized rdLen _ refl (omega arith, omega arith) (by-rd s _ _ _ _ _ a b c p)
             by false p = absurd (let e : mark ≡ 0 = sym (by-other s _ _ _ _ _ a b c p) ∙ chosen in omega arith)
+
+  -- whichever it is
+  pub cut-sized : 10 ≤ recordLen s
+  cut-sized = by (isMark markCK s) refl (isMark markPR s) refl (isMark markLG s) refl (isMark markDC s) refl
+    where
+      of : (x : ℕ) → Sized s x → 10 ≤ recordLen s
+      of x h = let e = h .0 in let a = h .1 in omega arith
+
+      by : (k : Bool) → isMark markCK s ≡ k → (a : Bool) → isMark markPR s ≡ a → (b : Bool) → isMark markLG s ≡ b → (c : Bool) → isMark markDC s ≡ c → 10 ≤ recordLen s
+      by true p a q b u c v = of 10 (len-ck p)
+      by false p true q b u c v = of _ (len-pr p q _ refl)
+      by false p false q true u c v = of _ (len-lg p q u _ refl)
+      by false p false q false u true v = of _ (len-dc p q u v _ refl)
+      by false p false q false u false v = of _ (len-rd p q u v)

@@ -1,14 +1,13 @@
 -- The bench's run: what is put down, what is still to come, and what stands, at each turn.
 use Prim.Native.Nat.{ℕ, zero, suc, _+_, _-_, _*_, _≤_, _<_}
 use native.Mathlib.Omega.{arith}
-use native.Mathlib.Nat.{add-zero}
 use mathlib.Core.Bool.{Bool, true, false}
 use mathlib.Core.Path.{_≡_, refl, ap, sym, _∙_}
 use mathlib.Core.List.{List, [], _∷_, _++_, append-assoc, append-nil}
 use lib.Dec.{ltb}
-use lib.ListN.{length, getD, take, drop, replicate, length-drop, length-replicate, drop-of-length-le, take-append-drop}
+use lib.ListN.{length, getD, take, drop, replicate, length-drop, drop-of-length-le}
 use lib.Seq.{drop-drop, length-take-le}
-use borrow.Author.Tests.{lt-ltb}
+use borrow.Author.Tests.{lt-ltb, ltb-true, ltb-false}
 use Rattle.terms.specs.Choice.{pick}
 use Rattle.terms.specs.Checks.{orElse, ifLess}
 use Rattle.terms.specs.Refusals.{refusalOf}
@@ -23,13 +22,14 @@ use Rattle.steps.specs.Step.{config}
 use Rattle.engine.specs.Outcome.{boxIn}
 use Rattle.engine.specs.Traces.{Kept}
 use Rattle.engine.proofs.Traces.{Tracks}
+use Rattle.engine.proofs.Starts.{zeros-taken}
 use Rattle.lines.specs.declared.Said.{Said}
 use Rattle.lines.specs.declared.Said.the-variants.{Taken, Answered}
 use Rattle.lines.specs.Lines.{lineOf, putAt, Puts}
-use Rattle.lines.proofs.Putting.{puts-both, puts-as, put-long}
+use Rattle.lines.proofs.Putting.{puts-none, puts-same, puts-both, puts-as}
 use Rattle.replay.specs.Bench.{longest, gpLen, configOf, gpRefusal, recordCut, recordLen, front, said, boxNext, clockNext, stops, cutOr, linesFrom, restText, runText, room}
 use Rattle.replay.specs.Turn.{Fronted, kept, saidTo, keptNext}
-use Rattle.replay.proofs.Cuts.{yes, no, Sized}
+use Rattle.replay.proofs.Cuts.{yes, no, Sized, cut-sized}
 use Rattle.replay.proofs.Turns.{said-same, next-tracks}
 
 -- ---- the lines of the records that are left
@@ -46,6 +46,10 @@ lines-end : (n k : ℕ) (gp : List ℕ) (clock : ℕ) (x : Box) (s : List ℕ) �
 unfolding linesFrom
 lines-end zero k gp clock x s e = refl
 lines-end (suc n) k gp clock x s e = rw e
+
+no-bytes : (s : List ℕ) → length s ≤ 0 → s ≡ []
+no-bytes [] h = refl
+no-bytes (x ∷ s) h = absurd (omega arith)
 
 module _ (n k : ℕ) (gp : List ℕ) (clock : ℕ) (x : Box) (s : List ℕ) (h : 0 < length s) where
   abbrev cf : Config
@@ -68,16 +72,36 @@ module _ (n k : ℕ) (gp : List ℕ) (clock : ℕ) (x : Box) (s : List ℕ) (h :
         ≡ lineOf k s (said cf x (front s)) ++ linesFrom n (k + 1) gp (clockNext clock (front s)) (boxNext cf x (front s)) (drop (recordLen s) s)
     lines-go p = passed ∙ ap (λ (l : List ℕ). lineOf k s (said cf x (front s)) ++ l) (no _ _ _ p)
 
--- what put_line tells
-pub line-put : {o t e : List ℕ} {at b : ℕ} → (b ≡ at + length t) × (e ≡ putAt o at t) × (length t ≤ 112) → Puts o at t 112 e b
-line-put x = record { place = x .0; written = x .1; short = x .2 }
+-- no line is lost to the number of turns: as many turns as there are bytes are enough, and more change nothing
+pub enough : (n k : ℕ) (gp : List ℕ) (clock : ℕ) (x : Box) (s : List ℕ) → length s ≤ n → linesFrom n k gp clock x s ≡ linesFrom (suc n) k gp clock x s
+enough zero k gp clock x s h =
+    let e : s ≡ [] = no-bytes s h in
+    lines-end zero k gp clock x s e ∙ sym (lines-end 1 k gp clock x s e)
+enough (suc n) k gp clock x s h =
+    by (ltb 0 (length s)) refl (recordCut s) refl (stops (said (configOf gp clock) x (front s))) refl
+    (λ (l : length (drop (recordLen s) s) ≤ n). enough n (k + 1) gp (clockNext clock (front s)) (boxNext (configOf gp clock) x (front s)) (drop (recordLen s) s) l)
+  where
+    next : ℕ → List ℕ
+    next i = linesFrom i (k + 1) gp (clockNext clock (front s)) (boxNext (configOf gp clock) x (front s)) (drop (recordLen s) s)
 
-nothing-put : (o : List ℕ) (at m : ℕ) → at ≤ length o → Puts o at [] m o at
-unfolding putAt
-nothing-put o at m h = record { place = omega arith; written = rw add-zero (sym (take-append-drop at o)); short = omega arith }
-
-pub puts-same : {o t e : List ℕ} {at b m : ℕ} → Puts o at t m e b → at + m ≤ length o → length e ≡ length o
-puts-same {o} {t} {e} {at} x h = let s = x .short in ap length (x .written) ∙ put-long o at t (omega arith)
+    by : (some : Bool) → ltb 0 (length s) ≡ some → (c : ℕ) → recordCut s ≡ c → (halt : Bool) → stops (said (configOf gp clock) x (front s)) ≡ halt
+        → (length (drop (recordLen s) s) ≤ n → next n ≡ next (suc n)) → linesFrom (suc n) k gp clock x s ≡ linesFrom (suc (suc n)) k gp clock x s
+    by false p c q halt r more =
+        let e : s ≡ [] = no-bytes s (ltb-false 0 (length s) p) in
+        lines-end (suc n) k gp clock x s e ∙ sym (lines-end (suc (suc n)) k gp clock x s e)
+    by true p (suc c) q halt r more =
+        let z : recordCut s ≡ 0 → ⊥ = λ (u : recordCut s ≡ 0). (let e : suc c ≡ 0 = sym q ∙ u in omega arith) in
+        let l : 0 < length s = ltb-true 0 (length s) p in
+        lines-cut n k gp clock x s l z ∙ sym (lines-cut (suc n) k gp clock x s l z)
+    by true p zero q true r more = let l : 0 < length s = ltb-true 0 (length s) p in lines-stop n k gp clock x s l q r ∙ sym (lines-stop (suc n) k gp clock x s l q r)
+    by true p zero q false r more =
+        let l : 0 < length s = ltb-true 0 (length s) p in
+        let f = front s in
+        let d = length-drop (recordLen s) s in
+        let z = cut-sized s q in
+        lines-go n k gp clock x s l q r
+        ∙ ap (λ (t : List ℕ). lineOf k s (said (configOf gp clock) x f) ++ t) (more (omega arith))
+        ∙ sym (lines-go (suc n) k gp clock x s l q r)
 
 pub gp-long : (s : List ℕ) → gpRefusal s ≡ 0 → 12 ≤ length s
 unfolding gpRefusal
@@ -119,7 +143,7 @@ running-first {input} {out} {first} {table} {marks} h =
     let s = h .3 in
     record {
       done = [];
-      put = nothing-put out first _ (omega arith);
+      put = puts-none out first _ (omega arith);
       whole = rw (k, h .5);
       taken = h .4;
       counted = omega arith;
@@ -256,11 +280,6 @@ module _ {input out₀ : List ℕ} {first number at clock n : ℕ} {table marks 
             }
 
 -- ---- a table of zeros is empty, for each capacity that a GP may ask
-zeros-taken : (capacity n : ℕ) → capacity * rowLen ≤ n → tableWrong capacity (replicate (suc n) 0) ≡ 0
-unfolding tableWrong
-zeros-taken capacity n h =
-    sym (pass (less-no _ _ _ (omega (arith, length-replicate {A = ℕ} n 0))) (pass (less-no _ _ _ (omega arith)) (sym (when-no _ _ refl))))
-
 zeros-empty : (n : ℕ) → boxIn (replicate (suc n) 0) (replicate 512 0) ≡ empty
 unfolding boxIn empty entriesOf
 zeros-empty n = refl

@@ -99,7 +99,7 @@ linesFrom (suc n) k gp clock x s =
     (linesFrom n (k + 1) gp (clockNext clock (front s)) (boxNext (configOf gp clock) x (front s)) (drop (recordLen s) s))))
     []
 
--- behind a GP that is taken; no record is empty, so there are no more of them than bytes
+-- behind a GP that is taken; no record is empty, so as many turns as there are bytes are enough (proofs/Running, `enough`)
 unfoldable pub restText : List ℕ → List ℕ
 restText s = linesFrom (length s) 1 s 0 empty (drop gpLen s)
 

@@ -169,7 +169,7 @@ fn lower(a: u64, b: u64) -> u64
     b
 }
 
-// The lowest version read, or the stamp: no read is older.
+// The lowest version read, or the stamp: no read is older. A bound is all that test 3 needs: a lower one costs time, not an answer.
 fn lowest_read(b: &[u8]) -> u64
     requires { ⌜ TxThere (now b) ⌝ }
     ensures { λ r. ⌜ any (older r) (readsOf (now (b .entry))) ≡ false ⌝ }

@@ -34,15 +34,6 @@ pub any-false : {A : Type 0} (P : A → Bool) (f : ℕ → A) (s n : ℕ) → ((
 any-false P f s zero h = refl
 any-false P f s (suc n) h = rw (h s (omega arith) (omega arith)) (any-false P f (s + 1) n (λ j a b. h j (omega arith) (omega arith)))
 
--- two checks that are made as one
-pub stop-both : (a b c x : ℕ) → x ≡ orElse a b → (x ≡ 0 → ⊥) → x ≡ orElse a (orElse b c)
-unfolding orElse
-stop-both zero b c x e n = stop b c x e n
-stop-both (suc a) b c x e n = e
-
-pub pass-both : (a b c x : ℕ) → orElse a b ≡ 0 → x ≡ c → x ≡ orElse a (orElse b c)
-pass-both a b c x e p = pass (first-none a b e) (pass (rest-none a b e) p)
-
 -- vote and reason as one number of two bytes
 pub codes-fine : (r : List ℕ) (x : ℕ) → length r ≡ rowLen → x ≡ numAt 2 voteAt r → x < 3 → 0 ≡ voteWrong r
 unfolding numAt reasonWrong

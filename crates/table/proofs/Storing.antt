@@ -107,7 +107,7 @@ module _ (d b : List ℕ) (v r l x : ℕ) (ld : length d ≡ rowLen) (lb : lengt
   new-right hr hw hv hn hl hx =
       rw (reads-same, writes-same, vote-is, reason-is, log-is, decided-is)
       (sym
-      (pass (less-no _ _ _ hr) (pass (less-no _ _ _ hw) (pass (less-no _ _ _ hv) (pass hn (pass (less-no _ _ _ hl) (sym (less-no _ _ _ hx))))))))
+      (pass (less-no _ _ _ hr) (pass (less-no _ _ _ hw) (pass (sym (pass (less-no _ _ _ hv) (sym hn))) (pass (less-no _ _ _ hl) (sym (less-no _ _ _ hx)))))))
 
 -- ---- the table
 -- the row that is stored: a body and what is held beside it

@@ -130,9 +130,8 @@ unfoldable pub rowWrong : List ℕ → ℕ
 rowWrong r =
     orElse (ifLess 8 (rCount r) table)
     (orElse (ifLess 8 (wCount r) table)
-    (orElse (ifLess 3 (getD r voteAt 0) table)
-    (orElse (reasonWrong (getD r voteAt 0) (getD r reasonAt 0))
-    (orElse (ifLess 2 (getD r logAt 0) table) (ifLess 2 (getD r decidedAt 0) table)))))
+    (orElse (voteWrong r)
+    (orElse (ifLess 2 (getD r logAt 0) table) (ifLess 2 (getD r decidedAt 0) table))))
 
 abbrev pub rowBad : List ℕ → Bool
 rowBad r = ltb 0 (rowWrong r)

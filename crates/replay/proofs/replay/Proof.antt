@@ -1,4 +1,4 @@
-use Rattle.replay.proofs.Running.{line-put}
+use Rattle.lines.proofs.Putting.{line-put}
 use Rattle.replay.proofs.Printed.{no-room, printed, printed-none, text-long, text-none, text-refused, text-run}
 use Rattle.lines.proofs.Putting.{puts-text}
 use native.Mathlib.Nat.{le-refl}

@@ -1,4 +1,5 @@
-use Rattle.replay.proofs.Running.{Running, running-first, running-end, same-long, running-cut, running-stop, running-more, has-room, fits, line-put, puts-same, gp-long, config-is}
+use Rattle.replay.proofs.Running.{Running, running-first, running-end, same-long, running-cut, running-stop, running-more, has-room, fits, gp-long, config-is}
+use Rattle.lines.proofs.Putting.{line-put}
 use lib.ListN.{length}
 use Prim.Native.Nat.{_-_}
 use mathlib.Core.Path.{_≡_, refl, sym, _∙_}

@@ -1,4 +1,5 @@
-use Rattle.replay.proofs.Running.{line-put, rest-ready, run-all}
+use Rattle.replay.proofs.Running.{rest-ready, run-all}
+use Rattle.lines.proofs.Putting.{line-put}
 use native.Mathlib.Omega.{arith}
 use borrow.Author.Needs.{needs}
 use Rattle.replay.proofs.run.Statement.{statement}

@@ -1,7 +1,6 @@
 use mathlib.Core.Path.{sym, _∙_}
-use Rattle.terms.proofs.Checks.{pass, halt, less-no, less-yes}
+use Rattle.terms.proofs.Checks.{pass, stop, halt, less-no, less-yes}
 use Rattle.table.specs.Table.{rowWrong}
-use Rattle.table.proofs.Checked.{stop-both, pass-both}
 use native.Mathlib.Omega.{arith}
 use borrow.Author.Needs.{needs}
 use Rattle.table.proofs.row_wrong.Statement.{statement}
@@ -29,25 +28,25 @@ vote-wrong-requires c κs = search needs
 
 returns-3 : tie.Need-returns-3
 unfolding rowWrong
-returns-3 c = pass (less-no _ _ _ (c .before .before .before .before .if1 .left)) (pass (less-no _ _ _ (c .before .before .if2 .left)) (stop-both _ _ _ _ (c .before .vote-wrong .ensures) (c .if3 .taken)))
+returns-3 c = pass (less-no _ _ _ (c .before .before .before .before .if1 .left)) (pass (less-no _ _ _ (c .before .before .if2 .left)) (stop _ _ _ (c .before .vote-wrong .ensures) (c .if3 .taken)))
 
 shared-slice-read-if4 : tie.Need-shared-slice-read-if4
 shared-slice-read-if4 c = search needs
 
 returns-4 : tie.Need-returns-4
 unfolding rowWrong
-returns-4 c = pass (less-no _ _ _ (c .before .before .before .before .before .before .if1 .left)) (pass (less-no _ _ _ (c .before .before .before .before .if2 .left)) (pass-both _ _ _ _ (sym (c .before .before .before .vote-wrong .ensures) ∙ c .before .before .if3 .left) (halt _ _ _ (less-yes _ _ _ (c .if4 .taken)) (omega arith))))
+returns-4 c = pass (less-no _ _ _ (c .before .before .before .before .before .before .if1 .left)) (pass (less-no _ _ _ (c .before .before .before .before .if2 .left)) (pass (sym (c .before .before .before .vote-wrong .ensures) ∙ c .before .before .if3 .left) (halt _ _ _ (less-yes _ _ _ (c .if4 .taken)) (omega arith))))
 
 shared-slice-read-if5 : tie.Need-shared-slice-read-if5
 shared-slice-read-if5 c = search needs
 
 returns-5 : tie.Need-returns-5
 unfolding rowWrong
-returns-5 c = pass (less-no _ _ _ (c .before .before .before .before .before .before .before .before .if1 .left)) (pass (less-no _ _ _ (c .before .before .before .before .before .before .if2 .left)) (pass-both _ _ _ _ (sym (c .before .before .before .before .before .vote-wrong .ensures) ∙ c .before .before .before .before .if3 .left) (pass (less-no _ _ _ (c .before .before .if4 .left)) (sym (less-yes _ _ _ (c .if5 .taken))))))
+returns-5 c = pass (less-no _ _ _ (c .before .before .before .before .before .before .before .before .if1 .left)) (pass (less-no _ _ _ (c .before .before .before .before .before .before .if2 .left)) (pass (sym (c .before .before .before .before .before .vote-wrong .ensures) ∙ c .before .before .before .before .if3 .left) (pass (less-no _ _ _ (c .before .before .if4 .left)) (sym (less-yes _ _ _ (c .if5 .taken))))))
 
 returns-6 : tie.Need-returns-6
 unfolding rowWrong
-returns-6 c = pass (less-no _ _ _ (c .before .before .before .before .before .before .before .before .if1 .left)) (pass (less-no _ _ _ (c .before .before .before .before .before .before .if2 .left)) (pass-both _ _ _ _ (sym (c .before .before .before .before .before .vote-wrong .ensures) ∙ c .before .before .before .before .if3 .left) (pass (less-no _ _ _ (c .before .before .if4 .left)) (sym (less-no _ _ _ (c .if5 .left))))))
+returns-6 c = pass (less-no _ _ _ (c .before .before .before .before .before .before .before .before .if1 .left)) (pass (less-no _ _ _ (c .before .before .before .before .before .before .if2 .left)) (pass (sym (c .before .before .before .before .before .vote-wrong .ensures) ∙ c .before .before .before .before .if3 .left) (pass (less-no _ _ _ (c .before .before .if4 .left)) (sym (less-no _ _ _ (c .if5 .left))))))
 
 pub row-wrong-spec : {M : Type 1} → statement M
 row-wrong-spec =
