@@ -5,14 +5,10 @@
  * thread uses it during the call. No pointer is null, not even that of an empty message or buffer.
  *
  * A box is a table, read marks and four numbers (f, capacity, clock, delta). The caller keeps them; nothing is
- * kept here. A new table is 1 + 176 * capacity bytes, all 0; new read marks are 512 numbers, all 0.
- *
- * A table: byte 0 counts the entries, then a row of 176 bytes for each: the transaction's bytes (TX) from 0; at 172 the vote
- * (0 none, 1 waiting, 2 commit, 3 abort); at 173 the reason (1 to 6 beside an abort, else 0); at 174 the logged decision and
- * at 175 the decision (0 none, 1 commit, 2 abort).
+ * kept here. A new table is STOBBAREL_TABLE_LEN(capacity) bytes, all 0; new read marks are 512 numbers, all 0.
  *
  * An answer is five numbers:
- *   1 voted    vote (1 waiting, 2 commit, 3 abort), reason (1 to 6 beside an abort, else 0), 0, 0
+ *   1 voted    vote (1 commit, 2 abort, 3 waiting), reason (1 to 6 beside an abort, else 0), 0, 0
  *   2 decided  decision (1 commit, 2 abort), 0, 0, 0
  *   3 logged   decision (1 commit, 2 abort), 0, 0, 0
  *   4 done     0, 0, 0, 0
@@ -29,10 +25,35 @@
 extern "C" {
 #endif
 
-#define STOBBAREL_ROW 176
-#define STOBBAREL_KEYS 512
-/* The longest record: an LG or a DC with eight reads, eight writes and 26 pairs. */
-#define STOBBAREL_LONGEST 231
+/* A table: the head, then a row for each entry. What stands in a row behind the transaction's bytes, and in the table behind the
+ * last entry's row, is not looked at. The package in rust/ takes its numbers from these lines; tests/layout holds them against
+ * the engine's. */
+#define STOBBAREL_HEAD 1       /* Bytes in front of the rows: the count of entries. */
+#define STOBBAREL_ROW 176      /* Bytes of a row. */
+#define STOBBAREL_VOTE_AT 0    /* Where in a row the vote stands: 0 none, 1 commit, 2 abort, 3 waiting. */
+#define STOBBAREL_REASON_AT 1  /* Where in a row the reason stands: 1 to 6 beside an abort, else 0. */
+#define STOBBAREL_LOG_AT 2     /* Where in a row the logged decision stands: 0 none, 1 commit, 2 abort. */
+#define STOBBAREL_DECIDED_AT 3 /* Where in a row the decision stands: 0 none, 1 commit, 2 abort. */
+#define STOBBAREL_BODY_AT 4    /* Where in a row the transaction's bytes (TX) begin. */
+#define STOBBAREL_TABLE_LEN(capacity) (STOBBAREL_HEAD + STOBBAREL_ROW * (capacity)) /* Bytes of a table with room for so many entries. */
+
+#define STOBBAREL_KEYS 512    /* Keys of a register, and read marks of a box. */
+#define STOBBAREL_LONGEST 231 /* Bytes of the longest record: an LG or a DC with eight reads, eight writes and 26 pairs. */
+
+/* The marks of the four messages, wherever one is named by a number. */
+enum stobbarel_mark {
+    STOBBAREL_PR = 1,
+    STOBBAREL_LG = 2,
+    STOBBAREL_DC = 3,
+    STOBBAREL_RD = 4
+};
+
+/* Votes, logged decisions, decisions, and what a tally takes, which is not a wait; 0 is none. */
+enum stobbarel_code {
+    STOBBAREL_COMMIT = 1,
+    STOBBAREL_ABORT = 2,
+    STOBBAREL_WAITING = 3
+};
 
 enum stobbarel_answer {
     STOBBAREL_VOTED = 1,
@@ -70,21 +91,35 @@ enum stobbarel_refusal {
 void stobbarel_receive(uint8_t *table, size_t table_len, uint64_t marks[512], uint64_t f, uint64_t capacity, uint64_t clock,
                        uint64_t delta, const uint8_t *message, size_t message_len, uint64_t answer[5]);
 
+/* The message of one mark: PR, LG, DC or RD by its number above. A number that is none of them is refused with 2 after 14 and 16,
+ * before the message is looked at; a message with another mark is refused with 2 in its order. LG and DC leave the read marks as
+ * they are, RD the table. */
+void stobbarel_due(uint64_t mark, uint8_t *table, size_t table_len, uint64_t marks[512], uint64_t f, uint64_t capacity,
+                   uint64_t clock, uint64_t delta, const uint8_t *message, size_t message_len, uint64_t answer[5]);
+
 /* PR: vote on a transaction. */
-void stobbarel_prepare(uint8_t *table, size_t table_len, const uint64_t marks[512], uint64_t f, uint64_t capacity,
-                       uint64_t clock, uint64_t delta, const uint8_t *message, size_t message_len, uint64_t answer[5]);
+static inline void stobbarel_prepare(uint8_t *table, size_t table_len, uint64_t marks[512], uint64_t f, uint64_t capacity,
+                                     uint64_t clock, uint64_t delta, const uint8_t *message, size_t message_len, uint64_t answer[5]) {
+    stobbarel_due(STOBBAREL_PR, table, table_len, marks, f, capacity, clock, delta, message, message_len, answer);
+}
 
 /* LG: log a decision. */
-void stobbarel_log(uint8_t *table, size_t table_len, uint64_t f, uint64_t capacity, uint64_t clock, uint64_t delta,
-                   const uint8_t *message, size_t message_len, uint64_t answer[5]);
+static inline void stobbarel_log(uint8_t *table, size_t table_len, uint64_t marks[512], uint64_t f, uint64_t capacity,
+                                 uint64_t clock, uint64_t delta, const uint8_t *message, size_t message_len, uint64_t answer[5]) {
+    stobbarel_due(STOBBAREL_LG, table, table_len, marks, f, capacity, clock, delta, message, message_len, answer);
+}
 
 /* DC: take a decision. */
-void stobbarel_decide(uint8_t *table, size_t table_len, uint64_t f, uint64_t capacity, uint64_t clock, uint64_t delta,
-                      const uint8_t *message, size_t message_len, uint64_t answer[5]);
+static inline void stobbarel_decide(uint8_t *table, size_t table_len, uint64_t marks[512], uint64_t f, uint64_t capacity,
+                                    uint64_t clock, uint64_t delta, const uint8_t *message, size_t message_len, uint64_t answer[5]) {
+    stobbarel_due(STOBBAREL_DC, table, table_len, marks, f, capacity, clock, delta, message, message_len, answer);
+}
 
 /* RD: what stands at a key; its read mark is raised. */
-void stobbarel_read(const uint8_t *table, size_t table_len, uint64_t marks[512], uint64_t f, uint64_t capacity,
-                    uint64_t clock, uint64_t delta, const uint8_t *message, size_t message_len, uint64_t answer[5]);
+static inline void stobbarel_read(uint8_t *table, size_t table_len, uint64_t marks[512], uint64_t f, uint64_t capacity,
+                                  uint64_t clock, uint64_t delta, const uint8_t *message, size_t message_len, uint64_t answer[5]) {
+    stobbarel_due(STOBBAREL_RD, table, table_len, marks, f, capacity, clock, delta, message, message_len, answer);
+}
 
 /* ---- records read */
 
@@ -98,7 +133,7 @@ uint8_t stobbarel_reading_tx(const uint8_t *bytes, size_t bytes_len);
 uint8_t stobbarel_reading_vl(uint64_t f, const uint8_t *bytes, size_t bytes_len);
 
 /* A message read alone, and its values: 0, or the refusal's number, as stobbarel_reading. The head's eight numbers:
- *   mark       3 PR, 4 LG, 5 DC, 6 RD; 0 refused
+ *   mark       1 PR, 2 LG, 3 DC, 4 RD; 0 refused
  *   stamp      of the transaction, or of an RD
  *   r, w       how many reads and writes there are
  *   key        of an RD
@@ -136,15 +171,29 @@ uint8_t stobbarel_write_vl(uint64_t f, uint8_t kind, uint8_t decision, size_t co
 uint8_t stobbarel_write_pr(uint64_t stamp, size_t r, size_t w, const uint16_t reads[8], const uint64_t versions[8],
                            const uint16_t writes[8], const uint64_t values[8], uint8_t *out, size_t out_len, size_t *length);
 
+/* A message with a list: LG or DC by its number above. Any other number is refused with 2, where the list's 8, 5, 6 would stand. */
+uint8_t stobbarel_write_listed(uint64_t mark, uint64_t f, uint64_t stamp, size_t r, size_t w, const uint16_t reads[8],
+                               const uint64_t versions[8], const uint16_t writes[8], const uint64_t values[8], uint8_t kind,
+                               uint8_t decision, size_t count, const uint8_t numbers[26], const uint8_t answers[26],
+                               uint8_t *out, size_t out_len, size_t *length);
+
 /* LG: its list is of votes, kind 1. */
-uint8_t stobbarel_write_lg(uint64_t f, uint64_t stamp, size_t r, size_t w, const uint16_t reads[8], const uint64_t versions[8],
-                           const uint16_t writes[8], const uint64_t values[8], uint8_t kind, uint8_t decision, size_t count,
-                           const uint8_t numbers[26], const uint8_t answers[26], uint8_t *out, size_t out_len, size_t *length);
+static inline uint8_t stobbarel_write_lg(uint64_t f, uint64_t stamp, size_t r, size_t w, const uint16_t reads[8],
+                                         const uint64_t versions[8], const uint16_t writes[8], const uint64_t values[8],
+                                         uint8_t kind, uint8_t decision, size_t count, const uint8_t numbers[26],
+                                         const uint8_t answers[26], uint8_t *out, size_t out_len, size_t *length) {
+    return stobbarel_write_listed(STOBBAREL_LG, f, stamp, r, w, reads, versions, writes, values, kind, decision, count, numbers, answers,
+                                  out, out_len, length);
+}
 
 /* DC. */
-uint8_t stobbarel_write_dc(uint64_t f, uint64_t stamp, size_t r, size_t w, const uint16_t reads[8], const uint64_t versions[8],
-                           const uint16_t writes[8], const uint64_t values[8], uint8_t kind, uint8_t decision, size_t count,
-                           const uint8_t numbers[26], const uint8_t answers[26], uint8_t *out, size_t out_len, size_t *length);
+static inline uint8_t stobbarel_write_dc(uint64_t f, uint64_t stamp, size_t r, size_t w, const uint16_t reads[8],
+                                         const uint64_t versions[8], const uint16_t writes[8], const uint64_t values[8],
+                                         uint8_t kind, uint8_t decision, size_t count, const uint8_t numbers[26],
+                                         const uint8_t answers[26], uint8_t *out, size_t out_len, size_t *length) {
+    return stobbarel_write_listed(STOBBAREL_DC, f, stamp, r, w, reads, versions, writes, values, kind, decision, count, numbers, answers,
+                                  out, out_len, length);
+}
 
 /* RD: 12 bytes; 5 or 17. */
 uint8_t stobbarel_write_rd(uint16_t key, uint64_t stamp, uint8_t *out, size_t out_len, size_t *length);
@@ -155,8 +204,9 @@ uint8_t stobbarel_write_rd(uint16_t key, uint64_t stamp, uint8_t *out, size_t ou
  * proof from logs. 0; or 14, out being unchanged. */
 uint8_t stobbarel_thresholds(uint64_t f, uint64_t out[6]);
 
-/* The gateway's tally: a sheet of one kind (1 votes, 2 logs) takes a box's answer (1 commit, 2 abort). Bit b of a mask says
- * that box b gave this answer; a new sheet's masks are 0. The reply is five numbers:
+/* The gateway's tally: a sheet of one kind (1 votes, 2 logs) takes a box's answer (1 commit, 2 abort), the number of the vote or
+ * the decision that the box answered; a wait, 3, is refused with 8. Bit b of a mask says that box b gave this answer; a new
+ * sheet's masks are 0. The reply is five numbers:
  *   1 votes    reached (1) or not (0): commit list, abort list, commit proof, abort proof
  *   2 logs     reached (1) or not (0): commit proof, abort proof, 0, 0
  *   3 repeat   0, 0, 0, 0; the sheet is unchanged

@@ -1,6 +1,6 @@
 /* How much stack a call takes, all its callees with it: the call is made on a stack of its own, filled with a pattern beforehand, and
- * the bytes that no longer hold the pattern are counted. Prints a line for each call; fails where one takes more than the smallest
- * box has (8 KiB). */
+ * the bytes that no longer hold the pattern are counted. Prints a line for each call, made by receive and by due; fails where one
+ * takes more than the smallest box has (8 KiB). */
 #define _GNU_SOURCE
 #include "../include/stobbarel.h"
 #include <stdio.h>
@@ -10,16 +10,20 @@
 
 enum { STACK = 1 << 18, LIMIT = 8192, CAPACITY = 255, PATTERN = 0xA5 };
 
-static uint8_t stack[STACK], table[1 + CAPACITY * STOBBAREL_ROW], message[400];
+static uint8_t stack[STACK], table[STOBBAREL_TABLE_LEN(CAPACITY)], message[STOBBAREL_LONGEST];
 static uint64_t marks[STOBBAREL_KEYS], answer[5];
 static size_t message_len;
-static uint64_t group = 5;
+static uint64_t group = 5, mark;
 static ucontext_t here, there;
 
 static void nothing(void) {}
 
-static void call(void) {
+static void receive(void) {
     stobbarel_receive(table, sizeof table, marks, group, CAPACITY, 1000, 0, message, message_len, answer);
+}
+
+static void due(void) {
+    stobbarel_due(mark, table, sizeof table, marks, group, CAPACITY, 1000, 0, message, message_len, answer);
 }
 
 /* Bytes of a fresh stack that a function leaves other than they were. */
@@ -48,11 +52,13 @@ static size_t transaction(uint8_t *at, uint64_t stamp) {
         put(at + 12 + 10 * i, (uint64_t)(i < 8 ? i : 100 + i), 2);
         put(at + 14 + 10 * i, 0, 8);
     }
-    return 172;
+    return 12 + 10 * 16;
 }
 
-static void make(const char *mark, uint64_t stamp, int kind) {
-    memcpy(message, mark, 2);
+/* A PR, or a message with a list of 26 of this kind. */
+static void make(const char *letters, uint64_t number, uint64_t stamp, int kind) {
+    mark = number;
+    memcpy(message, letters, 2);
     message_len = 2 + transaction(message + 2, stamp);
     if (kind == 0) return;
     uint8_t *list = message + message_len;
@@ -69,30 +75,39 @@ static void make(const char *mark, uint64_t stamp, int kind) {
 
 static int failed = 0;
 
-static void show(const char *what, uint64_t due) {
+/* Bytes that a call takes, the table being put back; it has to answer this. */
+static size_t taken(void (*call)(void), uint64_t answered) {
     static uint8_t before[sizeof table];
     memcpy(before, table, sizeof table);
     call(); /* once before, so that the dynamic linker has done its work */
     memcpy(table, before, sizeof table);
     size_t bytes = used(call) - used(nothing);
-    printf("%-52s %5zu\n", what, bytes);
-    if (answer[0] != due || bytes > LIMIT) {
-        printf("  answer %llu, due %llu, limit %d\n", (unsigned long long)answer[0], (unsigned long long)due, LIMIT);
+    memcpy(table, before, sizeof table);
+    if (answer[0] != answered || bytes > LIMIT) {
+        printf("answer %llu, due %llu, %zu bytes, limit %d\n", (unsigned long long)answer[0], (unsigned long long)answered, bytes, LIMIT);
         failed = 1;
     }
+    return bytes;
+}
+
+static void show(const char *what, uint64_t answered) {
+    printf("%-52s %5zu", what, taken(receive, answered));
+    printf(" %5zu\n", taken(due, answered));
 }
 
 int main(void) {
     for (uint64_t stamp = 1; stamp <= 254; stamp++) {
-        make("PR", 2 * stamp, 0);
-        call();
+        make("PR", STOBBAREL_PR, 2 * stamp, 0);
+        receive();
     }
-    make("PR", 900, 0);
+    printf("bytes of stack, by receive and by due\n");
+    make("PR", STOBBAREL_PR, 900, 0);
     show("PR, eight reads and eight writes, 254 entries held", STOBBAREL_VOTED);
-    make("LG", 2, 1);
+    make("LG", STOBBAREL_LG, 2, 1);
     show("LG, a list of 26", STOBBAREL_LOGGED);
-    make("DC", 4, 1);
+    make("DC", STOBBAREL_DC, 4, 1);
     show("DC, a list of 26", STOBBAREL_DONE);
+    mark = STOBBAREL_RD;
     memcpy(message, "RD", 2);
     put(message + 2, 110, 2);
     put(message + 4, 900, 8);

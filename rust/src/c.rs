@@ -1,11 +1,9 @@
-//! The C interface as include/stobbarel.h declares it, but for `stobbarel_reading`: `stobbarel_fields` answers the same number.
+//! The C interface as include/stobbarel.h declares it, but for `stobbarel_reading`, whose number `stobbarel_fields` answers too, and for what the
+//! header itself makes of these.
 
 extern "C" {
     pub fn stobbarel_receive(table: *mut u8, table_len: usize, marks: *mut u64, f: u64, capacity: u64, clock: u64, delta: u64, message: *const u8, message_len: usize, answer: *mut u64);
-    pub fn stobbarel_prepare(table: *mut u8, table_len: usize, marks: *const u64, f: u64, capacity: u64, clock: u64, delta: u64, message: *const u8, message_len: usize, answer: *mut u64);
-    pub fn stobbarel_log(table: *mut u8, table_len: usize, f: u64, capacity: u64, clock: u64, delta: u64, message: *const u8, message_len: usize, answer: *mut u64);
-    pub fn stobbarel_decide(table: *mut u8, table_len: usize, f: u64, capacity: u64, clock: u64, delta: u64, message: *const u8, message_len: usize, answer: *mut u64);
-    pub fn stobbarel_read(table: *const u8, table_len: usize, marks: *mut u64, f: u64, capacity: u64, clock: u64, delta: u64, message: *const u8, message_len: usize, answer: *mut u64);
+    pub fn stobbarel_due(mark: u64, table: *mut u8, table_len: usize, marks: *mut u64, f: u64, capacity: u64, clock: u64, delta: u64, message: *const u8, message_len: usize, answer: *mut u64);
     pub fn stobbarel_reading_tx(bytes: *const u8, bytes_len: usize) -> u8;
     pub fn stobbarel_reading_vl(f: u64, bytes: *const u8, bytes_len: usize) -> u8;
     pub fn stobbarel_fields(f: u64, message: *const u8, message_len: usize, head: *mut u64, reads: *mut u16, versions: *mut u64, writes: *mut u16, values: *mut u64, numbers: *mut u8, answers: *mut u8) -> u8;
@@ -13,8 +11,7 @@ extern "C" {
     pub fn stobbarel_write_tx(stamp: u64, r: usize, w: usize, reads: *const u16, versions: *const u64, writes: *const u16, values: *const u64, out: *mut u8, out_len: usize, length: *mut usize) -> u8;
     pub fn stobbarel_write_vl(f: u64, kind: u8, decision: u8, count: usize, numbers: *const u8, answers: *const u8, out: *mut u8, out_len: usize, length: *mut usize) -> u8;
     pub fn stobbarel_write_pr(stamp: u64, r: usize, w: usize, reads: *const u16, versions: *const u64, writes: *const u16, values: *const u64, out: *mut u8, out_len: usize, length: *mut usize) -> u8;
-    pub fn stobbarel_write_lg(f: u64, stamp: u64, r: usize, w: usize, reads: *const u16, versions: *const u64, writes: *const u16, values: *const u64, kind: u8, decision: u8, count: usize, numbers: *const u8, answers: *const u8, out: *mut u8, out_len: usize, length: *mut usize) -> u8;
-    pub fn stobbarel_write_dc(f: u64, stamp: u64, r: usize, w: usize, reads: *const u16, versions: *const u64, writes: *const u16, values: *const u64, kind: u8, decision: u8, count: usize, numbers: *const u8, answers: *const u8, out: *mut u8, out_len: usize, length: *mut usize) -> u8;
+    pub fn stobbarel_write_listed(mark: u64, f: u64, stamp: u64, r: usize, w: usize, reads: *const u16, versions: *const u64, writes: *const u16, values: *const u64, kind: u8, decision: u8, count: usize, numbers: *const u8, answers: *const u8, out: *mut u8, out_len: usize, length: *mut usize) -> u8;
     pub fn stobbarel_write_rd(key: u16, stamp: u64, out: *mut u8, out_len: usize, length: *mut usize) -> u8;
     pub fn stobbarel_thresholds(f: u64, out: *mut u64) -> u8;
     pub fn stobbarel_tally(kind: u8, commits: *mut u32, aborts: *mut u32, f: u64, number: u64, answer: u64, reply: *mut u8);

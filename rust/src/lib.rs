@@ -14,8 +14,8 @@
 //!
 //! // An RD shows it, undecided.
 //! let length = write_rd(Key(3), Stamp(60), &mut buffer)?;
-//! let none = Version { version: Stamp(0), value: 0 };
-//! assert_eq!(table.receive(100, 10, &buffer[..length]), Answer::Found(none, Version { version: Stamp(50), value: 7 }));
+//! let none = Version { stamp: Stamp(0), value: 0 };
+//! assert_eq!(table.receive(100, 10, &buffer[..length]), Answer::Found(none, Version { stamp: Stamp(50), value: 7 }));
 //!
 //! // A gateway hears commit from four of the six boxes: enough to log it.
 //! let mut sheet = Sheet::new(group, Kind::Votes);
@@ -28,12 +28,18 @@
 #![deny(missing_docs)]
 
 mod c;
+/// How a table is laid out, as `include/stobbarel.h` has it.
+#[allow(unused_parens)] // a macro in C needs them
+pub mod layout {
+    include!(concat!(env!("OUT_DIR"), "/layout.rs"));
+}
 mod records;
 mod sheet;
 mod table;
 mod terms;
 
-pub use records::{check_tx, check_vl, read_message, tx_part, write_dc, write_lg, write_pr, write_rd, write_tx, write_vl, Message, Transaction, VoteList, LONGEST};
+pub use layout::LONGEST;
+pub use records::{check_tx, check_vl, read_message, tx_part, write_dc, write_lg, write_pr, write_rd, write_tx, write_vl, Message, Transaction, VoteList};
 pub use sheet::{Reply, Sheet};
 pub use table::{Answer, Table, Version, Vote};
-pub use terms::{Decision, Group, Key, Kind, Reason, Refusal, Stamp};
+pub use terms::{Decision, Group, Key, Kind, Mark, Reason, Refusal, Stamp};

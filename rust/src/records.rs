@@ -1,10 +1,7 @@
 //! The records: written into a lent buffer, read from any bytes.
 
 use crate::c;
-use crate::terms::{Decision, Group, Key, Kind, Refusal, Stamp};
-
-/// The longest record: an LG or a DC with eight reads, eight writes and 26 pairs.
-pub const LONGEST: usize = 231;
+use crate::terms::{Decision, Group, Key, Kind, Mark, Refusal, Stamp};
 
 /// Up to eight reads and up to eight writes, at least one of either; more are refused when it is written.
 #[derive(Clone, Debug, Default, PartialEq, Eq, Hash)]
@@ -116,26 +113,24 @@ pub fn write_pr(tx: &Transaction, out: &mut [u8]) -> Result<usize, Refusal> {
     })
 }
 
-/// LG: its list is of votes.
-pub fn write_lg(group: Group, tx: &Transaction, list: &VoteList, out: &mut [u8]) -> Result<usize, Refusal> {
+fn write_listed(mark: Mark, group: Group, tx: &Transaction, list: &VoteList, out: &mut [u8]) -> Result<usize, Refusal> {
     let (x, l) = (LentTx::of(tx), LentList::of(list));
     told(|length| unsafe {
-        c::stobbarel_write_lg(
-            group.f(), x.stamp, x.r, x.w, x.reads.as_ptr(), x.versions.as_ptr(), x.writes.as_ptr(), x.values.as_ptr(),
+        c::stobbarel_write_listed(
+            mark as u64, group.f(), x.stamp, x.r, x.w, x.reads.as_ptr(), x.versions.as_ptr(), x.writes.as_ptr(), x.values.as_ptr(),
             l.kind, l.decision, l.count, l.numbers.as_ptr(), l.answers.as_ptr(), out.as_mut_ptr(), out.len(), length,
         )
     })
 }
 
+/// LG: its list is of votes.
+pub fn write_lg(group: Group, tx: &Transaction, list: &VoteList, out: &mut [u8]) -> Result<usize, Refusal> {
+    write_listed(Mark::Lg, group, tx, list, out)
+}
+
 /// DC.
 pub fn write_dc(group: Group, tx: &Transaction, list: &VoteList, out: &mut [u8]) -> Result<usize, Refusal> {
-    let (x, l) = (LentTx::of(tx), LentList::of(list));
-    told(|length| unsafe {
-        c::stobbarel_write_dc(
-            group.f(), x.stamp, x.r, x.w, x.reads.as_ptr(), x.versions.as_ptr(), x.writes.as_ptr(), x.values.as_ptr(),
-            l.kind, l.decision, l.count, l.numbers.as_ptr(), l.answers.as_ptr(), out.as_mut_ptr(), out.len(), length,
-        )
-    })
+    write_listed(Mark::Dc, group, tx, list, out)
 }
 
 /// RD.
@@ -176,11 +171,11 @@ pub fn read_message(group: Group, message: &[u8]) -> Result<Message, Refusal> {
         decision: Decision::of(decision).expect("a list that was read names a decision"),
         pairs: (0..count as usize).map(|i| (numbers[i], Decision::of(answers[i].into()).expect("a pair that was read has an answer"))).collect(),
     };
-    Ok(match mark {
-        3 => Message::Prepare(tx),
-        4 => Message::Log(tx, list()),
-        5 => Message::Decide(tx, list()),
-        _ => Message::Read(Key(key as u16), Stamp(stamp)),
+    Ok(match Mark::of(mark).expect("a message that was read has a mark") {
+        Mark::Pr => Message::Prepare(tx),
+        Mark::Lg => Message::Log(tx, list()),
+        Mark::Dc => Message::Decide(tx, list()),
+        Mark::Rd => Message::Read(Key(key as u16), Stamp(stamp)),
     })
 }
 

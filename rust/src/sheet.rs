@@ -47,9 +47,14 @@ impl Sheet {
 
     /// Takes one box's answer.
     pub fn take(&mut self, number: u64, answer: Decision) -> Reply {
+        self.take_number(number, answer as u64)
+    }
+
+    /// Takes one box's answer as a number, that of a vote or a decision: 1 commit, 2 abort; any other is refused ([`Refusal::Code`]), a wait among them.
+    pub fn take_number(&mut self, number: u64, answer: u64) -> Reply {
         let mut row = [0; 5];
         // Each pointer is to as many numbers as the function takes, and they do not overlap.
-        unsafe { c::stobbarel_tally(self.kind as u8, &mut self.commits, &mut self.aborts, self.group.f(), number, answer as u64, row.as_mut_ptr()) }
+        unsafe { c::stobbarel_tally(self.kind as u8, &mut self.commits, &mut self.aborts, self.group.f(), number, answer, row.as_mut_ptr()) }
         match row {
             [1, a, b, c, d] => Reply::Votes { commit_list: a == 1, abort_list: b == 1, commit_proof: c == 1, abort_proof: d == 1 },
             [2, a, b, _, _] => Reply::Logs { commit_proof: a == 1, abort_proof: b == 1 },

@@ -1,27 +1,42 @@
-//! One box: its table and read marks, and the four calls.
+//! One box: its table and read marks, and the calls.
 
 use crate::c;
-use crate::terms::{Decision, Group, Reason, Refusal, Stamp};
-
-const ROW: usize = 176;
-const KEYS: usize = 512;
+use crate::layout::{table_len, KEYS};
+use crate::terms::{Decision, Group, Mark, Reason, Refusal, Stamp};
 
 /// What a box votes.
 #[derive(Clone, Copy, Debug, PartialEq, Eq, Hash)]
 pub enum Vote {
-    /// It waits for a version that it read.
-    Waiting,
     /// It is for commit.
     Commit,
     /// It is for abort.
     Abort(Reason),
+    /// It waits for a version that it read.
+    Waiting,
 }
 
-/// A version and its value; version 0 and value 0 where there is none.
+impl Vote {
+    /// The number of it in a row and in the C interface: 1 commit, 2 abort, 3 waiting. [`Sheet::take_number`](crate::Sheet::take_number) takes
+    /// the first two for what they are, and refuses a wait.
+    pub fn number(self) -> u64 {
+        match self {
+            Vote::Commit => 1,
+            Vote::Abort(_) => 2,
+            Vote::Waiting => 3,
+        }
+    }
+
+    /// What a tally sheet takes; none while the box waits.
+    pub fn decision(self) -> Option<Decision> {
+        Decision::of(self.number())
+    }
+}
+
+/// A version and its value; stamp 0 and value 0 where there is none.
 #[derive(Clone, Copy, Debug, PartialEq, Eq, Hash)]
 pub struct Version {
     /// The writer's stamp.
-    pub version: Stamp,
+    pub stamp: Stamp,
     /// What it wrote.
     pub value: u64,
 }
@@ -45,14 +60,15 @@ pub enum Answer {
 
 impl Answer {
     fn of(row: [u64; 5]) -> Option<Answer> {
+        let version = |stamp, value| Version { stamp: Stamp(stamp), value };
         Some(match row {
-            [1, 1, 0, 0, 0] => Answer::Voted(Vote::Waiting),
-            [1, 2, 0, 0, 0] => Answer::Voted(Vote::Commit),
-            [1, 3, reason, 0, 0] => Answer::Voted(Vote::Abort(Reason::of(reason)?)),
+            [1, 1, 0, 0, 0] => Answer::Voted(Vote::Commit),
+            [1, 2, reason, 0, 0] => Answer::Voted(Vote::Abort(Reason::of(reason)?)),
+            [1, 3, 0, 0, 0] => Answer::Voted(Vote::Waiting),
             [2, decision, 0, 0, 0] => Answer::Decided(Decision::of(decision)?),
             [3, decision, 0, 0, 0] => Answer::Logged(Decision::of(decision)?),
             [4, 0, 0, 0, 0] => Answer::Done,
-            [5, version, value, undecided, its] => Answer::Found(Version { version: Stamp(version), value }, Version { version: Stamp(undecided), value: its }),
+            [5, committed, value, undecided, its] => Answer::Found(version(committed, value), version(undecided, its)),
             [6, number, 0, 0, 0] => Answer::Refused(Refusal::of(number)?),
             _ => return None,
         })
@@ -74,7 +90,7 @@ impl Table {
         if !(1..=255).contains(&capacity) {
             return Err(Refusal::Group);
         }
-        Ok(Table { group, capacity, bytes: vec![0; 1 + ROW * capacity as usize], marks: Box::new([0; KEYS]) })
+        Ok(Table { group, capacity, bytes: vec![0; table_len(capacity as usize)], marks: Box::new([0; KEYS]) })
     }
 
     /// A table as it was kept. Any bytes may be given: each call refuses a table that is not in order ([`Refusal::Table`]), and a
@@ -83,7 +99,7 @@ impl Table {
         Table { group, capacity, bytes, marks: Box::new(marks) }
     }
 
-    /// The bytes, to be kept.
+    /// The bytes, to be kept; [`layout`](crate::layout) says what stands where.
     pub fn bytes(&self) -> &[u8] {
         &self.bytes
     }
@@ -93,41 +109,44 @@ impl Table {
         &self.marks
     }
 
-    fn answer(call: impl FnOnce(*mut u64)) -> Answer {
+    /// One call, handed pointers to table, length, read marks and answer.
+    fn answer(&mut self, call: impl FnOnce(*mut u8, usize, *mut u64, *mut u64)) -> Answer {
         let mut row = [0; 5];
-        call(row.as_mut_ptr());
+        call(self.bytes.as_mut_ptr(), self.bytes.len(), self.marks.as_mut_ptr(), row.as_mut_ptr());
         Answer::of(row).expect("the engine's five numbers are an answer")
     }
 
-    // In each call below a pointer is to as many numbers as the function takes, and what is lent for writing is this table's own.
+    // In the two calls below a pointer is to as many numbers as the function takes, and what is lent for writing is this table's own.
 
     /// Any of the four messages, by its mark.
     pub fn receive(&mut self, clock: u64, delta: u64, message: &[u8]) -> Answer {
-        let (t, n, k) = (self.bytes.as_mut_ptr(), self.bytes.len(), self.marks.as_mut_ptr());
-        Self::answer(|row| unsafe { c::stobbarel_receive(t, n, k, self.group.f(), self.capacity, clock, delta, message.as_ptr(), message.len(), row) })
+        let (f, capacity) = (self.group.f(), self.capacity);
+        self.answer(|t, n, k, row| unsafe { c::stobbarel_receive(t, n, k, f, capacity, clock, delta, message.as_ptr(), message.len(), row) })
+    }
+
+    /// The message of this mark; one with another mark is refused ([`Refusal::Mark`]).
+    pub fn due(&mut self, mark: Mark, clock: u64, delta: u64, message: &[u8]) -> Answer {
+        let (f, capacity) = (self.group.f(), self.capacity);
+        self.answer(|t, n, k, row| unsafe { c::stobbarel_due(mark as u64, t, n, k, f, capacity, clock, delta, message.as_ptr(), message.len(), row) })
     }
 
     /// PR: vote on a transaction.
     pub fn prepare(&mut self, clock: u64, delta: u64, message: &[u8]) -> Answer {
-        let (t, n, k) = (self.bytes.as_mut_ptr(), self.bytes.len(), self.marks.as_ptr());
-        Self::answer(|row| unsafe { c::stobbarel_prepare(t, n, k, self.group.f(), self.capacity, clock, delta, message.as_ptr(), message.len(), row) })
+        self.due(Mark::Pr, clock, delta, message)
     }
 
     /// LG: log a decision.
     pub fn log(&mut self, clock: u64, delta: u64, message: &[u8]) -> Answer {
-        let (t, n) = (self.bytes.as_mut_ptr(), self.bytes.len());
-        Self::answer(|row| unsafe { c::stobbarel_log(t, n, self.group.f(), self.capacity, clock, delta, message.as_ptr(), message.len(), row) })
+        self.due(Mark::Lg, clock, delta, message)
     }
 
     /// DC: take a decision.
     pub fn decide(&mut self, clock: u64, delta: u64, message: &[u8]) -> Answer {
-        let (t, n) = (self.bytes.as_mut_ptr(), self.bytes.len());
-        Self::answer(|row| unsafe { c::stobbarel_decide(t, n, self.group.f(), self.capacity, clock, delta, message.as_ptr(), message.len(), row) })
+        self.due(Mark::Dc, clock, delta, message)
     }
 
     /// RD: what stands at a key; its read mark is raised.
     pub fn read(&mut self, clock: u64, delta: u64, message: &[u8]) -> Answer {
-        let (t, n, k) = (self.bytes.as_ptr(), self.bytes.len(), self.marks.as_mut_ptr());
-        Self::answer(|row| unsafe { c::stobbarel_read(t, n, k, self.group.f(), self.capacity, clock, delta, message.as_ptr(), message.len(), row) })
+        self.due(Mark::Rd, clock, delta, message)
     }
 }

@@ -1,4 +1,4 @@
-//! The papers' words: stamp, key, decision, kind, reason, refusal, and the group of boxes.
+//! The papers' words: stamp, key, mark, decision, kind, reason, refusal, and the group of boxes.
 
 use crate::c;
 
@@ -9,6 +9,25 @@ pub struct Stamp(pub u64);
 /// A register place; 0 to 511 where it is in order.
 #[derive(Clone, Copy, Debug, Default, PartialEq, Eq, PartialOrd, Ord, Hash)]
 pub struct Key(pub u16);
+
+/// What a message begins with.
+#[derive(Clone, Copy, Debug, PartialEq, Eq, Hash)]
+pub enum Mark {
+    /// 1: vote on a transaction.
+    Pr = 1,
+    /// 2: log a decision.
+    Lg = 2,
+    /// 3: take a decision.
+    Dc = 3,
+    /// 4: what stands at a key.
+    Rd = 4,
+}
+
+impl Mark {
+    pub(crate) fn of(number: u64) -> Option<Mark> {
+        [Mark::Pr, Mark::Lg, Mark::Dc, Mark::Rd].into_iter().find(|one| *one as u64 == number)
+    }
+}
 
 /// What a list names, and what a box answers.
 #[derive(Clone, Copy, Debug, PartialEq, Eq, Hash)]

@@ -35,11 +35,82 @@ fn a_reader_waits_and_commits() {
     assert_eq!(table.prepare(100, 10, &ask), Answer::Voted(Vote::Commit));
     assert_eq!(table.receive(100, 10, &decided[..9]), Answer::Refused(Refusal::Short));
     let read = table.read(100, 10, &bytes(|out| write_rd(Key(3), Stamp(70), out)));
-    assert_eq!(read, Answer::Found(Version { version: Stamp(50), value: 7 }, Version { version: Stamp(0), value: 0 }));
+    assert_eq!(read, Answer::Found(Version { stamp: Stamp(50), value: 7 }, Version { stamp: Stamp(0), value: 0 }));
     assert_eq!(table.marks()[3], 70);
     let mut again = Table::kept(group, 8, table.bytes().to_vec(), *table.marks());
     let late = bytes(|out| write_pr(&tx(65, &[], &[(3, 1)]), out));
     assert_eq!(again.receive(100, 10, &late), Answer::Voted(Vote::Abort(Reason::ReadMark)));
+}
+
+/// A table of three entries, 50 voted commit, 60 waiting for it, 55 voted abort since 60 read below it; and their PRs.
+fn three_votes(group: Group) -> (Table, [Vec<u8>; 3]) {
+    let mut table = Table::new(group, 3).unwrap();
+    let asked = [tx(50, &[], &[(3, 7)]), tx(60, &[(3, 50)], &[]), tx(55, &[], &[(3, 8)])].map(|tx| bytes(|out| write_pr(&tx, out)));
+    let votes = [Vote::Commit, Vote::Waiting, Vote::Abort(Reason::Undercuts)];
+    for (message, vote) in asked.iter().zip(votes) {
+        assert_eq!(table.prepare(100, 10, message), Answer::Voted(vote));
+    }
+    (table, asked)
+}
+
+#[test]
+fn only_the_message_that_is_due() {
+    let group = Group::of(1).unwrap();
+    let x = tx(50, &[], &[(3, 7)]);
+    let messages = [
+        (Mark::Pr, bytes(|out| write_pr(&x, out)), Answer::Voted(Vote::Commit)),
+        (Mark::Lg, bytes(|out| write_lg(group, &x, &votes(Decision::Commit, 4), out)), Answer::Logged(Decision::Commit)),
+        (Mark::Dc, bytes(|out| write_dc(group, &x, &votes(Decision::Commit, 6), out)), Answer::Done),
+        (Mark::Rd, bytes(|out| write_rd(Key(3), Stamp(60), out)), Answer::Found(Version { stamp: Stamp(50), value: 7 }, Version { stamp: Stamp(0), value: 0 })),
+    ];
+    let mut table = Table::new(group, 8).unwrap();
+    for (mark, message, answer) in &messages {
+        let before = table.clone();
+        for (other, ..) in messages.iter().filter(|(other, ..)| other != mark) {
+            assert_eq!(table.due(*other, 100, 10, message), Answer::Refused(Refusal::Mark));
+        }
+        assert_eq!(table, before);
+        assert_eq!(table.due(*mark, 100, 10, message), *answer);
+    }
+}
+
+#[test]
+fn a_table_is_laid_out_as_the_header_says() {
+    use layout::*;
+    let group = Group::of(1).unwrap();
+    let (mut table, asked) = three_votes(group);
+    assert_eq!((table.bytes().len(), table.bytes()[0]), (table_len(3), 3));
+    let logged = bytes(|out| write_lg(group, &tx(50, &[], &[(3, 7)]), &votes(Decision::Commit, 4), out));
+    assert_eq!(table.log(100, 10, &logged), Answer::Logged(Decision::Commit));
+    let aborted = bytes(|out| write_dc(group, &tx(55, &[], &[(3, 8)]), &votes(Decision::Abort, 4), out));
+    assert_eq!(table.decide(100, 10, &aborted), Answer::Done);
+    let codes = [[1, 0, 1, 0], [3, 0, 0, 0], [2, 4, 0, 2]];
+    for ((row, codes), message) in table.bytes()[HEAD..].chunks(ROW).zip(codes).zip(asked) {
+        assert_eq!([row[VOTE_AT], row[REASON_AT], row[LOG_AT], row[DECIDED_AT]], codes);
+        assert_eq!(&row[BODY_AT..BODY_AT + message.len() - 2], &message[2..]);
+    }
+    let mut full = Table::kept(group, 2, table.bytes().to_vec(), *table.marks());
+    assert_eq!(full.receive(100, 10, &[]), Answer::Refused(Refusal::Table));
+    let mut short = Table::kept(group, 4, table.bytes().to_vec(), *table.marks());
+    assert_eq!(short.receive(100, 10, &[]), Answer::Refused(Refusal::Table));
+}
+
+#[test]
+fn a_vote_goes_to_the_tally_as_it_stands() {
+    use layout::*;
+    let group = Group::of(1).unwrap();
+    let (table, _) = three_votes(group);
+    let [commit, waiting, abort] = [0, 1, 2].map(|place| u64::from(table.bytes()[HEAD + ROW * place + VOTE_AT]));
+    assert_eq!([commit, abort, waiting], [Vote::Commit, Vote::Abort(Reason::Undercuts), Vote::Waiting].map(Vote::number));
+    let mut sheet = Sheet::new(group, Kind::Votes);
+    assert!(matches!(sheet.take_number(0, commit), Reply::Votes { .. }));
+    assert!(matches!(sheet.take_number(1, abort), Reply::Votes { .. }));
+    let before = sheet;
+    assert_eq!(sheet.take_number(2, waiting), Reply::Refused(Refusal::Code));
+    assert_eq!(sheet.take_number(2, 0), Reply::Refused(Refusal::Code));
+    assert_eq!(sheet, before);
+    assert_eq!((sheet.boxes(Decision::Commit), sheet.boxes(Decision::Abort)), (vec![0], vec![1]));
+    assert_eq!((Vote::Commit.decision(), Vote::Abort(Reason::Ahead).decision(), Vote::Waiting.decision()), (Some(Decision::Commit), Some(Decision::Abort), None));
 }
 
 #[test]

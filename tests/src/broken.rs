@@ -6,6 +6,7 @@ use crate::compare::{first_difference, first_difference_in_tally};
 use crate::engine::Entrance;
 use crate::member::{Engine, Member, Model};
 use crate::model::{self, Answer, Reply, Rule, Rules, Settings, Sheet, PAPER};
+use stobbarel::layout::{BODY_AT, HEAD, REASON_AT, ROW, VOTE_AT};
 
 /// Messages, or answers for sheets, within which the comparison has to notice a wrong box.
 const COMPARED: u64 = 50_000;
@@ -118,13 +119,25 @@ enum Bad {
     VotesCommit,
     StoresNothing,
     RepeatsItsFirstAnswer(Option<Answer>),
+    /// Whatever mark is due, it takes any.
+    TakesAnyMark,
+    /// It looks at the lowest byte only of the number that names the mark.
+    CutsTheNumber,
+    /// It refuses a number that is no mark before 14 and 16.
+    NumberFirst,
+    /// It refuses a number that is no mark after a message that is short.
+    MessageFirst,
+    /// It drops the entries that are above the capacity.
+    DropsEntries,
     /// Its tally counts a box that has not answered.
     InventsAnAnswer,
 }
 
 impl Member for Bad {
     fn call(&mut self, entrance: Entrance, table: &mut Vec<u8>, marks: &mut Vec<u64>, settings: &Settings, message: &[u8]) -> Result<Answer, String> {
-        let properly = |table: &mut Vec<u8>, marks: &mut Vec<u64>| Model(PAPER).call(entrance, table, marks, settings, message);
+        let by = |entrance, table: &mut Vec<u8>, marks: &mut Vec<u64>| Model(PAPER).call(entrance, table, marks, settings, message);
+        let properly = |table: &mut Vec<u8>, marks: &mut Vec<u64>| by(entrance, table, marks);
+        let no_mark = entrance.taken().is_empty();
         match self {
             Bad::RefusesAll => Ok(Answer::Refused(13)),
             Bad::VotesCommit => Ok(match properly(table, marks)? {
@@ -137,7 +150,21 @@ impl Member for Bad {
                 *first = Some(properly(table, marks)?);
                 Ok(first.unwrap())
             }
-            Bad::InventsAnAnswer => properly(table, marks),
+            Bad::TakesAnyMark if !no_mark => by(Entrance::Receive, table, marks),
+            Bad::CutsTheNumber => match entrance {
+                Entrance::Due(number) => by(Entrance::Due(number & 255), table, marks),
+                Entrance::Receive => properly(table, marks),
+            },
+            Bad::NumberFirst if no_mark => Ok(Answer::Refused(2)),
+            Bad::MessageFirst => Ok(match properly(table, marks)? {
+                Answer::Refused(2) if no_mark && message.len() < 2 => Answer::Refused(1),
+                other => other,
+            }),
+            Bad::DropsEntries if settings.in_order() && !table.is_empty() => {
+                table[0] = table[0].min(settings.capacity as u8);
+                properly(table, marks)
+            }
+            _ => properly(table, marks),
         }
     }
 
@@ -153,8 +180,9 @@ impl Member for Bad {
 
 /// The vote on the message's transaction becomes commit, in the table too.
 fn commit_instead(table: &mut [u8], message: &[u8]) -> Answer {
-    let row = table[1..].chunks_mut(176).find(|row| row[4..12] == message[6..14]).expect("a vote was stored");
-    row[172..174].copy_from_slice(&[2, 0]);
+    let stamp = BODY_AT + 4..BODY_AT + 12;
+    let row = table[HEAD..].chunks_mut(ROW).find(|row| row[stamp.clone()] == message[6..14]).expect("a vote was stored");
+    (row[VOTE_AT], row[REASON_AT]) = (1, 0);
     Answer::Commit
 }
 
@@ -181,6 +209,11 @@ pub fn check(most: u64, seed: u64) -> bool {
     passed &= compared("a box that votes the same every time", Bad::VotesCommit, seed, true);
     passed &= compared("a box that accepts and stores nothing", Bad::StoresNothing, seed, true);
     passed &= compared("a box that checks on its first call and repeats that answer", Bad::RepeatsItsFirstAnswer(None), seed, true);
+    passed &= compared("a box that takes any message, whatever is due", Bad::TakesAnyMark, seed, true);
+    passed &= compared("a box that cuts the number for the mark", Bad::CutsTheNumber, seed, true);
+    passed &= compared("a box that looks at that number before 14 and 16", Bad::NumberFirst, seed, true);
+    passed &= compared("a box that looks at the message before that number", Bad::MessageFirst, seed, true);
+    passed &= compared("a box that drops entries above its capacity", Bad::DropsEntries, seed, true);
     passed &= compared("a tally with an invented count", Bad::InventsAnAnswer, seed, true);
     passed &= compared("the engine", Engine, seed, false);
     println!("{}", if passed { "each broken rule and each bad box was noticed" } else { "FAILED" });

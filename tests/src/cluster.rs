@@ -1,5 +1,6 @@
 //! Many boxes at once: 5f + 1 of them, up to f of them liars, gateways that come, go on, die and take over, and a network that
-//! loses, doubles and reorders. After every call demand 3 is judged (judge.rs).
+//! loses, doubles and reorders. After every call demand 3 is judged (judge.rs). Messages come by every entrance, and now and then by
+//! a call that is refused for its mark, its numbers or its table, which must leave the box as it was.
 //!
 //! Lists keep to the demand's premise: under a sound box's number stands only what it gave for exactly this body; under a liar's
 //! number stands anything. A list that names a box twice is sent too: a box has to refuse it.
@@ -11,9 +12,13 @@ use crate::messages::{code, pr, rd, transaction, with_list};
 use crate::model::{Answer, Decision, Kind, Reply, Rules, Settings, Sheet, Transaction, PAPER};
 use crate::random::Random;
 use std::collections::{BTreeMap, VecDeque};
+use stobbarel::layout::{table_len, HEAD, ROW};
+
+/// The number of a wait, beside 1 and 2 for commit and abort.
+const WAITING: u64 = 3;
 
 /// What a standard number of runs has to meet.
-const EVENTS: [&str; 50] = [
+const EVENTS: [&str; 55] = [
     "run with f = 1",
     "run with f = 2",
     "run with f = 3",
@@ -42,13 +47,17 @@ const EVENTS: [&str; 50] = [
     "a held body was replaced",
     "abort 6, the body waited for replaced by one that lacks the key",
     "found",
+    "refused  2, another mark due",
+    "refused  2, a number that is no mark",
     "refused  6",
     "refused  7",
     "refused  9",
     "refused 10",
     "refused 11",
     "refused 13",
+    "refused 14",
     "refused 15",
+    "refused 16",
     "commit proof from votes",
     "commit proof from logs",
     "abort proof from votes",
@@ -63,6 +72,7 @@ const EVENTS: [&str; 50] = [
     "a message doubled",
     "a message overtaken",
     "a repeat on a gateway's sheet",
+    "a wait refused by a gateway's sheet",
     "a clock went back",
 ];
 
@@ -70,7 +80,7 @@ const EVENTS: [&str; 50] = [
 pub struct Counts {
     times: BTreeMap<&'static str, u64>,
     pub calls: u64,
-    /// Refusals that fair and well-formed messages cannot meet, 12 among them.
+    /// Refusals that fair and well-formed messages in calls that are in order cannot meet, 12 among them.
     pub unlisted: u64,
 }
 
@@ -252,18 +262,59 @@ impl<'a> Cluster<'a> {
         }
     }
 
-    /// A sound box is called.
+    /// A sound box is called, by one of the two entrances that take the message.
     fn call(&mut self, number: usize, message: &[u8]) -> Result<Answer, String> {
+        let own = message.first_chunk().and_then(Entrance::of).expect("a message has a mark");
+        if self.random.chance(4) {
+            self.misuse(number, own, message)?;
+        }
         self.counts.calls += 1;
+        let entrance = self.random.one_of(&[Entrance::Receive, own]);
         let Sound { table, marks, settings, .. } = &mut self.boxes[number];
-        let entrance = match &message[..2] {
-            _ if self.random.chance(50) => Entrance::Receive,
-            b"PR" => Entrance::Prepare,
-            b"LG" => Entrance::Log,
-            b"DC" => Entrance::Decide,
-            _ => Entrance::Read,
-        };
         self.one.call(entrance, table, marks, settings, message)
+    }
+
+    /// The same message in a call that is refused for its mark, its numbers or its table.
+    fn misuse(&mut self, number: usize, own: Entrance, message: &[u8]) -> Result<(), String> {
+        let random = &mut self.random;
+        let Sound { table, marks, settings, .. } = &mut self.boxes[number];
+        let (held, room) = (u64::from(table[0]), ((table.len() - HEAD) / ROW) as u64);
+        let (mut entrance, mut wrong) = (random.one_of(&[Entrance::Receive, own]), *settings);
+        let (event, due) = match random.below(5) {
+            0 => {
+                let others: Vec<u64> = (1..=4).filter(|mark| Entrance::Due(*mark) != own).collect();
+                entrance = Entrance::Due(random.one_of(&others));
+                ("refused  2, another mark due", 2)
+            }
+            1 => {
+                entrance = Entrance::Due(random.one_of(&Entrance::NO_MARK));
+                ("refused  2, a number that is no mark", 2)
+            }
+            2 => {
+                wrong.f = random.one_of(&[0, 6, 256 + wrong.f, u64::MAX]);
+                ("refused 14", 14)
+            }
+            3 => {
+                wrong.capacity = random.one_of(&[0, 256, 256 + wrong.capacity, u64::MAX]);
+                ("refused 14", 14)
+            }
+            _ => {
+                // too small for the entries, or too large for the slice
+                wrong.capacity = if held > 1 && random.chance(30) { held - 1 } else { random.between(room + 1, 255) };
+                ("refused 16", 16)
+            }
+        };
+        let before = (table.clone(), marks.clone());
+        let answer = self.one.call(entrance, table, marks, &wrong, message)?;
+        self.counts.calls += 1;
+        self.counts.count(event);
+        if self.plan.told {
+            println!("  box {number}: {entrance:?}, {wrong:?}: {answer:?}");
+        }
+        if answer != Answer::Refused(due) || (&before.0, &before.1) != (&*table, &*marks) {
+            return Err(format!("a call to be refused with {due} was answered {answer:?}, or changed the box"));
+        }
+        Ok(())
     }
 
     fn step(&mut self) -> Result<(), String> {
@@ -294,7 +345,8 @@ impl Sound {
         let capacity = if random.chance(90) { random.between(9, 14) } else { random.between(1, 5) };
         let clock = if random.chance(92) { base + spread } else { base + random.below(spread) };
         let settings = Settings { f, capacity, clock, delta: random.below(3) };
-        Sound { table: vec![0; 1 + capacity as usize * 176], marks: vec![0; 512], settings, held: BTreeMap::new() }
+        let beyond = if random.chance(20) { random.below(3 * ROW as u64) as usize } else { 0 };
+        Sound { table: vec![0; table_len(capacity as usize) + beyond], marks: vec![0; 512], settings, held: BTreeMap::new() }
     }
 }
 
@@ -722,6 +774,21 @@ impl Cluster<'_> {
         Ok(())
     }
 
+    /// A wait is no vote, and a gateway that takes it for one is told so.
+    fn put_wait_on_sheet(&mut self, letter: &Letter) -> Result<(), String> {
+        let gateway = &mut self.gateways[letter.from];
+        if !gateway.alive {
+            return Ok(());
+        }
+        let (before, sheet) = (gateway.votes, &mut gateway.votes);
+        let reply = self.one.tally(sheet, self.f, letter.to as u64, WAITING)?;
+        if reply != Reply::Refused(8) || *sheet != before {
+            return Err(format!("a wait on a sheet was answered {reply:?}, or changed it"));
+        }
+        self.counts.count("a wait refused by a gateway's sheet");
+        Ok(())
+    }
+
     /// What a sound box answered.
     fn hear(&mut self, letter: &Letter, answer: Answer) -> Result<(), String> {
         let body = self.gateways[letter.from].body;
@@ -733,7 +800,7 @@ impl Cluster<'_> {
                 self.counts.count("wait");
                 self.seen[body].waiting |= 1 << letter.to;
                 self.boxes[letter.to].held.insert(stamp, body);
-                Ok(())
+                self.put_wait_on_sheet(letter)
             }
             Answer::Logged(decision) => self.logged(letter, decision),
             Answer::Decided(decision) => {

@@ -1,13 +1,14 @@
 //! A box held against the model, message by message. After each call the answer and every byte of table and read marks are
-//! compared. It prints how often each answer, reason, refusal and case of the rules occurred; any disagreement, and any that did
-//! not occur at all, makes it fail.
+//! compared. It prints how often each answer, reason, refusal, case of the rules and circumstance of a call occurred; any
+//! disagreement, and any that did not occur at all, makes it fail.
 
 use crate::engine::{self, Entrance};
 use crate::member::Member;
 use crate::mix;
-use crate::model::{self, Answer, Decision, Reply, Settings, Sheet};
+use crate::model::{self, Answer, Decision, Reply, Settings, Sheet, MARKS};
 use crate::random::Random;
 use std::collections::BTreeMap;
+use stobbarel::layout::{table_len, HEAD, ROW};
 
 /// Every answer that a box can give; 17 is the writers'.
 const ANSWERS: [&str; 30] = [
@@ -61,29 +62,98 @@ fn hex(bytes: &[u8]) -> String {
     bytes.iter().map(|byte| format!("{byte:02x}")).collect::<Vec<_>>().join(" ")
 }
 
+/// Any of the ways in, mostly one that takes the message.
 fn entrance_for(random: &mut Random, message: &[u8]) -> Entrance {
-    if random.chance(60) {
-        return Entrance::Receive;
+    match random.below(100) {
+        0..=39 => Entrance::Receive,
+        40..=43 => Entrance::Due(random.between(1, 4)),
+        44..=45 => Entrance::Due(random.one_of(&Entrance::NO_MARK)),
+        _ => message.first_chunk().and_then(Entrance::of).unwrap_or(Entrance::Receive),
     }
-    if random.chance(5) {
-        return random.one_of(&[Entrance::Prepare, Entrance::Log, Entrance::Decide, Entrance::Read]);
-    }
-    match message.get(..2) {
-        Some(b"PR") => Entrance::Prepare,
-        Some(b"LG") => Entrance::Log,
-        Some(b"DC") => Entrance::Decide,
-        Some(b"RD") => Entrance::Read,
-        _ => Entrance::Receive,
-    }
+}
+
+/// How a message comes.
+#[derive(Clone, Copy)]
+struct How<'a> {
+    entrance: Entrance,
+    settings: Settings,
+    message: &'a [u8],
+    /// The number of the run, and whether this is the run's table or one that is lent for this call only.
+    run: u64,
+    own: bool,
 }
 
 /// A message, and what it is called on.
 struct Call<'a> {
-    entrance: Entrance,
+    how: How<'a>,
     table: &'a mut Vec<u8>,
     marks: &'a mut Vec<u64>,
-    settings: Settings,
-    message: &'a [u8],
+}
+
+/// Circumstances that a mixture of calls has to meet.
+const CIRCUMSTANCES: [&str; 10] = [
+    "due another mark than the message has",
+    "due no mark, and the message is short",
+    "due no mark, 14 before it",
+    "due no mark, 16 before it",
+    "a slice longer than the capacity needs, taken",
+    "a slice shorter than the capacity needs",
+    "more entries than the capacity",
+    "16 between two calls that were taken, on one table",
+    "another capacity than the call before had, both taken",
+    "a table that every entrance has changed or read",
+];
+
+/// What the calls of one run have met so far.
+#[derive(Default)]
+struct Trail {
+    run: u64,
+    /// The capacity of the last call that was past 14 and 16.
+    capacity: Option<u64>,
+    /// 16 has come since.
+    interrupted: bool,
+    /// The entrances of calls that were not refused: receive, and due for each mark.
+    used: [bool; 5],
+}
+
+impl Trail {
+    /// A call's circumstances, by the table as it was before and the answer.
+    fn follow(&mut self, how: How, before: &[u8], answer: Answer, met: &mut Vec<&'static str>) {
+        if self.run != how.run {
+            *self = Trail { run: how.run, ..Trail::default() };
+        }
+        let refused = if let Answer::Refused(number) = answer { number } else { 0 };
+        let mut meet = |circumstance: &'static str, does: bool| met.extend(does.then_some(circumstance));
+        let (mark, taken) = (how.message.first_chunk().filter(|mark| MARKS.contains(mark)), how.entrance.taken());
+        let no_mark = taken.is_empty();
+        meet("due another mark than the message has", refused == 2 && !no_mark && mark.is_some_and(|mark| !taken.contains(&mark)));
+        meet("due no mark, and the message is short", refused == 2 && no_mark && how.message.len() < 2);
+        meet("due no mark, 14 before it", refused == 14 && no_mark);
+        meet("due no mark, 16 before it", refused == 16 && no_mark);
+        if refused == 14 {
+            return;
+        }
+        let (capacity, needed) = (how.settings.capacity, table_len(how.settings.capacity as usize));
+        meet("a slice longer than the capacity needs, taken", refused != 16 && before.len() > needed);
+        meet("a slice shorter than the capacity needs", refused == 16 && before.len() < needed);
+        meet("more entries than the capacity", refused == 16 && before.len() >= needed && u64::from(before[0]) > capacity);
+        if !how.own {
+            return;
+        }
+        if refused == 16 {
+            self.interrupted = true;
+            return;
+        }
+        meet("16 between two calls that were taken, on one table", self.interrupted && self.capacity.is_some());
+        meet("another capacity than the call before had, both taken", self.capacity.is_some_and(|last| last != capacity));
+        self.interrupted = false;
+        self.capacity = Some(capacity);
+        if refused == 0 {
+            let whole = self.used.iter().all(|used| *used);
+            self.used[if let Entrance::Due(number) = how.entrance { number as usize } else { 0 }] = true;
+            meet("a table that every entrance has changed or read", !whole && self.used.iter().all(|used| *used));
+        }
+    }
 }
 
 /// What follows a message.
@@ -110,9 +180,10 @@ fn for_each_message(random: &mut Random, count: u64, mut act: impl FnMut(Call) -
             let entrance = entrance_for(random, &message);
             let mut broken = run.broken_table(random);
             let mut spare = if broken.is_some() { run.marks.clone() } else { Vec::new() };
+            let how = How { entrance, settings, message: &message, run: runs, own: broken.is_none() };
             then = match &mut broken {
-                Some(table) => act(Call { entrance, table, marks: &mut spare, settings, message: &message }),
-                None => act(Call { entrance, table: &mut run.table, marks: &mut run.marks, settings, message: &message }),
+                Some(table) => act(Call { how, table, marks: &mut spare }),
+                None => act(Call { how, table: &mut run.table, marks: &mut run.marks }),
             };
         }
     }
@@ -131,13 +202,13 @@ struct Copies {
 impl Copies {
     /// One call of the box and of the model on equal bytes; table and read marks become the model's. An error says how the two differ.
     fn call(&mut self, one: &mut dyn Member, call: Call, met: &mut Vec<&'static str>) -> (Answer, Result<(), String>) {
-        let Call { entrance, table, marks, settings, message } = call;
+        let Call { how: How { entrance, settings, message, .. }, table, marks } = call;
         self.got.clone_from(table);
         self.before.clone_from(table);
         self.got_marks.clone_from(marks);
         self.marks_before.clone_from(marks);
         let given = one.call(entrance, &mut self.got, &mut self.got_marks, &settings, message);
-        let due = model::call(table, marks, &settings, message, entrance.due(), met);
+        let due = model::call(table, marks, &settings, message, entrance.taken(), met);
         if given.as_ref() == Ok(&due) && self.got == *table && self.got_marks == *marks {
             return (due, Ok(()));
         }
@@ -149,7 +220,7 @@ impl Copies {
     fn differences(&self, table: &[u8], marks: &[u64]) -> String {
         let entries = self.before.first().copied().unwrap_or(0);
         let mut text = format!("  table before: {entries} entries, {} bytes\n", self.before.len());
-        for (i, row) in self.before.get(1..).unwrap_or(&[]).chunks(176).take(entries as usize).enumerate() {
+        for (i, row) in self.before.get(HEAD..).unwrap_or(&[]).chunks(ROW).take(entries as usize).enumerate() {
             text += &format!("    {i}: {}\n", hex(row));
         }
         for (i, (one, other)) in self.got.iter().zip(table).enumerate().filter(|(_, (one, other))| one != other) {
@@ -253,16 +324,17 @@ impl Counts {
     }
 
     fn messages(&mut self, one: &mut dyn Member, random: &mut Random, count: u64) -> u64 {
-        let (mut copies, mut met) = (Copies::default(), Vec::new());
+        let (mut copies, mut met, mut trail) = (Copies::default(), Vec::new(), Trail::default());
         for_each_message(random, count, |call| {
-            let (entrance, f, message) = (call.entrance, call.settings.f, call.message);
+            let how = call.how;
             let (due, agreed) = copies.call(one, call, &mut met);
+            trail.follow(how, &copies.before, due, &mut met);
             *self.answers.entry(name(due)).or_default() += 1;
-            *self.entrances.entry(entrance.name()).or_default() += 1;
+            *self.entrances.entry(how.entrance.name()).or_default() += 1;
             met.drain(..).for_each(|case| *self.cases.entry(case).or_default() += 1);
-            let (read, read_due) = (engine::reading(message, f), model::reading(message, f));
+            let (read, read_due) = (engine::reading(how.message, how.settings.f), model::reading(how.message, how.settings.f));
             if read != read_due {
-                self.disagreement(format!("reading {} alone: engine {read:?}, model {read_due:?}", hex(message)));
+                self.disagreement(format!("reading {} alone: engine {read:?}, model {read_due:?}", hex(how.message)));
             }
             match agreed {
                 Ok(()) => Then::GoOn,
@@ -309,14 +381,15 @@ pub fn check(one: &mut dyn Member, count: u64, seed: u64) -> bool {
     let mut counts = Counts::default();
     let runs = counts.messages(one, &mut random, count);
     println!("{count} messages in {runs} runs, seed {seed}, each also read alone");
-    let mut missing = print(&counts.entrances, &Entrance::ALL.map(Entrance::name));
+    let mut missing = print(&counts.entrances, &Entrance::NAMES);
     missing += print(&counts.answers, &ANSWERS);
     missing += print(&counts.cases, &model::CASES);
+    missing += print(&counts.cases, &CIRCUMSTANCES);
     counts.sheets(one, &mut random, count / 4);
     println!("{} answers for tally sheets", count / 4);
     for (reply, times) in &counts.replies {
         println!("{times:9}  {reply}");
     }
-    println!("{} disagreements, {missing} answers or cases did not occur", counts.disagreements);
+    println!("{} disagreements, {missing} answers, cases or circumstances did not occur", counts.disagreements);
     counts.disagreements == 0 && missing == 0
 }

@@ -1,13 +1,11 @@
 //! The engine's C functions, and one call of them on copies between guards.
 
-use crate::model::{Answer, Decision, Draft, ListDraft, Record, Reply, Settings, Sheet};
+use crate::model::{Answer, Decision, Draft, ListDraft, Record, Reply, Settings, Sheet, MARKS};
 
 #[allow(improper_ctypes)]
 extern "C" {
     fn stobbarel_receive(table: *mut u8, table_len: usize, marks: *mut u64, f: u64, capacity: u64, clock: u64, delta: u64, message: *const u8, message_len: usize, out: *mut u64);
-    fn stobbarel_prepare(table: *mut u8, table_len: usize, marks: *const u64, f: u64, capacity: u64, clock: u64, delta: u64, message: *const u8, message_len: usize, out: *mut u64);
-    fn stobbarel_log(table: *mut u8, table_len: usize, f: u64, capacity: u64, clock: u64, delta: u64, message: *const u8, message_len: usize, out: *mut u64);
-    fn stobbarel_decide(table: *mut u8, table_len: usize, f: u64, capacity: u64, clock: u64, delta: u64, message: *const u8, message_len: usize, out: *mut u64);
+    fn stobbarel_due(mark: u64, table: *mut u8, table_len: usize, marks: *mut u64, f: u64, capacity: u64, clock: u64, delta: u64, message: *const u8, message_len: usize, out: *mut u64);
     fn stobbarel_reading(f: u64, message: *const u8, message_len: usize) -> u8;
     fn stobbarel_part(f: u64, message: *const u8, message_len: usize) -> usize;
     fn stobbarel_tally(kind: u8, commits: *mut u32, aborts: *mut u32, f: u64, number: u64, answer: u64, reply: *mut u8);
@@ -17,42 +15,45 @@ extern "C" {
     fn stobbarel_write_tx(stamp: u64, r: usize, w: usize, reads: *const u16, versions: *const u64, writes: *const u16, values: *const u64, out: *mut u8, out_len: usize, length: *mut usize) -> u8;
     fn stobbarel_write_vl(f: u64, kind: u8, decision: u8, count: usize, numbers: *const u8, answers: *const u8, out: *mut u8, out_len: usize, length: *mut usize) -> u8;
     fn stobbarel_write_pr(stamp: u64, r: usize, w: usize, reads: *const u16, versions: *const u64, writes: *const u16, values: *const u64, out: *mut u8, out_len: usize, length: *mut usize) -> u8;
-    fn stobbarel_write_lg(f: u64, stamp: u64, r: usize, w: usize, reads: *const u16, versions: *const u64, writes: *const u16, values: *const u64, kind: u8, decision: u8, count: usize, numbers: *const u8, answers: *const u8, out: *mut u8, out_len: usize, length: *mut usize) -> u8;
-    fn stobbarel_write_dc(f: u64, stamp: u64, r: usize, w: usize, reads: *const u16, versions: *const u64, writes: *const u16, values: *const u64, kind: u8, decision: u8, count: usize, numbers: *const u8, answers: *const u8, out: *mut u8, out_len: usize, length: *mut usize) -> u8;
+    fn stobbarel_write_listed(mark: u64, f: u64, stamp: u64, r: usize, w: usize, reads: *const u16, versions: *const u64, writes: *const u16, values: *const u64, kind: u8, decision: u8, count: usize, numbers: *const u8, answers: *const u8, out: *mut u8, out_len: usize, length: *mut usize) -> u8;
     fn stobbarel_write_rd(key: u16, stamp: u64, out: *mut u8, out_len: usize, length: *mut usize) -> u8;
     fn stobbarel_thresholds(f: u64, out: *mut u64) -> u8;
-    fn stobbarel_read(table: *const u8, table_len: usize, marks: *mut u64, f: u64, capacity: u64, clock: u64, delta: u64, message: *const u8, message_len: usize, out: *mut u64);
 }
 
+/// By which function a message comes.
 #[derive(Clone, Copy, Debug, PartialEq, Eq)]
 pub enum Entrance {
+    /// `stobbarel_receive`.
     Receive,
-    Prepare,
-    Log,
-    Decide,
-    Read,
+    /// `stobbarel_due` with this number for the mark.
+    Due(u64),
 }
 
 impl Entrance {
-    pub const ALL: [Entrance; 5] = [Entrance::Receive, Entrance::Prepare, Entrance::Log, Entrance::Decide, Entrance::Read];
+    /// Numbers that are no mark's; some would be one if their upper half were dropped.
+    pub const NO_MARK: [u64; 7] = [0, 5, 9, 255, 256 + 1, (1 << 32) + 2, u64::MAX];
+
+    /// The one for messages with this mark alone.
+    pub fn of(mark: &[u8; 2]) -> Option<Entrance> {
+        MARKS.iter().position(|one| *one == mark).map(|place| Entrance::Due(place as u64 + 1))
+    }
+
+    pub const NAMES: [&'static str; 6] = ["by receive", "by due, PR", "by due, LG", "by due, DC", "by due, RD", "by due, a number that is no mark"];
 
     pub fn name(self) -> &'static str {
         match self {
-            Entrance::Receive => "by receive",
-            Entrance::Prepare => "by prepare",
-            Entrance::Log => "by log",
-            Entrance::Decide => "by decide",
-            Entrance::Read => "by read",
+            Entrance::Receive => Self::NAMES[0],
+            Entrance::Due(number @ 1..=4) => Self::NAMES[number as usize],
+            Entrance::Due(_) => Self::NAMES[5],
         }
     }
 
-    pub fn due(self) -> &'static [&'static [u8; 2]] {
+    /// The marks that are taken there.
+    pub fn taken(self) -> &'static [&'static [u8; 2]] {
         match self {
-            Entrance::Receive => &[b"PR", b"LG", b"DC", b"RD"],
-            Entrance::Prepare => &[b"PR"],
-            Entrance::Log => &[b"LG"],
-            Entrance::Decide => &[b"DC"],
-            Entrance::Read => &[b"RD"],
+            Entrance::Receive => &MARKS,
+            Entrance::Due(number @ 1..=4) => &MARKS[number as usize - 1..number as usize],
+            Entrance::Due(_) => &[],
         }
     }
 }
@@ -65,9 +66,9 @@ pub fn answer_of(out: [u64; 5]) -> Option<Answer> {
         _ => None,
     };
     match out {
-        [1, 2, 0, 0, 0] => Some(Answer::Commit),
-        [1, 1, 0, 0, 0] => Some(Answer::Wait),
-        [1, 3, reason @ 1..=6, 0, 0] => Some(Answer::Abort(reason as u8)),
+        [1, 1, 0, 0, 0] => Some(Answer::Commit),
+        [1, 2, reason @ 1..=6, 0, 0] => Some(Answer::Abort(reason as u8)),
+        [1, 3, 0, 0, 0] => Some(Answer::Wait),
         [2, code, 0, 0, 0] => decision(code).map(Answer::Decided),
         [3, code, 0, 0, 0] => decision(code).map(Answer::Logged),
         [4, 0, 0, 0, 0] => Some(Answer::Done),
@@ -95,10 +96,7 @@ pub fn call(entrance: Entrance, table: &mut Vec<u8>, marks: &mut Vec<u64>, s: &S
     unsafe {
         match entrance {
             Entrance::Receive => stobbarel_receive(t, n, k, s.f, s.capacity, s.clock, s.delta, m, l, o),
-            Entrance::Prepare => stobbarel_prepare(t, n, k, s.f, s.capacity, s.clock, s.delta, m, l, o),
-            Entrance::Log => stobbarel_log(t, n, s.f, s.capacity, s.clock, s.delta, m, l, o),
-            Entrance::Decide => stobbarel_decide(t, n, s.f, s.capacity, s.clock, s.delta, m, l, o),
-            Entrance::Read => stobbarel_read(t, n, k, s.f, s.capacity, s.clock, s.delta, m, l, o),
+            Entrance::Due(mark) => stobbarel_due(mark, t, n, k, s.f, s.capacity, s.clock, s.delta, m, l, o),
         }
     }
     if room[..GUARD].iter().chain(&room[GUARD + table.len()..]).any(|byte| *byte != 0xa5) {
@@ -157,7 +155,7 @@ pub fn write(record: &Record, f: u64, out: &mut Vec<u8>) -> Result<(u8, usize), 
     let (draft, list) = match record {
         Record::Tx(draft) | Record::Pr(draft) => (*draft, none.1),
         Record::Vl(list) => (none.0, *list),
-        Record::Lg(draft, list) | Record::Dc(draft, list) => (*draft, *list),
+        Record::Listed(_, draft, list) => (*draft, *list),
         Record::Rd { .. } => none,
     };
     let lent = (split(&draft.reads), split(&draft.writes), split(&list.pairs));
@@ -172,8 +170,7 @@ pub fn write(record: &Record, f: u64, out: &mut Vec<u8>) -> Result<(u8, usize), 
             Record::Tx(_) => stobbarel_write_tx(s, r, w, k, v, l, u, o, n, &mut length),
             Record::Vl(_) => stobbarel_write_vl(f, list.kind, list.decision, list.count, b, a, o, n, &mut length),
             Record::Pr(_) => stobbarel_write_pr(s, r, w, k, v, l, u, o, n, &mut length),
-            Record::Lg(..) => stobbarel_write_lg(f, s, r, w, k, v, l, u, list.kind, list.decision, list.count, b, a, o, n, &mut length),
-            Record::Dc(..) => stobbarel_write_dc(f, s, r, w, k, v, l, u, list.kind, list.decision, list.count, b, a, o, n, &mut length),
+            Record::Listed(mark, ..) => stobbarel_write_listed(*mark, f, s, r, w, k, v, l, u, list.kind, list.decision, list.count, b, a, o, n, &mut length),
             Record::Rd { key, stamp } => stobbarel_write_rd(*key, *stamp, o, n, &mut length),
         }
     };

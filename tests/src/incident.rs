@@ -19,6 +19,7 @@ use crate::judge::{Judge, Word};
 use crate::member::{Engine, Member, Model};
 use crate::messages::{pr, rd, transaction, with_list};
 use crate::model::{transaction_bytes, Answer, Decision, Kind, Reply, Rule, Rules, Settings, Sheet, Transaction, PAPER};
+use stobbarel::layout::table_len;
 use Decision::{Abort, Commit};
 use Kind::{Logs, Votes};
 
@@ -58,7 +59,7 @@ struct Line<'a> {
 
 impl Line<'_> {
     fn new(one: &mut dyn Member) -> Line<'_> {
-        let empty = (vec![0; 1 + 8 * 176], vec![0; 512]);
+        let empty = (vec![0; table_len(8)], vec![0; 512]);
         Line { one, boxes: vec![empty; SOUND.len()] }
     }
 

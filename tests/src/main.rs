@@ -2,7 +2,6 @@
 
 mod bench;
 mod broken;
-mod cases;
 mod cluster;
 mod compare;
 mod engine;
@@ -14,6 +13,8 @@ mod mix;
 mod model;
 mod random;
 mod records;
+mod stored;
+mod vectors;
 
 use member::{Beside, Engine};
 use random::Random;
@@ -21,12 +22,14 @@ use std::io::{Read, Write};
 use std::process::exit;
 
 const USAGE: &str = "\
-stobbarel-tests [compare] [COUNT [SEED]]   the paper's cases, then COUNT messages (2000000) on the engine and on the model
+stobbarel-tests [compare] [COUNT [SEED]]   COUNT messages (2000000) on the engine and on the model
+stobbarel-tests vectors                    records read and written, messages by each entrance, answers taken by a tally sheet, as the paper has them
 stobbarel-tests records [COUNT [SEED]]     COUNT records (500000) written by engine and model, each read as it is and damaged
 stobbarel-tests cluster [RUNS [SEED]]      RUNS clusters (20000) of the engine, demand 3 judged after every call
 stobbarel-tests broken [MOST [SEED]]       boxes with a broken rule, and bad boxes: each must be noticed, within MOST clusters (20000)
 stobbarel-tests incident                   the night that one correction was decided both ways, and why it cannot be again
 stobbarel-tests bench PROGRAM [RUNS [SEED]]  RUNS inputs (400) for the bench program, its output against the model's
+stobbarel-tests stored PROGRAM FOLDER      the folder's stored input for the bench program, and what it has to print
 stobbarel-tests model-bench                the model's bench, from standard input to standard output";
 
 fn usage() -> ! {
@@ -44,9 +47,7 @@ fn number(words: &[String], place: usize, default: u64) -> u64 {
 
 fn compare(words: &[String]) -> bool {
     let (count, seed) = (number(words, 0, 2_000_000), number(words, 1, 1));
-    let (compared, wrong) = cases::run();
-    println!("the paper's 14 cases with f = 1 and f = 5: {compared} answers compared, {wrong} differ");
-    compare::check(&mut Engine, count, seed) && wrong == 0
+    compare::check(&mut Engine, count, seed)
 }
 
 fn records(words: &[String]) -> bool {
@@ -71,9 +72,11 @@ fn main() {
     let passed = match words.first().map(String::as_str) {
         Some("compare") => compare(rest),
         Some("records") => records(rest),
+        Some("vectors") => vectors::check(),
         Some("cluster") => cluster::check(&mut Beside, number(rest, 0, 20_000), number(rest, 1, 1)),
         Some("broken") => broken::check(number(rest, 0, 20_000), number(rest, 1, 1)),
         Some("incident") => incident::check(),
+        Some("stored") if rest.len() == 2 => stored::check(&rest[0], &rest[1]),
         Some("model-bench") => model_bench(),
         Some("bench") if !rest.is_empty() => bench::check(&rest[0], number(rest, 1, 400), number(rest, 2, 1)),
         Some(word) if word.parse::<u64>().is_err() => usage(),

@@ -28,7 +28,7 @@ pub struct Model(pub Rules);
 
 impl Member for Model {
     fn call(&mut self, entrance: Entrance, table: &mut Vec<u8>, marks: &mut Vec<u64>, settings: &Settings, message: &[u8]) -> Result<Answer, String> {
-        Ok(model::call_by(self.0, table, marks, settings, message, entrance.due(), &mut Vec::new()))
+        Ok(model::call_by(self.0, table, marks, settings, message, entrance.taken(), &mut Vec::new()))
     }
 
     fn tally(&mut self, sheet: &mut Sheet, f: u64, number: u64, answer: u64) -> Result<Reply, String> {

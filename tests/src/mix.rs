@@ -1,8 +1,15 @@
 //! Runs of messages that a seed determines: few keys, stamps near each other, versions read from what is held,
-//! lists on both sides of each threshold, and every kind of damage.
+//! lists on both sides of each threshold, capacities that change from call to call, and every kind of damage.
 
-use crate::model::{entries_of, transaction_bytes, Decision, Entry, Settings, Transaction, Vote, THRESHOLDS};
+use crate::model::{entries_of, row_at, transaction_bytes, Decision, Entry, Settings, Transaction, Vote, THRESHOLDS};
 use crate::random::Random;
+use stobbarel::layout::{table_len, BODY_AT, DECIDED_AT, HEAD, LOG_AT, REASON_AT, ROW, VOTE_AT};
+
+/// Where in a row the counts of its body, the stamp, and the first two keys stand.
+const COUNTS: [usize; 2] = [BODY_AT + 2, BODY_AT + 3];
+const STAMP: usize = BODY_AT + 4;
+const KEY: usize = BODY_AT + 12;
+const NEXT_KEY: usize = BODY_AT + 22;
 
 pub struct Run {
     pub settings: Settings,
@@ -17,6 +24,8 @@ pub struct Run {
     damage: u64,
     /// How many calls in a hundred lend a damaged table.
     lent: u64,
+    /// How many calls in a hundred come with another capacity.
+    shifts: u64,
     pub left: u64,
 }
 
@@ -33,7 +42,8 @@ impl Run {
         let left = random.between(4, 12 + 4 * capacity.min(40));
         let damage = random.one_of(&[0, 5, 15, 60]);
         let lent = random.one_of(&[0, 0, 0, 4, 30]);
-        let mut run = Run { settings, table, marks, keys, base, spread, bodies: Vec::new(), damage, lent, left };
+        let shifts = random.one_of(&[0, 0, 0, 10, 50]);
+        let mut run = Run { settings, table, marks, keys, base, spread, bodies: Vec::new(), damage, lent, shifts, left };
         run.settings.delta = delta(random, spread);
         run.turn_clock(random);
         run
@@ -64,8 +74,13 @@ impl Run {
         chosen
     }
 
+    /// How many entries the slice has room for, whatever the capacity.
+    fn room(&self) -> u64 {
+        ((self.table.len() - HEAD) / ROW).min(255) as u64
+    }
+
     fn held(&self) -> Vec<Entry> {
-        entries_of(&self.table, self.settings.capacity as usize).unwrap_or_default()
+        entries_of(&self.table, self.room() as usize).unwrap_or_default()
     }
 
     fn body(&self, random: &mut Random, stamp: u64) -> Transaction {
@@ -251,7 +266,8 @@ impl Run {
 
     pub fn message(&mut self, random: &mut Random) -> Vec<u8> {
         if random.chance(1) {
-            return (0..random.below(40)).map(|_| random.next() as u8).collect();
+            let most = random.one_of(&[2, 40]);
+            return (0..random.below(most)).map(|_| random.next() as u8).collect();
         }
         let mut message = self.sound_message(random);
         if random.chance(self.damage) {
@@ -262,12 +278,33 @@ impl Run {
         message
     }
 
+    /// Beside the number of entries, beside what the slice has room for, or anywhere.
+    fn other_capacity(&self, random: &mut Random) -> u64 {
+        let (held, room) = (u64::from(self.table[0]), self.room());
+        match random.below(8) {
+            0 => held.saturating_sub(1),
+            1 => held,
+            2 => held + 1,
+            3 => room,
+            4 => room + 1,
+            5 => random.between(1, 255),
+            _ => random.between(1, room),
+        }
+    }
+
     /// Settings for the next call; now and then not in order.
     pub fn next_settings(&mut self, random: &mut Random) -> Settings {
         if random.chance(25) {
             self.turn_clock(random);
         }
+        // a table that has outgrown its box is refused until the box has grown too
+        if u64::from(self.table[0]) > self.settings.capacity && random.chance(50) {
+            self.settings.capacity = self.room();
+        }
         let mut settings = self.settings;
+        if random.chance(self.shifts) {
+            settings.capacity = self.other_capacity(random);
+        }
         if random.chance(1) {
             settings.f = random.one_of(&[0, 6, 7, 255, 256 + 1, u64::MAX, (1 << 32) + 1]);
         }
@@ -303,29 +340,32 @@ impl Run {
     /// Where one of the entries begins.
     fn some_row(&self, random: &mut Random) -> usize {
         let entries = self.table[0] as u64;
-        1 + 176 * random.below(entries.max(1)) as usize
+        row_at(random.below(entries.max(1)) as usize)
     }
 
     /// Vote, reason, log or decision of the entry at `row`.
     fn disturb_codes(&mut self, random: &mut Random, row: usize, choice: u64) {
         match choice {
-            0 => self.table[row + 172] = random.below(4) as u8,
+            0 => self.table[row + VOTE_AT] = random.below(4) as u8,
             1 => {
                 let row = self.waited_for().unwrap_or(row);
-                self.table[row + 172] = 3;
-                self.table[row + 173] = random.between(1, 6) as u8;
+                self.table[row + VOTE_AT] = 2;
+                self.table[row + REASON_AT] = random.between(1, 6) as u8;
             }
             2 => {
-                self.table[row + 172] = random.below(3) as u8;
-                self.table[row + 173] = 0;
+                self.table[row + VOTE_AT] = random.one_of(&[0, 1, 3]);
+                self.table[row + REASON_AT] = 0;
             }
-            3 => self.table[row + 174] = random.below(3) as u8,
-            4 | 5 => self.table[row + 175] = random.below(3) as u8,
-            _ => {
-                self.table[row + 172] = 0;
-                self.table[row + 173] = 0;
-                self.table[row + 175] = 0;
-            }
+            3 => self.table[row + LOG_AT] = random.below(3) as u8,
+            4 | 5 => self.table[row + DECIDED_AT] = random.below(3) as u8,
+            _ => self.unvote(row),
+        }
+    }
+
+    /// Neither a vote nor a decision at `row`.
+    fn unvote(&mut self, row: usize) {
+        for code in [VOTE_AT, REASON_AT, DECIDED_AT] {
+            self.table[row + code] = 0;
         }
     }
 
@@ -335,22 +375,22 @@ impl Run {
         let waiting = held.iter().filter(|entry| entry.decision.is_none() && entry.vote == Vote::Waiting);
         let versions: Vec<u64> = waiting.flat_map(|entry| entry.body.reads.iter().map(|read| read.1)).collect();
         let place = held.iter().position(|entry| entry.decision.is_none() && versions.contains(&entry.body.stamp))?;
-        Some(1 + 176 * place)
+        Some(row_at(place))
     }
 
     /// Stamp, keys, counts or any byte of the entry at `row`, or all of it, at times as they are at `other`.
     fn disturb_body(&mut self, random: &mut Random, row: usize, other: usize, choice: u64) {
         match choice {
-            8 | 9 => self.table.copy_within(other + 4..other + 12, row + 4),
-            10 => self.table[row + 4..row + 12].copy_from_slice(&random.below(2).to_le_bytes()),
-            11 => self.table.copy_within(row + 12..row + 14, row + 22),
-            12 => self.table.copy_within(other..other + 176, row),
+            8 | 9 => self.table.copy_within(other + STAMP..other + STAMP + 8, row + STAMP),
+            10 => self.table[row + STAMP..row + STAMP + 8].copy_from_slice(&random.below(2).to_le_bytes()),
+            11 => self.table.copy_within(row + KEY..row + KEY + 2, row + NEXT_KEY),
+            12 => self.table.copy_within(other..other + ROW, row),
             13 => {
-                let at = random.below(176) as usize;
+                let at = random.below(ROW as u64) as usize;
                 self.table[row + at] = random.next() as u8;
             }
             _ => {
-                let at = random.one_of(&[2usize, 3]);
+                let at = random.one_of(&COUNTS);
                 self.table[row + at] = random.below(9) as u8;
             }
         }
@@ -358,10 +398,12 @@ impl Run {
 
     /// One stamp twice: the first without a vote, the second live.
     fn hold_twice(&mut self, random: &mut Random, first: usize, second: usize) {
-        self.table.copy_within(first + 4..first + 12, second + 4);
-        self.table[second + 172..second + 176].copy_from_slice(&[random.between(1, 2) as u8, 0, 0, random.below(2) as u8]);
-        self.table[first + 172..first + 174].copy_from_slice(&[0, 0]);
-        self.table[first + 175] = 0;
+        self.table.copy_within(first + STAMP..first + STAMP + 8, second + STAMP);
+        self.table[second + VOTE_AT] = random.one_of(&[1, 3]);
+        self.table[second + REASON_AT] = 0;
+        self.table[second + LOG_AT] = 0;
+        self.table[second + DECIDED_AT] = random.below(2) as u8;
+        self.unvote(first);
     }
 
     /// Damage that is lent for one call only, most of it refused with 16.
@@ -373,12 +415,12 @@ impl Run {
         let row = self.some_row(random);
         match random.below(8) {
             0 => table[0] = random.one_of(&[self.settings.capacity as u8, (self.settings.capacity as u8).wrapping_add(1), 255]),
-            1 => table[row + 2] = random.one_of(&[8, 9, 255]),
-            2 => table[row + 3] = random.one_of(&[8, 9, 255]),
-            3 => table[row + 172] = random.between(3, 5) as u8,
-            4 => table[row + 173] = random.between(0, 7) as u8,
-            5 => table[row + 174] = random.between(2, 4) as u8,
-            6 => table[row + 175] = random.between(2, 4) as u8,
+            1 => table[row + COUNTS[0]] = random.one_of(&[8, 9, 255]),
+            2 => table[row + COUNTS[1]] = random.one_of(&[8, 9, 255]),
+            3 => table[row + VOTE_AT] = random.one_of(&[2, 3, 4, 5, 255]),
+            4 => table[row + REASON_AT] = random.between(0, 7) as u8,
+            5 => table[row + LOG_AT] = random.one_of(&[2, 3, 4, 255]),
+            6 => table[row + DECIDED_AT] = random.one_of(&[2, 3, 4, 255]),
             _ => {
                 let length = random.below(table.len() as u64 + 1) as usize;
                 table.truncate(length);
@@ -414,7 +456,12 @@ fn capacity(random: &mut Random) -> u64 {
 
 /// No entries; what lies behind the count need not be zero, nor the table end where the capacity does.
 fn empty_table(random: &mut Random, capacity: u64) -> Vec<u8> {
-    let length = 1 + capacity as usize * 176 + if random.chance(10) { random.below(400) as usize } else { 0 };
+    let beyond = match random.below(10) {
+        0 => random.below(400) as usize,
+        1 => random.below(20 * ROW as u64) as usize,
+        _ => 0,
+    };
+    let length = table_len(capacity as usize) + beyond;
     let mut table: Vec<u8> = (0..length).map(|_| if random.chance(10) { random.next() as u8 } else { 0 }).collect();
     table[0] = 0;
     table

@@ -1,6 +1,9 @@
 //! A box as the paper describes it, in ordinary Rust: records read from bytes, a list of entries, and the four messages.
-//! It is written from the paper, with docs/DECISIONS.md where that leaves room, and shares no code with the engine that it is held against.
+//! It is written from the paper, with docs/DECISIONS.md where that leaves room, and shares no code with the engine that it is held against;
+//! how a lent table is laid out is the interface's, from include/stobbarel.h.
 //! `self.rules.hold(..)` marks the rules that broken.rs breaks, one at a time; in the paper's box all of them hold.
+
+use stobbarel::layout::{table_len, BODY_AT, DECIDED_AT, HEAD, LOG_AT, REASON_AT, ROW, VOTE_AT};
 
 /// For each f from 1 on: commit list, abort list, commit proof, abort proof, proof from logs.
 pub const THRESHOLDS: [[usize; 5]; 5] = [
@@ -180,6 +183,11 @@ impl Settings {
 
 // ---- records
 
+/// The marks of the four messages; the interface names them by their places, from 1 on.
+pub const MARKS: [&[u8; 2]; 4] = [b"PR", b"LG", b"DC", b"RD"];
+pub const LG: u64 = 2;
+pub const DC: u64 = 3;
+
 const SHORT: u8 = 1;
 const MARK: u8 = 2;
 const COUNT: u8 = 3;
@@ -315,7 +323,7 @@ fn judge_list(cut: &CutList, settings: &Settings, logs_allowed: bool, rules: Rul
 /// How long the message is that these bytes begin with, whatever follows it; or why it cannot be cut.
 pub fn cut(bytes: &[u8]) -> Result<usize, u8> {
     let mut left = Bytes(bytes);
-    let mark = left.mark(&[b"PR", b"LG", b"DC", b"RD"])?;
+    let mark = left.mark(&MARKS)?;
     if &mark == b"RD" {
         left.next(10)?;
     } else {
@@ -702,7 +710,7 @@ pub fn reading(message: &[u8], f: u64) -> Result<usize, u8> {
     if !settings.in_order() {
         return Err(GROUP);
     }
-    match read_message(message, &settings, &[b"PR", b"LG", b"DC", b"RD"], PAPER)? {
+    match read_message(message, &settings, &MARKS, PAPER)? {
         Message::Prepare(tx) | Message::Log(tx, _) | Message::Decide(tx, _) => Ok(12 + 10 * (tx.reads.len() + tx.writes.len())),
         Message::Read { .. } => Ok(0),
     }
@@ -734,8 +742,8 @@ pub enum Record {
     Tx(Draft),
     Vl(ListDraft),
     Pr(Draft),
-    Lg(Draft, ListDraft),
-    Dc(Draft, ListDraft),
+    /// An LG or a DC, by the number of the mark; there is a writer for any number.
+    Listed(u64, Draft, ListDraft),
     Rd { key: u16, stamp: u64 },
 }
 
@@ -775,13 +783,6 @@ fn group(f: u64) -> Result<Settings, u8> {
 
 /// "3, the content order without 15, then 17": the record's bytes for a buffer with this room, or the refusal.
 pub fn written(record: &Record, f: u64, room: usize) -> Result<Vec<u8>, u8> {
-    let listed = |mark: &[u8; 2], draft: &Draft, list: &ListDraft, logs_allowed| -> Result<Vec<u8>, u8> {
-        let settings = group(f)?;
-        let (tx, list) = (draft.counted()?, list.counted()?);
-        judge_transaction(&tx, PAPER)?;
-        judge_list(&list, &settings, logs_allowed, PAPER)?;
-        Ok([mark.to_vec(), transaction_bytes(&tx), list_bytes(&list)].concat())
-    };
     let bytes = match record {
         Record::Tx(draft) | Record::Pr(draft) => {
             let tx = draft.counted()?;
@@ -795,8 +796,18 @@ pub fn written(record: &Record, f: u64, room: usize) -> Result<Vec<u8>, u8> {
             judge_list(&list, &settings, true, PAPER)?;
             list_bytes(&list)
         }
-        Record::Lg(draft, list) => listed(b"LG", draft, list, false)?,
-        Record::Dc(draft, list) => listed(b"DC", draft, list, true)?,
+        Record::Listed(number, draft, list) => {
+            let settings = group(f)?;
+            let (tx, list) = (draft.counted()?, list.counted()?);
+            judge_transaction(&tx, PAPER)?;
+            let mark: &[u8; 2] = match *number {
+                LG => b"LG",
+                DC => b"DC",
+                _ => return Err(MARK),
+            };
+            judge_list(&list, &settings, mark == b"DC", PAPER)?;
+            [mark.to_vec(), transaction_bytes(&tx), list_bytes(&list)].concat()
+        }
         Record::Rd { key, stamp } => {
             if *stamp == 0 || *key > 511 {
                 return Err(RANGE);
@@ -847,10 +858,10 @@ pub fn fields(message: &[u8], f: u64) -> Result<Record, u8> {
         pairs: front(&list.answers.iter().map(|(number, answer)| (*number, code(*answer))).collect::<Vec<_>>()),
     };
     let settings = group(f)?;
-    Ok(match read_message(message, &settings, &[b"PR", b"LG", b"DC", b"RD"], PAPER)? {
+    Ok(match read_message(message, &settings, &MARKS, PAPER)? {
         Message::Prepare(tx) => Record::Pr(draft(&tx)),
-        Message::Log(tx, list) => Record::Lg(draft(&tx), listed(&list)),
-        Message::Decide(tx, list) => Record::Dc(draft(&tx), listed(&list)),
+        Message::Log(tx, list) => Record::Listed(LG, draft(&tx), listed(&list)),
+        Message::Decide(tx, list) => Record::Listed(DC, draft(&tx), listed(&list)),
         Message::Read { key, stamp } => Record::Rd { key, stamp },
     })
 }
@@ -919,7 +930,10 @@ pub fn tally(sheet: &mut Sheet, f: u64, number: u64, answer: u64) -> Reply {
 
 // ---- a lent table
 
-const ROW: usize = 176;
+/// Where in a table the row of the entry at this place begins.
+pub const fn row_at(place: usize) -> usize {
+    HEAD + place * ROW
+}
 
 fn settled(code: u8) -> Option<Option<Decision>> {
     match code {
@@ -932,32 +946,33 @@ fn settled(code: u8) -> Option<Option<Decision>> {
 
 /// The entry of a row; none where a count or a code is outside its list.
 fn entry_of(row: &[u8]) -> Option<Entry> {
-    let (r, w) = (row[2] as usize, row[3] as usize);
+    let tx = &row[BODY_AT..];
+    let (r, w) = (tx[2] as usize, tx[3] as usize);
     if r > 8 || w > 8 {
         return None;
     }
-    let vote = match (row[172], row[173]) {
+    let vote = match (row[VOTE_AT], row[REASON_AT]) {
         (0, 0) => Vote::None,
-        (1, 0) => Vote::Waiting,
-        (2, 0) => Vote::Commit,
-        (3, reason @ 1..=6) => Vote::Abort(reason),
+        (1, 0) => Vote::Commit,
+        (2, reason @ 1..=6) => Vote::Abort(reason),
+        (3, 0) => Vote::Waiting,
         _ => return None,
     };
     let body = Transaction {
-        mark: [row[0], row[1]],
-        stamp: little(&row[4..12]),
-        reads: pairs(&row[12..12 + 10 * r]),
-        writes: pairs(&row[12 + 10 * r..12 + 10 * (r + w)]),
+        mark: [tx[0], tx[1]],
+        stamp: little(&tx[4..12]),
+        reads: pairs(&tx[12..12 + 10 * r]),
+        writes: pairs(&tx[12 + 10 * r..12 + 10 * (r + w)]),
     };
-    Some(Entry { body, vote, log: settled(row[174])?, decision: settled(row[175])? })
+    Some(Entry { body, vote, log: settled(row[LOG_AT])?, decision: settled(row[DECIDED_AT])? })
 }
 
 /// The entries of a lent table, or none where it is refused.
 pub fn entries_of(table: &[u8], capacity: usize) -> Option<Vec<Entry>> {
-    if table.len() < 1 + capacity * ROW || table[0] as usize > capacity {
+    if table.len() < table_len(capacity) || table[0] as usize > capacity {
         return None;
     }
-    table[1..].chunks(ROW).take(table[0] as usize).map(entry_of).collect()
+    table[HEAD..].chunks(ROW).take(table[0] as usize).map(entry_of).collect()
 }
 
 pub fn transaction_bytes(tx: &Transaction) -> Vec<u8> {
@@ -972,25 +987,25 @@ pub fn transaction_bytes(tx: &Transaction) -> Vec<u8> {
     bytes
 }
 
-/// An entry put down in its row: body and codes, what stands between them being left.
+/// An entry put down in its row: codes and body, what stands behind them being left.
 fn put_entry(row: &mut [u8], entry: &Entry) {
-    let body = transaction_bytes(&entry.body);
-    row[..body.len()].copy_from_slice(&body);
     let number = |settled: Option<Decision>| match settled {
         None => 0,
         Some(Decision::Commit) => 1,
         Some(Decision::Abort) => 2,
     };
-    let (vote, reason) = match entry.vote {
+    (row[VOTE_AT], row[REASON_AT]) = match entry.vote {
         Vote::None => (0, 0),
-        Vote::Waiting => (1, 0),
-        Vote::Commit => (2, 0),
-        Vote::Abort(reason) => (3, reason),
+        Vote::Commit => (1, 0),
+        Vote::Abort(reason) => (2, reason),
+        Vote::Waiting => (3, 0),
     };
-    row[172..176].copy_from_slice(&[vote, reason, number(entry.log), number(entry.decision)]);
+    (row[LOG_AT], row[DECIDED_AT]) = (number(entry.log), number(entry.decision));
+    let body = transaction_bytes(&entry.body);
+    row[BODY_AT..BODY_AT + body.len()].copy_from_slice(&body);
 }
 
-/// One call: the answer, with table and read marks as they stand afterwards; `met` takes the cases that it met.
+/// One call of an entrance that takes the marks `due`: the answer, with table and read marks as they stand afterwards; `met` takes the cases that it met.
 pub fn call(table: &mut [u8], marks: &mut Vec<u64>, settings: &Settings, message: &[u8], due: &[&[u8; 2]], met: &mut Vec<&'static str>) -> Answer {
     call_by(PAPER, table, marks, settings, message, due, met)
 }
@@ -1003,6 +1018,10 @@ pub fn call_by(rules: Rules, table: &mut [u8], marks: &mut Vec<u64>, settings: &
     let Some(entries) = entries_of(table, settings.capacity as usize) else {
         return Answer::Refused(TABLE);
     };
+    // the number lent for the mark is none, whatever the message
+    if due.is_empty() {
+        return Answer::Refused(MARK);
+    }
     let read = match read_message(message, settings, due, rules) {
         Ok(read) => read,
         Err(number) => return Answer::Refused(number),
@@ -1019,7 +1038,7 @@ pub fn call_by(rules: Rules, table: &mut [u8], marks: &mut Vec<u64>, settings: &
     *marks = store.marks;
     met.append(&mut store.met);
     if let Some(place) = store.touched {
-        put_entry(&mut table[1 + place * ROW..1 + (place + 1) * ROW], &store.entries[place]);
+        put_entry(&mut table[row_at(place)..row_at(place + 1)], &store.entries[place]);
         table[0] = store.entries.len() as u8;
     }
     answer

@@ -1,7 +1,7 @@
 //! Records written, read by themselves and taken apart, against the model: every answer, and every byte of the buffer.
 
 use crate::engine;
-use crate::model::{self, Draft, ListDraft, Record};
+use crate::model::{self, Draft, ListDraft, Record, DC, LG};
 use crate::random::Random;
 use std::collections::BTreeMap;
 
@@ -12,12 +12,13 @@ pub struct Outcome {
 }
 
 /// Every answer that each can give.
-const REACHABLE: [(&str, &[u8]); 10] = [
+const REACHABLE: [(&str, &[u8]); 11] = [
     ("write TX", &[0, 3, 5, 6, 7, 17]),
     ("write VL", &[0, 14, 3, 8, 5, 6, 17]),
     ("write PR", &[0, 3, 5, 6, 7, 17]),
     ("write LG", &[0, 14, 3, 5, 6, 7, 8, 17]),
     ("write DC", &[0, 14, 3, 5, 6, 7, 8, 17]),
+    ("write no mark", &[14, 3, 5, 6, 7, 2]),
     ("write RD", &[0, 5, 17]),
     ("read TX", &[0, 1, 2, 3, 4, 5, 6, 7]),
     ("read VL", &[0, 14, 1, 2, 3, 4, 8, 5, 6]),
@@ -48,7 +49,7 @@ impl Outcome {
                     format!("{number}: {times}{}", if times == 0 { " DID NOT OCCUR" } else { "" })
                 })
                 .collect();
-            println!("{who:>10}  {}", times.join(", "));
+            println!("{who:>13}  {}", times.join(", "));
         }
         missing
     }
@@ -144,6 +145,7 @@ fn record(random: &mut Random, f: u64) -> Record {
     if which == 3 && random.chance(85) {
         vl.kind = 1;
     }
+    let named = |random: &mut Random, mark| if random.chance(94) { mark } else { random.one_of(&[0, 1, 4, 5, 9, 255, 256 + mark, (1 << 32) + mark, u64::MAX]) };
     if random.chance(45) {
         for _ in 0..random.one_of(&[1, 1, 1, 2, 4]) {
             if which == 1 || (which > 2 && random.chance(50)) {
@@ -158,8 +160,8 @@ fn record(random: &mut Random, f: u64) -> Record {
         0 => Record::Tx(tx),
         1 => Record::Vl(vl),
         2 => Record::Pr(tx),
-        3 => Record::Lg(tx, vl),
-        4 => Record::Dc(tx, vl),
+        3 => Record::Listed(named(random, LG), tx, vl),
+        4 => Record::Listed(named(random, DC), tx, vl),
         _ => Record::Rd { key, stamp: if random.chance(20) { 0 } else { tx.stamp } },
     }
 }
@@ -169,8 +171,9 @@ fn writer(record: &Record) -> &'static str {
         Record::Tx(_) => "write TX",
         Record::Vl(_) => "write VL",
         Record::Pr(_) => "write PR",
-        Record::Lg(..) => "write LG",
-        Record::Dc(..) => "write DC",
+        Record::Listed(LG, ..) => "write LG",
+        Record::Listed(DC, ..) => "write DC",
+        Record::Listed(..) => "write no mark",
         Record::Rd { .. } => "write RD",
     }
 }
@@ -240,10 +243,9 @@ fn compare_readers(outcome: &mut Outcome, bytes: &[u8], f: u64) {
     outcome.note("read VL", vl, got_vl == vl, || format!("f {f}, {bytes:?}: engine {got_vl}"));
     let due = model::fields(bytes, f);
     let (mark, key, tx, vl) = match due {
-        Ok(Record::Pr(tx)) => (3, 0, tx, ListDraft::default()),
-        Ok(Record::Lg(tx, vl)) => (4, 0, tx, vl),
-        Ok(Record::Dc(tx, vl)) => (5, 0, tx, vl),
-        Ok(Record::Rd { key, stamp }) => (6, u64::from(key), Draft { stamp, ..Draft::default() }, ListDraft::default()),
+        Ok(Record::Pr(tx)) => (1, 0, tx, ListDraft::default()),
+        Ok(Record::Listed(mark, tx, vl)) => (mark, 0, tx, vl),
+        Ok(Record::Rd { key, stamp }) => (4, u64::from(key), Draft { stamp, ..Draft::default() }, ListDraft::default()),
         _ => (0, 0, Draft::default(), ListDraft::default()),
     };
     let number = due.err().unwrap_or(0);

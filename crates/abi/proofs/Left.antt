@@ -6,7 +6,7 @@ use Rattle.terms.specs.Group.{groupWrong}
 use Rattle.records.specs.Writing.{wroteBy, bufferBy}
 use Rattle.records.specs.declared.Written.{Written}
 use Rattle.abi.specs.Rows.{groupRow, thresholdsBy}
-use Rattle.lent.specs.Lent.{writtenNumber, writtenLength}
+use Rattle.arrays.specs.Arrays.{writtenNumber, writtenLength}
 use Rattle.abi.specs.Left.{Left, left, leftBy}
 
 -- a writer's answer told, and its buffer

@@ -1,12 +1,16 @@
 -- What a writer leaves.
 use Prim.Native.Nat.{ℕ}
 use mathlib.Core.List.{List}
+use lib.Dec.{eqb}
+use Rattle.terms.specs.Choice.{pick}
+use Rattle.records.specs.declared.Mark.{Mark}
+use Rattle.records.specs.declared.Mark.the-variants.{PR, LG, DC}
 use Rattle.records.specs.Tx.{txIn, txBytes}
 use Rattle.records.specs.Vl.{listIn, vlBytes}
-use Rattle.records.specs.Writing.{prBytes, lgBytes, dcBytes, rdBytes, txUnwritten, vlUnwritten, prUnwritten, lgUnwritten, dcUnwritten, rdUnwritten, wroteBy, bufferBy}
+use Rattle.records.specs.Writing.{prBytes, listedBytes, rdBytes, txUnwritten, vlUnwritten, prUnwritten, listedUnwritten, rdUnwritten, wroteBy, bufferBy}
 use Rattle.records.specs.declared.Transaction.{Transaction}
 use Rattle.records.specs.declared.VoteList.{VoteList}
-use Rattle.lent.specs.Lent.{writtenNumber, writtenLength}
+use Rattle.arrays.specs.Arrays.{writtenNumber, writtenLength}
 
 -- all that a writer leaves: its answer, the length, and every byte of the buffer
 pub record Left : Type 0 where
@@ -30,11 +34,12 @@ vlLeft f l out = leftBy (vlUnwritten f l out) (vlBytes (listIn l)) out
 abbrev pub prLeft : Transaction → List ℕ → Left
 prLeft x out = leftBy (prUnwritten x out) (prBytes (txIn x)) out
 
-abbrev pub lgLeft : ℕ → Transaction → VoteList → List ℕ → Left
-lgLeft f x l out = leftBy (lgUnwritten f x l out) (lgBytes (txIn x) (listIn l)) out
+-- an LG or a DC by its number; another number is a message without a list
+unfoldable pub listedMark : ℕ → Mark
+listedMark n = pick (eqb n 2) LG (pick (eqb n 3) DC PR)
 
-abbrev pub dcLeft : ℕ → Transaction → VoteList → List ℕ → Left
-dcLeft f x l out = leftBy (dcUnwritten f x l out) (dcBytes (txIn x) (listIn l)) out
+abbrev pub listedLeft : Mark → ℕ → Transaction → VoteList → List ℕ → Left
+listedLeft k f x l out = leftBy (listedUnwritten k f x l out) (listedBytes k (txIn x) (listIn l)) out
 
 abbrev pub rdLeft : ℕ → ℕ → List ℕ → Left
 rdLeft key stamp out = leftBy (rdUnwritten key stamp out) (rdBytes key stamp) out

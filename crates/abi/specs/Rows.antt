@@ -7,8 +7,9 @@ use Rattle.rules.specs.Answers.{answerValues}
 use Rattle.rules.specs.declared.Answer.{Answer}
 use Rattle.rules.specs.declared.Answer.the-variants.{Voted, Decided, Logged, Done, Found, Refused}
 use Rattle.rules.specs.Calls.{Act}
-use Rattle.rules.specs.Act.{answerIn, marksBy}
-use Rattle.engine.specs.Outcome.{tableBy}
+use Rattle.rules.specs.Act.{marksAfter}
+use Rattle.rules.specs.declared.Told.{Told}
+use Rattle.engine.specs.Outcome.{Kept, tableBy}
 use Rattle.sheet.specs.declared.Sheet.{Sheet}
 
 abbrev pub answerNumber : Answer → ℕ
@@ -16,7 +17,7 @@ answerNumber (Voted v) = 1
 answerNumber (Decided d) = 2
 answerNumber (Logged d) = 3
 answerNumber Done = 4
-answerNumber (Found version value undecided its) = 5
+answerNumber (Found c u) = 5
 answerNumber (Refused r) = 6
 
 -- at most four values, zeros behind them
@@ -31,14 +32,12 @@ abbrev pub answerRow : Answer → List ℕ
 answerRow a = answerNumber a ∷ four (answerValues a)
 
 -- what a call leaves, as the engine's, the answer as its row
-abbrev pub RowTable : Act → List ℕ → List ℕ → List ℕ → List ℕ → Type 0
-RowTable a t m row t' = (row ≡ answerRow (answerIn a)) × (t' ≡ tableBy t m a)
+abbrev pub LeavesRow : Act → Kept → List ℕ → Kept → Type 0
+LeavesRow a x row y = (row ≡ answerRow (a .answer)) × (y .table ≡ tableBy (x .table) (a .change)) × (y .marks ≡ marksAfter (x .marks) (a .change))
 
-abbrev pub RowMarks : Act → List ℕ → List ℕ → List ℕ → List ℕ → Type 0
-RowMarks a marks m row marks' = (row ≡ answerRow (answerIn a)) × (marks' ≡ marksBy marks m (answerIn a))
-
-abbrev pub RowBoth : Act → List ℕ → List ℕ → List ℕ → List ℕ → List ℕ → List ℕ → Type 0
-RowBoth a t marks m row t' marks' = (row ≡ answerRow (answerIn a)) × (t' ≡ tableBy t m a) × (marks' ≡ marksBy marks m (answerIn a))
+-- what a box is told, as four numbers
+abbrev pub toldOf : ℕ → ℕ → ℕ → ℕ → Told
+toldOf f capacity clock delta = record { f = f; capacity = capacity; clock = clock; delta = delta }
 
 -- the sheet that is lent as a kind and two masks
 abbrev pub sheetOf : ℕ → ℕ → ℕ → Sheet

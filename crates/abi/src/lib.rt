@@ -1,33 +1,22 @@
 // The engine for programs in C, or in any language that calls C, on numbers, arrays and slices: a box's calls with the answer as five
 // numbers, records read and written, the tally, the thresholds.
 ghost use mathlib.Core.Path.{_≡_};
-ghost use Rattle.rules.specs.Answers.{decisionNumber};
-ghost use Rattle.steps.specs.Step.{config};
-ghost use Rattle.engine.specs.Outcome.{prOutcome, lgOutcome, dcOutcome, rdOutcome, outcome};
 ghost use lib.ListN.{length};
-ghost use Rattle.records.specs.Messages.{readTX, readVL, readMessage, handedBack};
-ghost use Rattle.sheet.specs.Sheets.{replyTo, replyValues, sheetAfter};
 ghost use Rattle.terms.specs.Group.{groupWrong};
-ghost use Rattle.abi.specs.Rows.{answerRow, sheetOf, groupRow, thresholdsBy, RowTable, RowMarks, RowBoth};
-ghost use Rattle.lent.specs.Lent.{lentTx, lentList, foundNumber, fields, fieldsOf};
-ghost use Rattle.abi.specs.Left.{left, txLeft, vlLeft, prLeft, lgLeft, dcLeft, rdLeft};
-use records::Reading;
+ghost use Rattle.records.specs.Messages.{readTX, readVL, readMessage, handedBack};
+ghost use Rattle.rules.specs.Act.{receive, due};
+ghost use Rattle.engine.specs.Outcome.{kept, called};
+ghost use Rattle.sheet.specs.Sheets.{replyTo, replyValues, sheetAfter};
+ghost use Rattle.arrays.specs.Arrays.{lentTx, lentList, markedBy, foundNumber, fields, fieldsOf};
+ghost use Rattle.abi.specs.Rows.{answerRow, toldOf, sheetOf, groupRow, thresholdsBy, LeavesRow};
+ghost use Rattle.abi.specs.Left.{left, txLeft, vlLeft, prLeft, listedMark, listedLeft, rdLeft};
+use records::Mark;
 use rules::Answer;
-use sheet::Reply;
+use rules::Told;
 use sheet::Sheet;
-use terms::Decision;
 use terms::Group;
 use terms::Key;
 use terms::Stamp;
-
-fn decision_number(d: Decision) -> u64
-    ensures { λ r. ⌜ r ≡ decisionNumber d ⌝ }
-{
-    match d {
-        Decision::Commit => 1,
-        Decision::Abort => 2,
-    }
-}
 
 // An answer as five numbers: 1 voted, 2 decided, 3 logged, 4 done, 5 found or 6 refused, and then its values.
 pub fn values(a: Answer) -> [u64; 5]
@@ -41,10 +30,10 @@ pub fn values(a: Answer) -> [u64; 5]
             0,
             0,
         ],
-        Answer::Decided(d) => [2, decision_number(d), 0, 0, 0],
-        Answer::Logged(d) => [3, decision_number(d), 0, 0, 0],
+        Answer::Decided(d) => [2, records::widened(d.number()), 0, 0, 0],
+        Answer::Logged(d) => [3, records::widened(d.number()), 0, 0, 0],
         Answer::Done => [4, 0, 0, 0, 0],
-        Answer::Found(version, value, undecided, its) => [5, version, value, undecided, its],
+        Answer::Found(c, u) => [5, c.stamp.0, c.value, u.stamp.0, u.value],
         Answer::Refused(r) => [6, records::widened(r.number()), 0, 0, 0],
     }
 }
@@ -68,68 +57,23 @@ pub extern "C" fn stobbarel_receive(
     message: &[u8],
     out: &mut [u64; 5],
 )
-    ensures { λ r. ⌜ RowBoth (outcome (config f capacity clock delta) (now (table .entry)) (now (marks .entry)) (now (message .entry))) (now (table .entry)) (now (marks .entry)) (now (message .entry)) (now (out .exit)) (now (table .exit)) (now (marks .exit)) ⌝ }
+    ensures { λ r. ⌜ LeavesRow (called receive (toldOf f capacity clock delta) (kept (now (table .entry)) (now (marks .entry))) (now (message .entry))) (kept (now (table .entry)) (now (marks .entry))) (now (out .exit)) (kept (now (table .exit)) (now (marks .exit))) ⌝ }
 {
-    let answer = engine::receive(table, marks, f, capacity, clock, delta, message);
+    let told = Told {
+        f,
+        capacity,
+        clock,
+        delta,
+    };
+    let answer = engine::receive(table, marks, told, message);
     put(out, values(answer));
 }
 
-// PR: vote on a transaction.
+// A message where one with this mark is due: 1 PR, 2 LG, 3 DC, 4 RD.
 #[no_mangle]
-pub extern "C" fn stobbarel_prepare(
+pub extern "C" fn stobbarel_due(
+    mark: u64,
     table: &mut [u8],
-    marks: &[u64; 512],
-    f: u64,
-    capacity: u64,
-    clock: u64,
-    delta: u64,
-    message: &[u8],
-    out: &mut [u64; 5],
-)
-    ensures { λ r. ⌜ RowTable (prOutcome (config f capacity clock delta) (now (table .entry)) (now (marks .entry)) (now (message .entry))) (now (table .entry)) (now (message .entry)) (now (out .exit)) (now (table .exit)) ⌝ }
-{
-    let answer = engine::prepare(table, marks, f, capacity, clock, delta, message);
-    put(out, values(answer));
-}
-
-// LG: log a decision.
-#[no_mangle]
-pub extern "C" fn stobbarel_log(
-    table: &mut [u8],
-    f: u64,
-    capacity: u64,
-    clock: u64,
-    delta: u64,
-    message: &[u8],
-    out: &mut [u64; 5],
-)
-    ensures { λ r. ⌜ RowTable (lgOutcome (config f capacity clock delta) (now (table .entry)) (now (message .entry))) (now (table .entry)) (now (message .entry)) (now (out .exit)) (now (table .exit)) ⌝ }
-{
-    let answer = engine::log(table, f, capacity, clock, delta, message);
-    put(out, values(answer));
-}
-
-// DC: take a decision.
-#[no_mangle]
-pub extern "C" fn stobbarel_decide(
-    table: &mut [u8],
-    f: u64,
-    capacity: u64,
-    clock: u64,
-    delta: u64,
-    message: &[u8],
-    out: &mut [u64; 5],
-)
-    ensures { λ r. ⌜ RowTable (dcOutcome (config f capacity clock delta) (now (table .entry)) (now (message .entry))) (now (table .entry)) (now (message .entry)) (now (out .exit)) (now (table .exit)) ⌝ }
-{
-    let answer = engine::decide(table, f, capacity, clock, delta, message);
-    put(out, values(answer));
-}
-
-// RD: what stands at a key, and its read mark raised.
-#[no_mangle]
-pub extern "C" fn stobbarel_read(
-    table: &[u8],
     marks: &mut [u64; 512],
     f: u64,
     capacity: u64,
@@ -138,9 +82,15 @@ pub extern "C" fn stobbarel_read(
     message: &[u8],
     out: &mut [u64; 5],
 )
-    ensures { λ r. ⌜ RowMarks (rdOutcome (config f capacity clock delta) (now (table .entry)) (now (message .entry))) (now (marks .entry)) (now (message .entry)) (now (out .exit)) (now (marks .exit)) ⌝ }
+    ensures { λ r. ⌜ LeavesRow (called (due (markedBy mark)) (toldOf f capacity clock delta) (kept (now (table .entry)) (now (marks .entry))) (now (message .entry))) (kept (now (table .entry)) (now (marks .entry))) (now (out .exit)) (kept (now (table .exit)) (now (marks .exit))) ⌝ }
 {
-    let answer = engine::read(table, marks, f, capacity, clock, delta, message);
+    let told = Told {
+        f,
+        capacity,
+        clock,
+        delta,
+    };
+    let answer = engine::due(arrays::marked_of(mark), table, marks, told, message);
     put(out, values(answer));
 }
 
@@ -151,27 +101,25 @@ pub extern "C" fn stobbarel_reading(f: u64, message: &[u8]) -> u8
 {
     let reading = reading::read(f, message);
     let found = reading.found;
-    lent::found_number(found)
+    arrays::found_number(found)
 }
 
 // A TX by itself.
 #[no_mangle]
 pub extern "C" fn stobbarel_reading_tx(bytes: &[u8]) -> u8
-    ensures { λ r. ⌜ r ≡ foundNumber (readTX (now (bytes .entry)) .found) ⌝ }
+    ensures { λ r. ⌜ r ≡ readTX (now (bytes .entry)) .wrong ⌝ }
 {
-    let reading = reading::read_tx(bytes);
-    let found = reading.found;
-    lent::found_number(found)
+    let tx = reading::read_tx(bytes);
+    tx.wrong
 }
 
 // A VL by itself.
 #[no_mangle]
 pub extern "C" fn stobbarel_reading_vl(f: u64, bytes: &[u8]) -> u8
-    ensures { λ r. ⌜ r ≡ foundNumber (readVL f (now (bytes .entry)) .found) ⌝ }
+    ensures { λ r. ⌜ r ≡ readVL f (now (bytes .entry)) .wrong ⌝ }
 {
-    let reading = reading::read_vl(f, bytes);
-    let found = reading.found;
-    lent::found_number(found)
+    let list = reading::read_vl(f, bytes);
+    list.wrong
 }
 
 // A message's values, put down in what is lent for them: all 0 where it is refused.
@@ -190,7 +138,7 @@ pub extern "C" fn stobbarel_fields(
     ensures { λ r. ⌜ (r ≡ foundNumber (readMessage f (now (message .entry)) .found)) × (fields (now (head .exit)) (now (reads .exit)) (now (versions .exit)) (now (writes .exit)) (now (values .exit)) (now (numbers .exit)) (now (answers .exit)) ≡ fieldsOf (readMessage f (now (message .entry)))) ⌝ }
 {
     let reading = reading::read(f, message);
-    lent::put_fields(
+    arrays::put_fields(
         reading,
         head,
         reads,
@@ -201,7 +149,7 @@ pub extern "C" fn stobbarel_fields(
         answers,
     );
     let found = reading.found;
-    lent::found_number(found)
+    arrays::found_number(found)
 }
 
 // The length of the transaction's bytes inside a message, which stand behind its mark.
@@ -286,6 +234,17 @@ pub extern "C" fn stobbarel_thresholds(f: u64, out: &mut [u64; 6]) -> u8
 
 // ---- writing
 
+// The mark of a message with a list, by its number; another number stands for a message without one.
+fn listed_mark(mark: u64) -> Mark
+    ensures { λ r. ⌜ r ≡ listedMark mark ⌝ }
+{
+    match mark {
+        2 => Mark::LG,
+        3 => Mark::DC,
+        _ => Mark::PR,
+    }
+}
+
 // A TX by itself.
 #[no_mangle]
 pub extern "C" fn stobbarel_write_tx(
@@ -301,9 +260,9 @@ pub extern "C" fn stobbarel_write_tx(
 ) -> u8
     ensures { λ n. ⌜ left n (now (length .exit)) (now (out .exit)) ≡ txLeft (lentTx stamp r w (now (reads .entry)) (now (versions .entry)) (now (writes .entry)) (now (values .entry))) (now (out .entry)) ⌝ }
 {
-    let x = lent::tx(stamp, r, w, reads, versions, writes, values);
+    let x = arrays::tx(stamp, r, w, reads, versions, writes, values);
     let written = writing::write_tx(x, out);
-    lent::told(written, length)
+    arrays::wrote(written, length)
 }
 
 // A VL by itself.
@@ -320,9 +279,9 @@ pub extern "C" fn stobbarel_write_vl(
 ) -> u8
     ensures { λ n. ⌜ left n (now (length .exit)) (now (out .exit)) ≡ vlLeft f (lentList kind decision count (now (numbers .entry)) (now (answers .entry))) (now (out .entry)) ⌝ }
 {
-    let l = lent::list(kind, decision, count, numbers, answers);
+    let l = arrays::list(kind, decision, count, numbers, answers);
     let written = writing::write_vl(f, l, out);
-    lent::told(written, length)
+    arrays::wrote(written, length)
 }
 
 // PR: a transaction to vote on.
@@ -340,14 +299,15 @@ pub extern "C" fn stobbarel_write_pr(
 ) -> u8
     ensures { λ n. ⌜ left n (now (length .exit)) (now (out .exit)) ≡ prLeft (lentTx stamp r w (now (reads .entry)) (now (versions .entry)) (now (writes .entry)) (now (values .entry))) (now (out .entry)) ⌝ }
 {
-    let x = lent::tx(stamp, r, w, reads, versions, writes, values);
+    let x = arrays::tx(stamp, r, w, reads, versions, writes, values);
     let written = writing::write_pr(x, out);
-    lent::told(written, length)
+    arrays::wrote(written, length)
 }
 
-// LG: a decision to log.
+// LG or DC: a transaction and a list.
 #[no_mangle]
-pub extern "C" fn stobbarel_write_lg(
+pub extern "C" fn stobbarel_write_listed(
+    mark: u64,
     f: u64,
     stamp: u64,
     r: usize,
@@ -364,39 +324,12 @@ pub extern "C" fn stobbarel_write_lg(
     out: &mut [u8],
     length: &mut usize,
 ) -> u8
-    ensures { λ n. ⌜ left n (now (length .exit)) (now (out .exit)) ≡ lgLeft f (lentTx stamp r w (now (reads .entry)) (now (versions .entry)) (now (writes .entry)) (now (values .entry))) (lentList kind decision count (now (numbers .entry)) (now (answers .entry))) (now (out .entry)) ⌝ }
+    ensures { λ n. ⌜ left n (now (length .exit)) (now (out .exit)) ≡ listedLeft (listedMark mark) f (lentTx stamp r w (now (reads .entry)) (now (versions .entry)) (now (writes .entry)) (now (values .entry))) (lentList kind decision count (now (numbers .entry)) (now (answers .entry))) (now (out .entry)) ⌝ }
 {
-    let x = lent::tx(stamp, r, w, reads, versions, writes, values);
-    let l = lent::list(kind, decision, count, numbers, answers);
-    let written = writing::write_lg(f, x, l, out);
-    lent::told(written, length)
-}
-
-// DC: a decision.
-#[no_mangle]
-pub extern "C" fn stobbarel_write_dc(
-    f: u64,
-    stamp: u64,
-    r: usize,
-    w: usize,
-    reads: &[u16; 8],
-    versions: &[u64; 8],
-    writes: &[u16; 8],
-    values: &[u64; 8],
-    kind: u8,
-    decision: u8,
-    count: usize,
-    numbers: &[u8; 26],
-    answers: &[u8; 26],
-    out: &mut [u8],
-    length: &mut usize,
-) -> u8
-    ensures { λ n. ⌜ left n (now (length .exit)) (now (out .exit)) ≡ dcLeft f (lentTx stamp r w (now (reads .entry)) (now (versions .entry)) (now (writes .entry)) (now (values .entry))) (lentList kind decision count (now (numbers .entry)) (now (answers .entry))) (now (out .entry)) ⌝ }
-{
-    let x = lent::tx(stamp, r, w, reads, versions, writes, values);
-    let l = lent::list(kind, decision, count, numbers, answers);
-    let written = writing::write_dc(f, x, l, out);
-    lent::told(written, length)
+    let x = arrays::tx(stamp, r, w, reads, versions, writes, values);
+    let l = arrays::list(kind, decision, count, numbers, answers);
+    let written = writing::write_listed(listed_mark(mark), f, x, l, out);
+    arrays::wrote(written, length)
 }
 
 // RD: what stands at a key.
@@ -405,5 +338,5 @@ pub extern "C" fn stobbarel_write_rd(key: u16, stamp: u64, out: &mut [u8], lengt
     ensures { λ n. ⌜ left n (now (length .exit)) (now (out .exit)) ≡ rdLeft key stamp (now (out .entry)) ⌝ }
 {
     let written = writing::write_rd(Key(key), Stamp(stamp), out);
-    lent::told(written, length)
+    arrays::wrote(written, length)
 }

@@ -2,9 +2,11 @@
 ghost use mathlib.Core.Path.{_≡_};
 ghost use Prim.Native.Nat.{_≤_};
 ghost use Rattle.terms.specs.Choice.{tab, any, falls};
-ghost use Rattle.records.specs.Tx.{txIn, readsIn, writesIn, readKey, writeKey};
+ghost use Rattle.terms.specs.Checks.{when, range, order, misbehaviour, code};
+ghost use Rattle.records.specs.Tx.{txIn, readsIn};
 ghost use Rattle.records.specs.Vl.{listIn, pairsIn};
-ghost use Rattle.records.specs.Contents.{countsWrong, countWrong, readWide, writeWide, tooNew, txWrong, codeWrong, answerOdd, boxWide, boxOf, listWrong, logListWrong, rdWrong};
+ghost use Rattle.records.specs.Contents.{countsWrong, countWrong, tooNew, txWrong, codeWrong, answerOdd, boxWide, pairBox, listWrong, logListWrong, rdWrong};
+ghost use Rattle.contents.specs.Keys.{keysRead, keysWritten, keysIn, keyWide, keyNumber};
 use records::Pair;
 use records::Read;
 use records::Transaction;
@@ -18,115 +20,100 @@ use terms::Stamp;
 pub fn counts_wrong(r: usize, w: usize) -> u8
     ensures { λ n. ⌜ n ≡ countsWrong r w ⌝ }
 {
-    if 8 < r {
-        return terms::COUNT;
-    }
-    if 8 < w {
-        return terms::COUNT;
-    }
-    if r + w == 0 {
-        return terms::COUNT;
-    }
-    0
+    let reads = terms::refuse_if(8 < r, terms::COUNT);
+    let writes = terms::refuse_if(8 < w, terms::COUNT);
+    let neither = terms::refuse_if(r == 0, terms::refuse_if(w == 0, terms::COUNT));
+    terms::first(reads, terms::first(writes, neither))
 }
 
 // A list's count 0 or above 26.
 pub fn count_wrong(n: usize) -> u8
     ensures { λ r. ⌜ r ≡ countWrong n ⌝ }
 {
-    if n == 0 {
-        return terms::COUNT;
-    }
-    if 26 < n {
-        return terms::COUNT;
+    terms::first(
+        terms::refuse_if(n == 0, terms::COUNT),
+        terms::refuse_if(26 < n, terms::COUNT),
+    )
+}
+
+// The keys read, and those written: both are judged alike.
+fn keys_read(a: [Read; 8]) -> [Key; 8]
+    ensures { λ r. ⌜ r ≡ keysRead a ⌝ }
+{
+    [
+        Key(a[0].key.0),
+        Key(a[1].key.0),
+        Key(a[2].key.0),
+        Key(a[3].key.0),
+        Key(a[4].key.0),
+        Key(a[5].key.0),
+        Key(a[6].key.0),
+        Key(a[7].key.0),
+    ]
+}
+
+fn keys_written(a: [Write; 8]) -> [Key; 8]
+    ensures { λ r. ⌜ r ≡ keysWritten a ⌝ }
+{
+    [
+        Key(a[0].key.0),
+        Key(a[1].key.0),
+        Key(a[2].key.0),
+        Key(a[3].key.0),
+        Key(a[4].key.0),
+        Key(a[5].key.0),
+        Key(a[6].key.0),
+        Key(a[7].key.0),
+    ]
+}
+
+fn keys_wide(a: [Key; 8], n: usize) -> u8
+    requires { ⌜ n ≤ 8 ⌝ }
+    ensures { λ r. ⌜ r ≡ when (any keyWide (tab (keysIn a) 0 n)) range ⌝ }
+{
+    let mut j = 0;
+    while j < n {
+        let k = a[j];
+        if terms::LARGEST_KEY < k.0 {
+            return terms::RANGE;
+        }
+        j += 1;
     }
     0
 }
 
-fn reads_wide(a: [Read; 8], n: usize) -> bool
+fn keys_fall(a: [Key; 8], n: usize) -> u8
     requires { ⌜ n ≤ 8 ⌝ }
-    ensures { λ r. ⌜ r ≡ any readWide (tab (readsIn a) 0 n) ⌝ }
-{
-    let mut j = 0;
-    while j < n {
-        let p = a[j];
-        let k = p.key;
-        if terms::LARGEST_KEY < k.0 {
-            return true;
-        }
-        j += 1;
-    }
-    false
-}
-
-fn writes_wide(a: [Write; 8], n: usize) -> bool
-    requires { ⌜ n ≤ 8 ⌝ }
-    ensures { λ r. ⌜ r ≡ any writeWide (tab (writesIn a) 0 n) ⌝ }
-{
-    let mut j = 0;
-    while j < n {
-        let p = a[j];
-        let k = p.key;
-        if terms::LARGEST_KEY < k.0 {
-            return true;
-        }
-        j += 1;
-    }
-    false
-}
-
-fn reads_fall(a: [Read; 8], n: usize) -> bool
-    requires { ⌜ n ≤ 8 ⌝ }
-    ensures { λ r. ⌜ r ≡ falls readKey 0 (tab (readsIn a) 0 n) ⌝ }
+    ensures { λ r. ⌜ r ≡ when (falls keyNumber 0 (tab (keysIn a) 0 n)) order ⌝ }
 {
     let mut lo: u64 = 0;
     let mut j = 0;
     while j < n {
-        let p = a[j];
-        let k = p.key;
+        let k = a[j];
         let at = k.0 as u64;
         if at < lo {
-            return true;
+            return terms::ORDER;
         }
         lo = at + 1;
         j += 1;
     }
-    false
+    0
 }
 
-fn writes_fall(a: [Write; 8], n: usize) -> bool
+fn reads_too_new(a: [Read; 8], n: usize, s: Stamp) -> u8
     requires { ⌜ n ≤ 8 ⌝ }
-    ensures { λ r. ⌜ r ≡ falls writeKey 0 (tab (writesIn a) 0 n) ⌝ }
-{
-    let mut lo: u64 = 0;
-    let mut j = 0;
-    while j < n {
-        let p = a[j];
-        let k = p.key;
-        let at = k.0 as u64;
-        if at < lo {
-            return true;
-        }
-        lo = at + 1;
-        j += 1;
-    }
-    false
-}
-
-fn reads_too_new(a: [Read; 8], n: usize, s: Stamp) -> bool
-    requires { ⌜ n ≤ 8 ⌝ }
-    ensures { λ r. ⌜ r ≡ any (tooNew (s .0)) (tab (readsIn a) 0 n) ⌝ }
+    ensures { λ r. ⌜ r ≡ when (any (tooNew (s .0)) (tab (readsIn a) 0 n)) misbehaviour ⌝ }
 {
     let mut j = 0;
     while j < n {
         let p = a[j];
         let v = p.version;
         if s.0 <= v.0 {
-            return true;
+            return terms::MISBEHAVIOUR;
         }
         j += 1;
     }
-    false
+    0
 }
 
 // All of a transaction for 5, then 6, then 7.
@@ -137,77 +124,62 @@ pub fn tx_wrong(x: Transaction) -> u8
     let s = x.stamp;
     let reads = x.reads;
     let writes = x.writes;
-    if s.0 == 0 {
-        return terms::RANGE;
-    }
-    if reads_wide(reads, x.r) {
-        return terms::RANGE; // a key read
-    }
-    if writes_wide(writes, x.w) {
-        return terms::RANGE; // a key written
-    }
-    if reads_fall(reads, x.r) {
-        return terms::ORDER; // of the reads
-    }
-    if writes_fall(writes, x.w) {
-        return terms::ORDER; // of the writes
-    }
-    if reads_too_new(reads, x.r, s) {
-        return terms::MISBEHAVIOUR;
-    }
-    0
+    let read = keys_read(reads);
+    let written = keys_written(writes);
+    let stamp = terms::refuse_if(s.0 == 0, terms::RANGE);
+    let range = terms::first(keys_wide(read, x.r), keys_wide(written, x.w));
+    let order = terms::first(keys_fall(read, x.r), keys_fall(written, x.w));
+    let new = reads_too_new(reads, x.r, s);
+    terms::first(terms::first(stamp, range), terms::first(order, new))
 }
 
 // Not 1 or 2.
 fn code_wrong(n: u8) -> u8
     ensures { λ r. ⌜ r ≡ codeWrong n ⌝ }
 {
-    if n == 0 {
-        return terms::CODE;
-    }
-    if 2 < n {
-        return terms::CODE;
-    }
-    0
+    terms::first(
+        terms::refuse_if(n == 0, terms::CODE),
+        terms::refuse_if(2 < n, terms::CODE),
+    )
 }
 
-fn answers_odd(a: [Pair; 26], n: usize) -> bool
+fn answers_odd(a: [Pair; 26], n: usize) -> u8
     requires { ⌜ n ≤ 26 ⌝ }
-    ensures { λ r. ⌜ r ≡ any answerOdd (tab (pairsIn a) 0 n) ⌝ }
+    ensures { λ r. ⌜ r ≡ when (any answerOdd (tab (pairsIn a) 0 n)) code ⌝ }
 {
     let mut j = 0;
     while j < n {
         let p = a[j];
         if p.answer == 0 {
-            return true;
+            return terms::CODE;
         }
         if 2 < p.answer {
-            return true;
+            return terms::CODE;
         }
         j += 1;
     }
-    false
+    0
 }
 
-fn boxes_wide(g: Group, a: [Pair; 26], n: usize) -> bool
+fn boxes_wide(g: Group, a: [Pair; 26], n: usize) -> u8
     requires { ⌜ n ≤ 26 ⌝ }
-    ensures { λ r. ⌜ r ≡ any (boxWide (g .f)) (tab (pairsIn a) 0 n) ⌝ }
+    ensures { λ r. ⌜ r ≡ when (any (boxWide (g .f)) (tab (pairsIn a) 0 n)) range ⌝ }
 {
     let boxes = g.n();
     let mut j = 0;
     while j < n {
         let p = a[j];
         if boxes <= records::wide(p.number) {
-            return true;
+            return terms::RANGE;
         }
         j += 1;
     }
-    false
+    0
 }
 
-fn boxes_fall(a: [Pair; 26], n: usize) -> bool
+fn boxes_fall(a: [Pair; 26], n: usize) -> u8
     requires { ⌜ n ≤ 26 ⌝ }
-    ensures { λ r. ⌜ r ≡ falls boxOf 0 (tab (pairsIn a) 0 n) ⌝ }
+    ensures { λ r. ⌜ r ≡ when (falls pairBox 0 (tab (pairsIn a) 0 n)) order ⌝ }
 {
     let mut lo = 0;
     let mut j = 0;
@@ -215,12 +187,12 @@ fn boxes_fall(a: [Pair; 26], n: usize) -> bool
         let p = a[j];
         let at = records::wide(p.number);
         if at < lo {
-            return true;
+            return terms::ORDER;
         }
         lo = at + 1;
         j += 1;
     }
-    false
+    0
 }
 
 // A list for 8, then 5, then 6.
@@ -229,24 +201,11 @@ pub fn list_wrong(g: Group, l: VoteList) -> u8
     ensures { λ r. ⌜ r ≡ listWrong (g .f) (listIn l) ⌝ }
 {
     let pairs = l.pairs;
-    let kind = code_wrong(l.kind);
-    if kind != 0 {
-        return kind;
-    }
-    let decision = code_wrong(l.decision);
-    if decision != 0 {
-        return decision;
-    }
-    if answers_odd(pairs, l.count) {
-        return terms::CODE;
-    }
-    if boxes_wide(g, pairs, l.count) {
-        return terms::RANGE;
-    }
-    if boxes_fall(pairs, l.count) {
-        return terms::ORDER;
-    }
-    0
+    let codes = terms::first(code_wrong(l.kind), code_wrong(l.decision));
+    let answers = answers_odd(pairs, l.count);
+    let range = boxes_wide(g, pairs, l.count);
+    let order = boxes_fall(pairs, l.count);
+    terms::first(terms::first(codes, answers), terms::first(range, order))
 }
 
 // The same in an LG, where a list of logs is 8 too.
@@ -254,21 +213,15 @@ pub fn log_list_wrong(g: Group, l: VoteList) -> u8
     requires { ⌜ l .count ≤ 26 ⌝ }
     ensures { λ r. ⌜ r ≡ logListWrong (g .f) (listIn l) ⌝ }
 {
-    if l.kind == 2 {
-        return terms::CODE;
-    }
-    list_wrong(g, l)
+    terms::first(terms::refuse_if(l.kind == 2, terms::CODE), list_wrong(g, l))
 }
 
 // An RD for 5; the clock is the box's.
 pub fn rd_wrong(key: Key, stamp: Stamp) -> u8
     ensures { λ r. ⌜ r ≡ rdWrong (key .0) (stamp .0) ⌝ }
 {
-    if terms::LARGEST_KEY < key.0 {
-        return terms::RANGE;
-    }
-    if stamp.0 == 0 {
-        return terms::RANGE;
-    }
-    0
+    terms::first(
+        terms::refuse_if(terms::LARGEST_KEY < key.0, terms::RANGE),
+        terms::refuse_if(stamp.0 == 0, terms::RANGE),
+    )
 }

@@ -1,8 +1,10 @@
 pub mod Guards
 pub mod Lent
-pub mod Marks
-pub mod Steps
+pub mod Raised
 pub mod ByMark
+pub mod Steps
 pub mod Bridge
-pub mod Traces
+pub mod Alone
+pub mod Safety
 pub mod Starts
+pub mod Busy

@@ -1,188 +1,160 @@
 -- A step on the rows is the step of the rules on the lent table, and it can be applied.
 use Prim.Native.Nat.{ℕ, zero, suc, _+_, _*_, _≤_, _<_}
 use native.Mathlib.Omega.{arith}
-use mathlib.Core.Path.{_≡_, refl, ap, sym, _∙_}
-use mathlib.Core.List.{List, []}
+use mathlib.Core.Path.{_≡_, refl, ap, sym, _∙_, subst}
+use mathlib.Core.List.{List}
 use lib.ListN.{length, drop}
 use Rattle.terms.specs.Refusals.{refusalOf}
-use Rattle.terms.specs.Checks.{ifLess}
 use Rattle.terms.specs.declared.Refusal.{Refusal}
-use Rattle.terms.specs.declared.Refusal.the-variants.{Ahead}
-use Rattle.terms.proofs.Checks.{first-none, rest-none, not-less}
-use lib.Dec.{ltb}
-use mathlib.Core.Bool.{Bool, true, false}
+use Rattle.terms.specs.declared.Key.{Key}
+use Rattle.terms.specs.declared.Stamp.{Stamp}
+use Rattle.records.specs.declared.Mark.{Mark}
+use Rattle.records.specs.declared.Mark.the-variants.{PR, LG, DC, RD}
+use Rattle.records.specs.Vl.{Vl}
+use Rattle.records.specs.Cutting.{txCut, behindMark, txPart}
+use Rattle.records.specs.Messages.{dueRefusal, listBehind, rdKey, rdStamp}
 use Rattle.records.specs.declared.VoteList.{VoteList}
-use Rattle.records.specs.Vl.{Vl, vlOf, listIn, heldList, vlLen, vlCount}
+use Rattle.records.specs.Vl.{vlOf, vlCount, listIn, heldList}
+use Rattle.records.specs.Cutting.{vlCut, vlPart}
 use Rattle.records.proofs.Held.{list-in}
-use Rattle.records.specs.Cutting.{txCut, vlCut, vlPart, behindMark, txPart, listedCut, prCut, markLG, markDC}
-use Rattle.records.specs.Contents.{rdWrong}
-use Rattle.records.specs.Messages.{prRefusal, lgRefusal, dcRefusal, rdRefusal, rdKey, rdStamp}
-use Rattle.reading.proofs.Cuts.{pr-cuts, listed-cuts, vl-there, rd-long}
+use Rattle.terms.proofs.Scans.{tab-length}
+use Rattle.reading.proofs.Cuts.{vl-there}
+use Rattle.reading.proofs.Due.{tx-due}
 use Rattle.rules.specs.declared.Answer.{Answer}
 use Rattle.rules.specs.declared.Answer.the-variants.{Refused as refusedAnswer}
+use Rattle.rules.specs.declared.Told.{Told}
 use Rattle.rules.specs.Bodies.{Body, stampOf}
-use Rattle.rules.specs.Table.{Config, Entry, Box, limit}
-use Rattle.rules.specs.Calls.{Act, keep, store, guarded, prRule, lgRule, dcRule, rdRule, rdAnswer, rdFound}
-use Rattle.rules.specs.Act.{bodyOf, listOf, answerIn, marksBy}
-use Rattle.table.specs.declared.Entry.{Entry as State}
-use Rattle.table.specs.Table.{entries, entriesOf, countOf, place, rowLen}
-use Rattle.scans.specs.Scans.{over}
+use Rattle.rules.specs.Table.{Box, boxWith}
+use Rattle.rules.specs.Calls.{Act, Change, nothing, puts, raises, guarded, refuse, prRule, lgRule, dcRule, lookAct, rdRule}
+use Rattle.rules.specs.Act.{rule, marksAfter}
+use Rattle.rules.proofs.Deeds.{guarded-elim}
+use Rattle.rules.proofs.Room.{FitsBy, FitsIn, Fit, Fits, rule-fits}
+use Rattle.table.specs.Table.{entries, entriesOf, countOf, place, stored, stateIn, headLen}
 use Rattle.steps.specs.declared.Step.{Step}
-use Rattle.steps.specs.declared.Step.the-variants.{Keep, Store}
-use Rattle.steps.specs.Step.{stepBy, box, stateIn}
-use Rattle.steps.proofs.Stored.{step-stores, pr-below, lg-below, dc-below}
-use Rattle.engine.specs.Outcome.{boxIn, lentWrong, prLent, lgLent, dcLent, rdLent, RdReady, stepIn, answerOf, tableOf, tableBy, Ready}
+use Rattle.steps.specs.Step.{changeBy, stepBy, kept as keptStep}
+use Rattle.steps.proofs.Stored.{below}
+use Rattle.engine.specs.Outcome.{Kept, kept, boxIn, lentWrong, tableBy, tableOf, marksOf, Leaves, Ready, Does}
 use Rattle.engine.proofs.Guards.{through, halted}
 use Rattle.engine.proofs.Lent.{long, few, small-capacity}
 
--- ---- what is read
-pub pr-read : (m : List ℕ) → prRefusal m ≡ 0 → (2 ≤ length m) × (txCut (behindMark m) ≡ 0)
-unfolding prRefusal
-pr-read m e = pr-cuts _ _ refl (first-none _ _ e)
+-- ---- a step does an act
+module _ {t m : List ℕ} where
+  pub does-as : {a b : Act} {s : Step} → a ≡ b → Does a t m s → Does b t m s
+  does-as {s = s} p d = subst (λ (y : Act). Does y t m s) p d
 
-module _ (f : ℕ) (m : List ℕ) where
-  pub lg-cut : lgRefusal f m ≡ 0 → (2 ≤ length m) × (txCut (behindMark m) ≡ 0) × (vlCut (vlPart m) ≡ 0)
-  unfolding lgRefusal
-  lg-cut e = listed-cuts markLG _ _ refl (first-none _ _ (rest-none _ _ e))
+  pub refuses : (q : Refusal) → Does (refuse q) t m (keptStep (refusedAnswer q))
+  unfolding tableBy marksAfter
+  refuses q = record { ready = tt; answer = refl; table = refl; marks = λ _. refl }
 
-  pub dc-cut : dcRefusal f m ≡ 0 → (2 ≤ length m) × (txCut (behindMark m) ≡ 0) × (vlCut (vlPart m) ≡ 0)
-  unfolding dcRefusal
-  dc-cut e = listed-cuts markDC _ _ refl (first-none _ _ (rest-none _ _ e))
+  -- a check in front: it refuses, or it passes
+  pub stops : (n N : ℕ) (a : Act) → n ≡ N → (n ≡ 0 → ⊥) → Does (guarded N a) t m (keptStep (refusedAnswer (refusalOf n)))
+  stops n N a p h = does-as (halted n N a p h) (refuses (refusalOf n))
 
--- the list of a message that is cut fits its array
-pub few-pairs : (m : List ℕ) (l : VoteList) → vlCut (vlPart m) ≡ 0 → l ≡ heldList (vlOf (vlPart m)) → l .count ≤ 26
-unfolding heldList vlOf
-few-pairs m l c p =
-    let h = vl-there (vlPart m) _ refl c .0 in
-    let n : l .count ≡ vlCount (vlPart m) = ap (λ (y : VoteList). y .count) p ∙ Rattle.terms.proofs.Scans.tab-length _ 0 _ in
-    rw n h
+  pub passes : (N : ℕ) {a : Act} {s : Step} → N ≡ 0 → Does a t m s → Does (guarded N a) t m s
+  passes N z d = does-as (through N _ z) d
 
-pub list-is : (m : List ℕ) (l : VoteList) → l ≡ heldList (vlOf (vlPart m)) → listIn l ≡ listOf m
-list-is m l p = ap listIn p ∙ list-in (vlOf (vlPart m))
+-- ---- what is put is put for a message with a body
+unfoldable pub Bodied : List ℕ → Change → Type 0
+Bodied m nothing = Unit {0}
+Bodied m (raises k s) = Unit {0}
+Bodied m (puts e) = (2 ≤ length m) × (txCut (behindMark m) ≡ 0)
 
--- ---- what is stored has room
-pub step-keep : (i : ℕ) (a : Answer) (x : Act) → keep a ≡ x → Keep a ≡ stepBy i x
-unfolding stepBy
-step-keep i a x p = rw (← p)
+any-bodied : (m : List ℕ) (c : Change) → (2 ≤ length m) × (txCut (behindMark m) ≡ 0) → Bodied m c
+unfolding Bodied
+any-bodied m nothing h = tt
+any-bodied m (raises k s) h = tt
+any-bodied m (puts e) h = h
 
-pub ready : (cf : Config) (t m : List ℕ) → lentWrong cf t ≡ 0 → (2 ≤ length m) × (txCut (behindMark m) ≡ 0) → (i : ℕ) (a : Act)
-    → ((e : Entry) (w : Answer) → a ≡ store e w → i < cf .capacity) → (r : Step) → r ≡ stepBy i a → Ready t m r
-ready cf t m lent cut i a room (Keep w) q = tt
-ready cf t m lent cut i a room (Store j x w) q =
-    let s = step-stores i j a x w (sym q) in
-    let b : i < cf .capacity = room (s .0) w (s .1) in
-    let e : i ≡ j = s .2 in
-    let l = long cf t lent in
-    let c = small-capacity cf t lent in
-    (omega arith, omega arith, cut .0, cut .1)
+pub guarded-bodied : (m : List ℕ) (n : ℕ) (a : Act) → (n ≡ 0 → Bodied m (a .change)) → Bodied m (guarded n a .change)
+unfolding Bodied
+guarded-bodied m n a h = guarded-elim (λ (y : Act). Bodied m (y .change)) n a h (λ _. tt)
 
--- ---- the step is the lent table's
-module _ (cf : Config) (t m rs b : List ℕ) (n : ℕ) (lent : lentWrong cf t ≡ 0) (p : rs ≡ drop 1 t) (q : n ≡ countOf t) (u : b ≡ bodyOf m) where
-  within : n ≤ cf .capacity
-  within = rw q (few cf t lent)
+pub rule-bodied : (k : Mark) (told : Told) (x : Box) (m : List ℕ) → dueRefusal k told.f m ≡ 0 → Bodied m (rule k told x m .change)
+unfolding rule rdRule lookAct Bodied
+rule-bodied PR told x m z = any-bodied m (prRule told x (txPart m) .change) (tx-due told.f m PR refl z)
+rule-bodied LG told x m z = any-bodied m (lgRule told x (txPart m) (listBehind m) .change) (tx-due told.f m LG refl z)
+rule-bodied DC told x m z = any-bodied m (dcRule told x (txPart m) (listBehind m) .change) (tx-due told.f m DC refl z)
+rule-bodied RD told x m z = guarded-bodied m _ _ (λ _. tt)
 
-  pub pr-is : (marks : List ℕ) → prRefusal m ≡ 0 → (r : Step) → r ≡ stepBy (place (stampOf b) (entries rs n)) (prRule cf (box (entries rs n) marks) b)
-      → (r ≡ stepIn t (bodyOf m) (prLent cf t marks m)) × Ready t m r
-  unfolding prLent boxIn entriesOf
-  pr-is marks z r w =
-      let a : r ≡ stepIn t (bodyOf m) (prLent cf t marks m) = w ∙ (rw (p, q, u, ← through (prRefusal m) (prRule cf (boxIn t marks) (bodyOf m)) z)) in
-      (a, ready cf t m lent (pr-read m z) _ _ (λ e y s. pr-below rs n marks cf b within s) r w)
+-- ---- what fits the lent box can be made, at the place of the message's stamp
+module _ (told : Told) (t marks m : List ℕ) (lent : lentWrong told t ≡ 0) where
+  abbrev at : ℕ
+  at = place (stampOf (txPart m)) (entriesOf t)
 
-  pub lg-is : (l : Vl) → l ≡ listOf m → lgRefusal (cf .f) m ≡ 0 → (r : Step) → r ≡ stepBy (place (stampOf b) (entries rs n)) (lgRule cf (box (entries rs n) []) b l)
-      → (r ≡ stepIn t (bodyOf m) (lgLent cf t m)) × Ready t m r
-  unfolding lgLent boxIn entriesOf
-  lg-is l k z r w =
-      let a : r ≡ stepIn t (bodyOf m) (lgLent cf t m) = w ∙ (rw (p, q, u, k, ← through (lgRefusal (cf .f) m) (lgRule cf (boxIn t []) (bodyOf m) (listOf m)) z)) in
-      let c = lg-cut (cf .f) m z in
-      (a, ready cf t m lent (c .0, c .1) _ _ (λ e y s. lg-below rs n [] cf b within l s) r w)
+  is-ready : (c : Change) → FitsIn told (boxIn (kept t marks)) (txPart m) c → Bodied m c → Ready t m (changeBy at c)
+  unfolding FitsBy changeBy boxIn entriesOf Bodied
+  is-ready nothing h d = tt
+  is-ready (raises k s) h d = h
+  is-ready (puts e) h d =
+      let b : at < told .capacity = below (drop headLen t) (countOf t) (stampOf (txPart m)) (told .capacity) (few told t lent) (h .1) in
+      let l = long told t lent in
+      let c = small-capacity told t lent in
+      (omega arith, omega arith, d .0, d .1)
 
-  pub dc-is : (l : Vl) → l ≡ listOf m → dcRefusal (cf .f) m ≡ 0 → (r : Step) → r ≡ stepBy (place (stampOf b) (entries rs n)) (dcRule cf (box (entries rs n) []) b l)
-      → (r ≡ stepIn t (bodyOf m) (dcLent cf t m)) × Ready t m r
-  unfolding dcLent boxIn entriesOf
-  dc-is l k z r w =
-      let a : r ≡ stepIn t (bodyOf m) (dcLent cf t m) = w ∙ (rw (p, q, u, k, ← through (dcRefusal (cf .f) m) (dcRule cf (boxIn t []) (bodyOf m) (listOf m)) z)) in
-      let c = dc-cut (cf .f) m z in
-      (a, ready cf t m lent (c .0, c .1) _ _ (λ e y s. dc-below rs n [] cf b within l s) r w)
+  makes-table : (c : Change) → FitsIn told (boxIn (kept t marks)) (txPart m) c → tableOf t (txPart m) (changeBy at c) ≡ tableBy t c
+  unfolding FitsBy changeBy tableBy
+  makes-table nothing h = refl
+  makes-table (raises k s) h = refl
+  makes-table (puts e) h = ap (λ (b : Body). stored t (place (stampOf b) (entriesOf t)) b (stateIn e)) (sym (h .0))
 
--- ---- what is answered and left
-answer-step : (i : ℕ) (a : Act) → answerOf (stepBy i a) ≡ answerIn a
-unfolding stepBy answerIn
-answer-step i (keep a) = refl
-answer-step i (store e a) = refl
+  makes-marks : (c : Change) (ms : List ℕ) → marksOf ms (changeBy at c) ≡ marksAfter ms c
+  unfolding changeBy marksAfter
+  makes-marks nothing ms = refl
+  makes-marks (raises k s) ms = refl
+  makes-marks (puts e) ms = refl
 
--- an answer of RD, once it is found, can raise its mark
-module _ (m : List ℕ) (h : (12 ≤ length m) × (rdKey m ≤ 511)) where
-  has-key : (x : Box) (k s : ℕ) (a : Answer) → a ≡ rdAnswer x k s → RdReady m a
-  unfolding rdAnswer rdFound
-  has-key x k s a y = rw y h
+  -- the step of a message's rule does what the rule says
+  pub does : (k : Mark) → dueRefusal k told.f m ≡ 0 → (r : Step) → r ≡ stepBy at (rule k told (boxIn (kept t marks)) m)
+      → Does (rule k told (boxIn (kept t marks)) m) t m r
+  unfolding Fit stepBy
+  does k z r q =
+      let a = rule k told (boxIn (kept t marks)) m in
+      let h = rule-fits told (boxIn (kept t marks)) m k z in
+      rw q
+      (record {
+        ready = is-ready (a .change) h (rule-bodied k told (boxIn (kept t marks)) m z);
+        answer = refl;
+        table = makes-table (a .change) h;
+        marks = makes-marks (a .change);
+      })
 
--- a refusal in front
-module _ (n N : ℕ) (a : Act) (p : n ≡ N) (h : n ≡ 0 → ⊥) where
-  pub refused-answer : (q : Refusal) → q ≡ refusalOf n → refusedAnswer q ≡ answerIn (guarded N a)
-  unfolding answerIn
-  refused-answer q e = ap refusedAnswer e ∙ ap answerIn (halted n N a p h)
+-- ---- the list of a message that is cut fits its array, and is the message's
+module _ (m : List ℕ) (l : VoteList) (p : l ≡ heldList (listBehind m)) where
+  pub few-pairs : vlCut (vlPart m) ≡ 0 → l .count ≤ 26
+  unfolding heldList listBehind vlOf
+  few-pairs c =
+      let h = vl-there (vlPart m) _ refl c .0 in
+      let n : l .count ≡ vlCount (vlPart m) = ap (λ (y : VoteList). y .count) p ∙ tab-length _ 0 _ in
+      rw n h
 
-  pub refused-table : (t m : List ℕ) → t ≡ tableBy t m (guarded N a)
-  unfolding tableBy stepBy
-  refused-table t m = rw (← halted n N a p h)
+  pub list-is : listIn l ≡ listBehind m
+  list-is = ap listIn p ∙ list-in (listBehind m)
 
-  pub refused-marks : (marks m : List ℕ) → marks ≡ marksBy marks m (answerIn (guarded N a))
-  unfolding marksBy answerIn
-  refused-marks marks m = rw (← halted n N a p h)
+-- ---- the step on the rows is the lent table's: rows, their number and the body as the code has them
+module _ (told : Told) (t m rs : List ℕ) (n : ℕ) (p : rs ≡ drop headLen t) (q : n ≡ countOf t) (marks : List ℕ) (r : Step) where
+  abbrev its : Mark → Type 0
+  its k = r ≡ stepBy (place (stampOf (txPart m)) (entriesOf t)) (rule k told (boxIn (kept t marks)) m)
 
--- an act behind checks that passed
-module _ (t m : List ℕ) (N : ℕ) (a : Act) (s : Step) (z : N ≡ 0) (p : s ≡ stepIn t (bodyOf m) a) where
-  pub applied-answer : (r : Answer) → r ≡ answerOf s → r ≡ answerIn (guarded N a)
-  applied-answer r q = q ∙ ap answerOf p ∙ answer-step _ a ∙ ap answerIn (through N a z)
+  module _ (b : List ℕ) (u : b ≡ txPart m) where
+    pub pr-is : r ≡ stepBy (place (stampOf b) (entries rs n)) (prRule told (boxWith (entries rs n) marks) b) → its PR
+    unfolding rule boxIn entriesOf
+    pr-is w = w ∙ (rw (p, q, u))
 
-  pub applied-table : (u : List ℕ) → u ≡ tableOf t (bodyOf m) s → u ≡ tableBy t m (guarded N a)
-  unfolding tableBy
-  applied-table u q = q ∙ (rw (p, ← through N a z))
+    module _ (l : Vl) (k : l ≡ listBehind m) where
+      pub lg-is : r ≡ stepBy (place (stampOf b) (entries rs n)) (lgRule told (boxWith (entries rs n) marks) b l) → its LG
+      unfolding rule boxIn entriesOf
+      lg-is w = w ∙ (rw (p, q, u, k))
 
--- what is told, as the rules have it
-pub lent-told : (x y : Config) (t : List ℕ) → x ≡ y → lentWrong y t ≡ 0 → lentWrong x t ≡ 0
-lent-told x y t e q = rw e q
+      pub dc-is : r ≡ stepBy (place (stampOf b) (entries rs n)) (dcRule told (boxWith (entries rs n) marks) b l) → its DC
+      unfolding rule boxIn entriesOf
+      dc-is w = w ∙ (rw (p, q, u, k))
 
-module _ (x y : Config) (e : x ≡ y) (t m : List ℕ) where
-  module _ (s : Step) where
-    pub pr-told : (marks : List ℕ) → s ≡ stepIn t (bodyOf m) (prLent x t marks m) → s ≡ stepIn t (bodyOf m) (prLent y t marks m)
-    pr-told marks q = rw e at q
+  pub rd-is : (k : Key) (s : Stamp) → k .0 ≡ rdKey m → s .0 ≡ rdStamp m
+      → r ≡ stepBy (place (stampOf (txPart m)) (entriesOf t)) (rdRule told (boxWith (entries rs n) marks) (k .0) (s .0)) → its RD
+  unfolding rule boxIn entriesOf
+  rd-is k s u v w = w ∙ (rw (p, q, u, v))
 
-    pub lg-told : s ≡ stepIn t (bodyOf m) (lgLent x t m) → s ≡ stepIn t (bodyOf m) (lgLent y t m)
-    lg-told q = rw e at q
-
-    pub dc-told : s ≡ stepIn t (bodyOf m) (dcLent x t m) → s ≡ stepIn t (bodyOf m) (dcLent y t m)
-    dc-told q = rw e at q
-
-  pub rd-told : (a : Answer) → a ≡ answerIn (rdLent x t m) → a ≡ answerIn (rdLent y t m)
-  rd-told a q = rw e at q
-
--- ---- RD
-pub rd-read : (m : List ℕ) → rdRefusal m ≡ 0 → (12 ≤ length m) × (rdKey m ≤ 511)
-unfolding rdRefusal rdWrong
-rd-read m e = (rd-long m _ refl (first-none _ _ e), not-less _ _ _ (first-none _ _ (rest-none _ _ (rest-none _ _ e))))
-
-module _ (cf : Config) (t m : List ℕ) (z : rdRefusal m ≡ 0) where
-  pub rd-ahead : (s : ℕ) (b : Bool) → s ≡ rdStamp m → b ≡ ltb (limit cf) s → b ≡ true → refusedAnswer Ahead ≡ answerIn (rdLent cf t m)
-  unfolding rdLent rdRule guarded ifLess answerIn refusalOf
-  rd-ahead s b p q h =
-      let e : ltb (limit cf) (rdStamp m) ≡ true = sym (ap (ltb (limit cf)) p) ∙ sym q ∙ h in
-      rw (z, e)
-
-  pub rd-found : (s k n : ℕ) (rs : List ℕ) (b : Bool) (a : Answer) → s ≡ rdStamp m → k ≡ rdKey m → rs ≡ drop 1 t → n ≡ countOf t
-      → b ≡ ltb (limit cf) s → b ≡ false → a ≡ rdAnswer (over (entries rs n)) k s → (a ≡ answerIn (rdLent cf t m)) × RdReady m a
-  unfolding rdLent rdRule guarded ifLess answerIn boxIn entriesOf
-  rd-found s k n rs b a p u v w q h y =
-      let e : ltb (limit cf) (rdStamp m) ≡ false = sym (ap (ltb (limit cf)) p) ∙ sym q ∙ h in
-      (rw (z, e) (y ∙ (rw (p, u, v, w))), found-ready y)
-    where
-      found-ready : a ≡ rdAnswer (over (entries rs n)) k s → RdReady m a
-      found-ready y = has-key m (rd-read m z) (over (entries rs n)) k s a y
-
--- the answer behind checks that passed, and the marks that it leaves
-module _ (N : ℕ) (x : Act) (z : N ≡ 0) (a : Answer) (p : a ≡ answerIn x) where
-  pub rd-through : a ≡ answerIn (guarded N x)
-  rd-through = p ∙ ap answerIn (through N x z)
-
-  pub rd-marks : (marks m u : List ℕ) → u ≡ marksBy marks m a → u ≡ marksBy marks m (answerIn (guarded N x))
-  rd-marks marks m u q = q ∙ ap (marksBy marks m) rd-through
+-- a step that does an act, applied, leaves what the act leaves
+pub applied : {a : Act} {t m t' marks' : List ℕ} {s : Step} {r : Answer} (marks : List ℕ) → Does a t m s
+    → (r ≡ s .answer) × (t' ≡ tableOf t (txPart m) (s .change)) × (marks' ≡ marksOf marks (s .change)) → Leaves a (kept t marks) r (kept t' marks')
+applied marks d w = (w .0 ∙ d .answer, w .1 ∙ d .table, w .2 ∙ d .marks marks)

@@ -1,2 +1,3 @@
 pub mod Outcome
-pub mod Traces
+pub mod Safety
+pub mod Busy

@@ -1,3 +1,3 @@
 pub mod Putting
 pub mod Decimals
-pub mod Texts
+pub mod Marks

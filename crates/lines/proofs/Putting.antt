@@ -6,7 +6,7 @@ use mathlib.Core.Path.{_≡_, refl, ap, sym, _∙_}
 use mathlib.Core.List.{List, [], _++_, append-assoc}
 use lib.ListN.{length, take, drop, set, getD, length-append, length-drop, take-append-drop}
 use lib.Seq.{length-take-le, take-at, drop-at, drop-drop, take-all, paste, paste-zero, paste-suc, length-paste}
-use Rattle.lines.specs.Lines.{putAt, Puts}
+use Rattle.lines.specs.Lines.{blank, putAt, Puts}
 
 module _ (o : List ℕ) (at : ℕ) (p : List ℕ) (h : at + length p ≤ length o) where
   front-long : length (take at o ++ p) ≡ at + length p
@@ -61,6 +61,11 @@ puts-both {o} {p} {q} {e} {f} {at} {b} {c} x y h =
 pub puts-word : {o p e f : List ℕ} {at b c m : ℕ} (w : List ℕ)
     → Puts o at p m e b → (c ≡ b + length w) × (f ≡ putAt e b w) → at + m ≤ length o → Puts o at (p ++ w) (m + length w) f c
 puts-word w x y h = puts-both x (record { place = y .0; written = y .1; short = le-refl (length w) }) h
+
+-- two texts with a blank between them
+pub puts-apart : {o p q e f g : List ℕ} {at b c d m n : ℕ}
+    → Puts o at p m e b → (c ≡ b + length blank) × (f ≡ putAt e b blank) → Puts f c q n g d → at + m + 1 ≤ length o → Puts o at (p ++ (blank ++ q)) (m + 1 + n) g d
+puts-apart {p = p} {q = q} x w y h = rw (← append-assoc p blank q) (puts-both (puts-word blank x w (omega arith)) y (omega arith))
 
 -- a bound that is not as close, and the same text by its name
 pub puts-within : {o t e : List ℕ} {at b m n : ℕ} → Puts o at t m e b → m ≤ n → Puts o at t n e b

@@ -1,19 +1,21 @@
 -- 01, 'Bench program': "Each record prints number from 0, its mark (`??` if the mark is cut or not GP, CK, PR, LG, DC, RD), the answer."
 use Prim.Native.Nat.{ℕ, zero, suc, _+_, _-_, _*_, _/_, _%_, _≤_}
 use mathlib.Core.Path.{_≡_}
-use mathlib.Core.Bool.{Bool, _||_}
+use mathlib.Core.Bool.{Bool, true, false, _||_}
 use mathlib.Core.List.{List, [], _∷_, _++_}
 use lib.ListN.{length, take, drop}
 use lib.Dec.{ltb}
 use Rattle.terms.specs.Choice.{pick}
 use Rattle.terms.specs.Refusals.{numberOf}
-use Rattle.records.specs.Cutting.{markPR, markLG, markDC, markRD}
-use Rattle.records.specs.Messages.{isMark}
+use Rattle.records.specs.declared.Marked.{Marked}
+use Rattle.records.specs.declared.Marked.the-variants.{Is, Refused as Unmarked}
+use Rattle.records.specs.Messages.{isMark, markOf}
 use Rattle.rules.specs.Answers.{reasonNumber}
 use Rattle.terms.specs.declared.Decision.{Decision}
 use Rattle.terms.specs.declared.Decision.the-variants.{Commit as commit, Abort as abort}
 use Rattle.rules.specs.declared.Vote.{Vote}
-use Rattle.rules.specs.declared.Vote.the-variants.{None as unvoted, Waiting as waiting, Commit as voteCommit, Abort as voteAbort}
+use Rattle.rules.specs.declared.Vote.the-variants.{None as unvoted, Commit as voteCommit, Abort as voteAbort, Waiting as waiting}
+use Rattle.rules.specs.declared.Version.{Version}
 use Rattle.rules.specs.declared.Answer.{Answer}
 use Rattle.rules.specs.declared.Answer.the-variants.{Voted, Decided, Logged, Done, Found, Refused}
 use Rattle.lines.specs.declared.Said.{Said}
@@ -89,13 +91,16 @@ decisionText abort = abortText
 -- "`commit`, `abort` and reason, `wait`"; no PR is answered with vote none
 unfoldable pub voteText : Vote → List ℕ
 voteText unvoted = noneText
-voteText waiting = waitText
 voteText voteCommit = commitText
 voteText (voteAbort r) = abortBlank ++ decimal (reasonNumber r)
+voteText waiting = waitText
 
 -- "four numbers for RD (committed version, value, undecided version, value)"
-unfoldable pub fourText : ℕ → ℕ → ℕ → ℕ → List ℕ
-fourText a b c d = decimal a ++ (blank ++ (decimal b ++ (blank ++ (decimal c ++ (blank ++ decimal d)))))
+unfoldable pub versionText : Version → List ℕ
+versionText v = decimal (v .stamp .0) ++ (blank ++ decimal (v .value))
+
+unfoldable pub foundText : Version → Version → List ℕ
+foundText c u = versionText c ++ (blank ++ versionText u)
 
 -- "`decided`/`logged` and commit or abort, `done`, .. `refused` and number"
 unfoldable pub answerText : Answer → List ℕ
@@ -103,7 +108,7 @@ answerText (Voted v) = voteText v
 answerText (Decided d) = decidedBlank ++ decisionText d
 answerText (Logged d) = loggedBlank ++ decisionText d
 answerText Done = doneText
-answerText (Found version value undecided its) = fourText version value undecided its
+answerText (Found c u) = foundText c u
 answerText (Refused r) = refusedBlank ++ decimal (numberOf r)
 
 -- "`ok`": a GP or a CK that was taken
@@ -122,13 +127,17 @@ markCK = 67 ∷ 75 ∷ []
 abbrev pub noMark : List ℕ
 noMark = 63 ∷ 63 ∷ []
 
--- "GP, CK, PR, LG, DC, RD"
-unfoldable pub known : List ℕ → Bool
-known s = isMark markGP s || (isMark markCK s || (isMark markPR s || (isMark markLG s || (isMark markDC s || isMark markRD s))))
+-- "PR, LG, DC, RD"
+abbrev pub isMessage : Marked → Bool
+isMessage (Is k) = true
+isMessage (Unmarked n) = false
 
--- "its mark (`??` if the mark is cut or not ..)"
+-- "its mark (`??` if the mark is cut or not GP, CK, PR, LG, DC, RD)"
+unfoldable pub known : List ℕ → Bool
+known s = pick (ltb (length s) 2) false (isMark markGP s || (isMark markCK s || isMessage (markOf s)))
+
 unfoldable pub markText : List ℕ → List ℕ
-markText s = pick (ltb (length s) 2) noMark (pick (known s) (take 2 s) noMark)
+markText s = pick (known s) (take 2 s) noMark
 
 -- ---- a line: number k, the mark of the bytes s, what was said
 unfoldable pub lineOf : ℕ → List ℕ → Said → List ℕ

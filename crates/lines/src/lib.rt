@@ -2,8 +2,10 @@
 ghost use mathlib.Core.Path.{_≡_};
 ghost use Prim.Native.Nat.{_+_, _≤_};
 ghost use lib.ListN.{length};
-ghost use Rattle.lines.specs.Lines.{decimal, decisionText, voteText, fourText, answerText, saidText, known, markText, lineOf, putAt, Puts};
+ghost use Rattle.lines.specs.Lines.{decimal, decisionText, voteText, versionText, foundText, answerText, saidText, isMessage, known, markText, lineOf, putAt, Puts};
+use records::Marked;
 use rules::Answer;
+use rules::Version;
 use rules::Vote;
 use terms::Decision;
 
@@ -43,36 +45,36 @@ fn put_decimal(out: &mut [u8], at: usize, x: u64) -> usize
     put_text(out, at, &digits[i..])
 }
 
-// Whether a record begins with one of the six marks.
+// Whether a mark is that of a message.
+fn is_message(found: Marked) -> bool
+    ensures { λ r. ⌜ r ≡ isMessage found ⌝ }
+{
+    match found {
+        Marked::Is(_) => true,
+        Marked::Refused(_) => false,
+    }
+}
+
+// Whether a record begins with one of the six marks; one that is cut does not.
 fn is_known(s: &[u8]) -> bool
-    requires { ⌜ 2 ≤ length (now s) ⌝ }
     ensures { λ r. ⌜ r ≡ known (now (s .entry)) ⌝ }
 {
+    if s.len() < 2 {
+        return false;
+    }
     if reading::is_mark(s, b"GP") {
         return true;
     }
     if reading::is_mark(s, b"CK") {
         return true;
     }
-    if reading::is_mark(s, b"PR") {
-        return true;
-    }
-    if reading::is_mark(s, b"LG") {
-        return true;
-    }
-    if reading::is_mark(s, b"DC") {
-        return true;
-    }
-    reading::is_mark(s, b"RD")
+    is_message(reading::mark_of(s))
 }
 
 fn put_mark(out: &mut [u8], at: usize, s: &[u8]) -> usize
     requires { ⌜ at + 2 ≤ length (now out) ⌝ }
     ensures { λ r. ⌜ Puts (now (out .entry)) at (markText (now (s .entry))) 2 (now (out .exit)) r ⌝ }
 {
-    if s.len() < 2 {
-        return put_text(out, at, b"??");
-    }
     if is_known(s) {
         return put_text(out, at, &s[0..2]);
     }
@@ -95,27 +97,32 @@ fn put_vote(out: &mut [u8], at: usize, v: Vote) -> usize
 {
     match v {
         Vote::None => put_text(out, at, b"none"),
-        Vote::Waiting => put_text(out, at, b"wait"),
         Vote::Commit => put_text(out, at, b"commit"),
         Vote::Abort(why) => {
             let a = put_text(out, at, b"abort ");
             put_decimal(out, a, why.number() as u64)
         }
+        Vote::Waiting => put_text(out, at, b"wait"),
     }
 }
 
-// What an RD finds: four numbers.
-fn put_four(out: &mut [u8], at: usize, version: u64, value: u64, undecided: u64, its: u64) -> usize
-    requires { ⌜ at + 83 ≤ length (now out) ⌝ }
-    ensures { λ r. ⌜ Puts (now (out .entry)) at (fourText version value undecided its) 83 (now (out .exit)) r ⌝ }
+fn put_version(out: &mut [u8], at: usize, v: Version) -> usize
+    requires { ⌜ at + 41 ≤ length (now out) ⌝ }
+    ensures { λ r. ⌜ Puts (now (out .entry)) at (versionText v) 41 (now (out .exit)) r ⌝ }
 {
-    let a = put_decimal(out, at, version);
+    let a = put_decimal(out, at, v.stamp.0);
     let b = put_text(out, a, b" ");
-    let c = put_decimal(out, b, value);
-    let d = put_text(out, c, b" ");
-    let e = put_decimal(out, d, undecided);
-    let f = put_text(out, e, b" ");
-    put_decimal(out, f, its)
+    put_decimal(out, b, v.value)
+}
+
+// What an RD finds: four numbers.
+fn put_found(out: &mut [u8], at: usize, committed: Version, undecided: Version) -> usize
+    requires { ⌜ at + 83 ≤ length (now out) ⌝ }
+    ensures { λ r. ⌜ Puts (now (out .entry)) at (foundText committed undecided) 83 (now (out .exit)) r ⌝ }
+{
+    let a = put_version(out, at, committed);
+    let b = put_text(out, a, b" ");
+    put_version(out, b, undecided)
 }
 
 fn put_answer(out: &mut [u8], at: usize, answer: Answer) -> usize
@@ -133,14 +140,7 @@ fn put_answer(out: &mut [u8], at: usize, answer: Answer) -> usize
             put_decision(out, a, d)
         }
         Answer::Done => put_text(out, at, b"done"),
-        Answer::Found(version, value, undecided, its) => put_four(
-            out,
-            at,
-            version,
-            value,
-            undecided,
-            its,
-        ),
+        Answer::Found(committed, undecided) => put_found(out, at, committed, undecided),
         Answer::Refused(why) => {
             let a = put_text(out, at, b"refused ");
             put_decimal(out, a, why.number() as u64)

@@ -1,34 +1,68 @@
--- Answers by their number: a refusal, or what was read.
-use Prim.Native.Nat.{ℕ, zero, suc}
-use mathlib.Core.Path.{_≡_, refl, ap, sym, _∙_}
-use mathlib.Core.List.{List}
+-- Answers by their number: the value, or the number only.
+use Prim.Native.Nat.{ℕ, zero, suc, _≤_}
 use native.Mathlib.Omega.{arith}
+use mathlib.Core.Path.{_≡_, refl, ap, sym, _∙_}
+use mathlib.Core.List.{List, [], _∷_}
+use mathlib.Core.Logic.{inl, inr}
+use types.Run.{OneOf}
+use denote.Enum.Declared.{tagOf}
 use Rattle.terms.specs.Checks.{orElse}
-use Rattle.records.specs.declared.Found.{Found}
-use Rattle.records.specs.declared.Found.the-variants.{RD}
+use Rattle.terms.proofs.Checks.{pass, stop, together}
+use Rattle.terms.specs.declared.Key.{Key}
+use Rattle.terms.specs.declared.Stamp.{Stamp}
+use Rattle.records.specs.declared.Mark.{Mark}
+use Rattle.records.specs.declared.Mark.the-variants.{PR, LG, DC, RD}
+use Rattle.records.specs.declared.Marked.{Marked}
 use Rattle.records.specs.declared.Transaction.{Transaction}
 use Rattle.records.specs.declared.VoteList.{VoteList}
 use Rattle.records.specs.declared.Reading.{Reading}
+use Rattle.records.specs.declared.TxReading.{TxReading}
 use Rattle.records.specs.Tx.{Tx, txOf, txIn, heldTx, noTx}
 use Rattle.records.specs.Vl.{Vl, vlOf, listIn, heldList, noList}
-use Rattle.records.specs.Contents.{txWrong}
-use Rattle.records.specs.Messages.{refusedReading, readingBy}
+use Rattle.records.specs.Contents.{txWrong, listWrong, rdWrong}
+use Rattle.records.specs.Cutting.{txPart}
+use Rattle.records.specs.Messages.{listBehind, txReadingBy, vlReadingBy, refusedReading, messageTx, messageList, messageKey, messageStamp, contentsWrong, dueRefusal, readingBy, readDue, readMarked, readingAfter}
 use Rattle.records.proofs.Held.{tx-in, list-in}
-use Rattle.answer.specs.declared.TxAnswer.the-variants.{Tx as readTx, Refused as refusedTx}
-use Rattle.answer.specs.declared.TxReading.{TxReading}
-use Rattle.answer.specs.declared.Listed.{Listed}
-use Rattle.answer.specs.Answer.{numberIn, foundIn, listWrongIn, listedReading, judgedBy}
-use Rattle.reading.specs.Part.{partReading}
+use Rattle.records.proofs.Mark as M
+use Rattle.reading.specs.Judging.{txReadingOf, vlReadingOf, readingOf, early, listWrongIn, judgedBy}
+use Rattle.reading.proofs.Cuts.{Listed, by-list}
 
--- a reading
-pub refused-by : (n N : ℕ) (w : Found) (x : Tx) (l : Vl) → n ≡ N → (n ≡ 0 → ⊥) → refusedReading n ≡ readingBy N w x l
-unfolding readingBy
-refused-by n zero w x l p h = absurd (h p)
-refused-by n (suc N) w x l p h = ap refusedReading p
+-- a refusal has its number only
+pub tx-refused : (n : ℕ) (t none : Transaction) → (n ≡ 0 → ⊥) → none ≡ heldTx noTx → record { wrong = n; tx = none } ≡ txReadingOf n t
+unfolding txReadingOf
+tx-refused zero t none h e = absurd (h refl)
+tx-refused (suc n) t none h e = rw e
 
-pub read-by : (N : ℕ) (w : Found) (x : Tx) (l : Vl) (t : Transaction) (v : VoteList) → 0 ≡ N → t ≡ heldTx x → v ≡ heldList l → record { found = w; tx = t; list = v } ≡ readingBy N w x l
-unfolding readingBy
-read-by N w x l t v p a b = rw (← p, a, b)
+pub vl-refused : (n : ℕ) (l none : VoteList) → (n ≡ 0 → ⊥) → none ≡ heldList noList → record { wrong = n; list = none } ≡ vlReadingOf n l
+unfolding vlReadingOf
+vl-refused zero l none h e = absurd (h refl)
+vl-refused (suc n) l none h e = rw e
+
+pub reading-refused : (n : ℕ) (k : Mark) (t : Transaction) (l : VoteList) (key : Key) (s : Stamp) → (n ≡ 0 → ⊥) → refusedReading n ≡ readingOf n k t l key s
+unfolding readingOf
+reading-refused zero k t l key s h = absurd (h refl)
+reading-refused (suc n) k t l key s h = refl
+
+-- a TX and a VL by themselves
+pub tx-none : (n N : ℕ) (x : Tx) (t : Transaction) → n ≡ N → (n ≡ 0 → ⊥) → txReadingOf n t ≡ txReadingBy N x
+unfolding txReadingOf txReadingBy
+tx-none zero N x t p h = absurd (h refl)
+tx-none (suc n) N x t p h = rw (← p)
+
+pub tx-by : (n N : ℕ) (x : Tx) (t : Transaction) → n ≡ N → t ≡ heldTx x → txReadingOf n t ≡ txReadingBy N x
+unfolding txReadingOf txReadingBy
+tx-by zero N x t p e = rw (← p, e)
+tx-by (suc n) N x t p e = rw (← p)
+
+pub vl-none : (n N : ℕ) (x : Vl) (l : VoteList) → n ≡ N → (n ≡ 0 → ⊥) → vlReadingOf n l ≡ vlReadingBy N x
+unfolding vlReadingOf vlReadingBy
+vl-none zero N x l p h = absurd (h refl)
+vl-none (suc n) N x l p h = rw (← p)
+
+pub vl-by : (n N : ℕ) (x : Vl) (l : VoteList) → n ≡ N → l ≡ heldList x → vlReadingOf n l ≡ vlReadingBy N x
+unfolding vlReadingOf vlReadingBy
+vl-by zero N x l p e = rw (← p, e)
+vl-by (suc n) N x l p e = rw (← p)
 
 -- the check of a struct is the check of what it was read from
 pub wrong-tx : (x : Tx) (t : Transaction) (n : ℕ) → t ≡ heldTx x → n ≡ txWrong (txIn t) → n ≡ txWrong x
@@ -37,76 +71,77 @@ wrong-tx x t n a p = p ∙ ap (λ (y : Transaction). txWrong (txIn y)) a ∙ ap 
 pub wrong-list : (W : Vl → ℕ) (l : Vl) (v : VoteList) (n : ℕ) → v ≡ heldList l → n ≡ W (listIn v) → n ≡ W l
 wrong-list W l v n a p = p ∙ ap (λ (y : VoteList). W (listIn y)) a ∙ ap W (list-in l)
 
--- a TX part's answer
-pub part-refused : (x : Tx) (n : ℕ) (N : ℕ) (t : Transaction) → n ≡ N → (n ≡ 0 → ⊥) → t ≡ heldTx noTx → record { answer = refusedTx n; tx = t } ≡ partReading N x
-unfolding partReading
-part-refused x n zero t p h a = absurd (h p)
-part-refused x n (suc N) t p h a = rw (p, a)
+pub rd-same : {k s x y : ℕ} → k ≡ x → s ≡ y → rdWrong k s ≡ rdWrong x y
+rd-same p q = cc
 
-pub part-read : (x : Tx) (n N : ℕ) (t : Transaction) → n ≡ N → n ≡ 0 → t ≡ heldTx x → record { answer = readTx (t .stamp); tx = t } ≡ partReading N x
-unfolding partReading heldTx
-part-read x n N t p z a = rw (← p, z, a)
-
--- taken from the answer: the transaction, or the refusal's number
-pub taken-tx : (N : ℕ) (x : Tx) (r : TxReading) (s : _) → r ≡ partReading N x → r .answer ≡ readTx s → (0 ≡ N) × (r .tx ≡ heldTx x)
-unfolding partReading
-taken-tx zero x r s p q = (refl, ap (λ (y : TxReading). y .tx) p)
-taken-tx (suc N) x r s p q = absurd (let z : _≡_ {A = ℕ} 0 1 = cc in omega arith)
-
-pub taken-refusal : (N : ℕ) (x : Tx) (r : TxReading) (k : ℕ) → r ≡ partReading N x → r .answer ≡ refusedTx k → (k ≡ N) × (k ≡ 0 → ⊥)
-unfolding partReading
-taken-refusal zero x r k p q = absurd (let z : _≡_ {A = ℕ} 0 1 = cc in omega arith)
-taken-refusal (suc N) x r k p q = let e : k ≡ suc N = cc in (e, λ (z : k ≡ 0). omega arith)
-
-pub passed-on : (N : ℕ) (x : Tx) (r : TxReading) (k : ℕ) → r ≡ partReading N x → r .answer ≡ refusedTx k → (numberIn (r .answer) ≡ N) × (numberIn (r .answer) ≡ 0 → ⊥)
-passed-on N x r k p q =
-    let w : numberIn (r .answer) ≡ k = ap numberIn q in
-    let t : (k ≡ N) × (k ≡ 0 → ⊥) = taken-refusal N x r k p q in
-    (w ∙ t .0, λ (z : numberIn (r .answer) ≡ 0). t .1 (sym w ∙ z))
-
--- a chain whose first three links are judged together
-pub three-stop : (a b c d n : ℕ) → n ≡ orElse a (orElse b c) → (n ≡ 0 → ⊥) → n ≡ orElse a (orElse b (orElse c d))
-unfolding orElse
-three-stop zero zero zero d n p h = absurd (h p)
-three-stop zero zero (suc c) d n p h = p
-three-stop zero (suc b) c d n p h = p
-three-stop (suc a) b c d n p h = p
-
-three-pass : (a b c d n x : ℕ) → n ≡ orElse a (orElse b c) → n ≡ 0 → x ≡ d → x ≡ orElse a (orElse b (orElse c d))
-unfolding orElse
-three-pass zero zero zero d n x p z q = q
-three-pass zero zero (suc c) d n x p z q = absurd (omega arith)
-three-pass zero (suc b) c d n x p z q = absurd (omega arith)
-three-pass (suc a) b c d n x p z q = absurd (omega arith)
-
--- judged with the list behind it: the transaction's refusal, then the list's
-listed-by : (n : ℕ) (w : Listed) (x : Tx) (l : Vl) → listedReading n w (heldTx x) (heldList l) ≡ readingBy n (foundIn w) x l
-unfolding listedReading readingBy
-listed-by zero w x l = refl
-listed-by (suc n) w x l = refl
-
-pub judged-is : (N f : ℕ) (x : Tx) (l : Vl) (w : Listed) (r : TxReading) (v : VoteList) → r ≡ partReading N x → v ≡ heldList l → judgedBy r w f v ≡ readingBy (orElse N (listWrongIn w f l)) (foundIn w) x l
-unfolding partReading orElse readingBy
-judged-is zero f x l w r v p q =
-    ap (λ (y : TxReading). judgedBy y w f v) p ∙ ap (λ (u : VoteList). listedReading (listWrongIn w f (listIn u)) w (heldTx x) u) q
-    ∙ ap (λ (y : Vl). listedReading (listWrongIn w f y) w (heldTx x) (heldList l)) (list-in l) ∙ listed-by (listWrongIn w f l) w x l
-judged-is (suc N) f x l w r v p q = ap (λ (y : TxReading). judgedBy y w f v) p
-
--- and where the chain before it passes
-pub judged-by : (a b c N f n : ℕ) (x : Tx) (l : Vl) (w : Listed) (r : TxReading) (v : VoteList) (y : Reading) → n ≡ orElse a (orElse b c) → n ≡ 0 → r ≡ partReading N x → v ≡ heldList l → y ≡ judgedBy r w f v
-    → y ≡ readingBy (orElse a (orElse b (orElse c (orElse N (listWrongIn w f l))))) (foundIn w) x l
-judged-by a b c N f n x l w r v y p z q u e =
-    e ∙ judged-is N f x l w r v q u ∙ ap (λ (k : ℕ). readingBy k (foundIn w) x l) (three-pass a b c (orElse N (listWrongIn w f l)) n (orElse N (listWrongIn w f l)) p z refl)
-
--- the answer for a part, by what the part is
-pub part-at : (s t : List ℕ) (r : TxReading) → s ≡ t → r ≡ partReading (txWrong (txOf s)) (txOf s) → r ≡ partReading (txWrong (txOf t)) (txOf t)
-part-at s t r p q = rw p at q
+pub tx-at : {s t : List ℕ} {x : Transaction} → s ≡ t → x ≡ heldTx (txOf s) → x ≡ heldTx (txOf t)
+tx-at p q = rw p at q
 
 pub list-at : {s t : List ℕ} {v : VoteList} → s ≡ t → v ≡ heldList (vlOf s) → v ≡ heldList (vlOf t)
 list-at p q = rw p at q
 
--- an RD's key and stamp
-pub rd-read : (N : ℕ) (k s k′ s′ : ℕ) (t : Transaction) (v : VoteList) → 0 ≡ N → t ≡ heldTx noTx → v ≡ heldList noList → k ≡ k′ → s ≡ s′
-    → record { found = RD (record { 0 = k }) (record { 0 = s }); tx = t; list = v } ≡ readingBy N (RD (record { 0 = k′ }) (record { 0 = s′ })) noTx noList
-unfolding readingBy
-rd-read N k s k′ s′ t v p a b x y = rw (← p, a, b, x, y)
+-- a message: its fields are what its mark says
+module _ (k : Mark) (m : List ℕ) where
+  pub reading-by : (n N : ℕ) (t : Transaction) (l : VoteList) (key : Key) (s : Stamp) → n ≡ N → t ≡ heldTx (messageTx k m) → l ≡ heldList (messageList k m)
+      → key ≡ record { 0 = messageKey k m } → s ≡ record { 0 = messageStamp k m } → readingOf n k t l key s ≡ readingBy N k m
+  unfolding readingOf readingBy
+  reading-by zero N t l key s p a b c d = rw (← p, a, b, c, d)
+  reading-by (suc n) N t l key s p a b c d = rw (← p)
+
+-- the list of another message than an LG
+pub other-list : (k : Mark) (f : ℕ) (l : Vl) → OneOf (0 ∷ 2 ∷ 3 ∷ []) (tagOf M.the-type k) → listWrong f l ≡ listWrongIn k f l
+other-list PR f l h = refl
+other-list LG f l h = absurd (elim h [ inl e ↦ omega arith | inr r ↦ elim r [ inl e ↦ omega arith | inr e ↦ omega arith ] ])
+other-list DC f l h = refl
+other-list RD f l h = refl
+
+-- judged with the list behind it: the transaction's refusal, then the list's
+pub judged-at : (k : Mark) (f : ℕ) (r r′ : TxReading) (l l′ : VoteList) → r ≡ r′ → l ≡ l′ → judgedBy r k f l ≡ judgedBy r′ k f l′
+judged-at k f r r′ l l′ p q = ap (λ (y : TxReading). judgedBy y k f l) p ∙ ap (λ (y : VoteList). judgedBy r′ k f y) q
+
+pub judged-is : (k : Mark) (m : List ℕ) (N f : ℕ) (x : Tx) (l : Vl) → x ≡ messageTx k m → l ≡ messageList k m → 0 ≡ messageKey k m → 0 ≡ messageStamp k m
+    → judgedBy (txReadingBy N x) k f (heldList l) ≡ readingBy (orElse N (listWrongIn k f l)) k m
+unfolding txReadingBy orElse readingBy
+judged-is k m zero f x l a b c d =
+    reading-by k m _ _ _ _ _ _ (ap (listWrongIn k f) (list-in l)) (ap heldTx a) (ap heldList b) (ap (λ (n : ℕ). record { 0 = n }) c) (ap (λ (n : ℕ). record { 0 = n }) d)
+judged-is k m (suc N) f x l a b c d = refl
+
+pub listed-read : (f : ℕ) (m : List ℕ) (k : Mark) → Listed k
+    → judgedBy (txReadingBy (txWrong (txOf (txPart m))) (txOf (txPart m))) k f (heldList (listBehind m)) ≡ readingBy (contentsWrong k f m) k m
+unfolding contentsWrong messageTx messageList messageKey messageStamp
+listed-read f m =
+    by-list (λ (k : Mark). judgedBy (txReadingBy (txWrong (txOf (txPart m))) (txOf (txPart m))) k f (heldList (listBehind m)) ≡ readingBy (contentsWrong k f m) k m)
+    (judged-is LG m _ f _ _ refl refl refl refl)
+    (judged-is DC m _ f _ _ refl refl refl refl)
+
+-- the chain of a message's refusals, and where its contents are all that is left
+module _ (k : Mark) (f : ℕ) (m : List ℕ) where
+  pub due-chain : orElse (early k f m) (contentsWrong k f m) ≡ dueRefusal k f m
+  unfolding early dueRefusal
+  due-chain = together _ _ _ ∙ ap (orElse _) (together _ _ _)
+
+  refused-by : (n N : ℕ) → n ≡ N → (n ≡ 0 → ⊥) → refusedReading n ≡ readingBy N k m
+  unfolding readingBy
+  refused-by n zero p h = absurd (h p)
+  refused-by n (suc N) p h = ap refusedReading p
+
+  pub due-early : (n : ℕ) → n ≡ early k f m → (n ≡ 0 → ⊥) → refusedReading n ≡ readDue k f m
+  unfolding readDue
+  due-early n p h = refused-by n _ (stop _ _ _ p h ∙ due-chain) h
+
+  pub due-read : early k f m ≡ 0 → readingBy (contentsWrong k f m) k m ≡ readDue k f m
+  unfolding readDue
+  due-read z = ap (λ (n : ℕ). readingBy n k m) (pass z refl ∙ due-chain)
+
+pub marked-at : {k k′ : Marked} (f : ℕ) (m : List ℕ) → k ≡ k′ → readMarked k f m ≡ readMarked k′ f m
+marked-at f m p = cc
+
+-- "14 ..; then cutting"
+pub after-refused : (n N : ℕ) (r : Reading) → n ≡ N → (n ≡ 0 → ⊥) → refusedReading n ≡ readingAfter N r
+unfolding readingAfter
+after-refused n zero r p h = absurd (h p)
+after-refused n (suc N) r p h = ap refusedReading p
+
+pub after-passed : (n N : ℕ) (r : Reading) → n ≡ N → n ≡ 0 → r ≡ readingAfter N r
+unfolding readingAfter
+after-passed n N r p z = rw (← p, z)

@@ -2,17 +2,25 @@
 use Prim.Native.Nat.{ℕ, _≤_}
 use native.Mathlib.Omega.{arith}
 use mathlib.Core.Path.{_≡_, refl, sym, _∙_}
-use mathlib.Core.List.{List}
+use mathlib.Core.List.{List, [], _∷_}
+use mathlib.Core.Logic.{inl, inr}
+use types.Run.{OneOf}
+use denote.Enum.Declared.{tagOf}
 use lib.ListN.{length, take, drop, length-take}
 use lib.Seq.{getD-take}
-use Rattle.terms.specs.Checks.{orElse, ifLess, short}
+use lib.Dec.{ltb}
+use Rattle.terms.specs.Checks.{orElse, when, ifLess, short}
 use Rattle.terms.specs.Group.{groupWrong, largestF}
 use Rattle.terms.proofs.Checks.{first-none, rest-none, not-less}
 use Rattle.terms.proofs.Groups.{group-small}
+use Rattle.records.specs.declared.Mark.{Mark}
+use Rattle.records.specs.declared.Mark.the-variants.{PR, LG, DC, RD}
 use Rattle.records.specs.Tx.{rCount, wCount, txLen, TxThere}
 use Rattle.records.specs.Vl.{vlCount, vlLen, VlThere}
-use Rattle.records.specs.Contents.{countsWrong, countWrong, rdWrong}
-use Rattle.records.specs.Cutting.{markWrong, txCut, vlCut, behindWrong, behindMark, txPart, vlPart, prCut, listedCut, rdCut}
+use Rattle.records.specs.Contents.{countsWrong, countWrong}
+use Rattle.records.specs.Cutting.{markBytes, markWrong, txCut, vlCut, behindWrong, behindMark, txPart, vlPart, listedCut, restCut, messageCut, listedLen, messageLen, rdLen}
+use Rattle.records.proofs.Mark as M
+use Rattle.reading.specs.Judging.{early}
 
 few : (r w : ℕ) → countsWrong r w ≡ 0 → (r ≤ 8) × (w ≤ 8)
 unfolding countsWrong
@@ -69,18 +77,76 @@ module _ (m : List ℕ) (cut : txCut (behindMark m) ≡ 0) where
       let w : take n s ≡ take (txLen (behindMark m)) (behindMark m) = rw (q, p) in
       (w, rw w (front-there (behindMark m) there))
 
+-- a chain that passed and ends with a length
+pub head-long : (l k n a b x : ℕ) → k ≤ n → x ≡ orElse a b → b ≡ when (ltb l n) short → x ≡ 0 → k ≤ l
+unfolding when ifLess
+head-long l k n a b x h p q z = let g : n ≤ l = not-less l n 0 (sym q ∙ rest-none a b (sym p ∙ z)) in omega arith
+
+-- an LG or a DC, as a match tells it
+abbrev pub Listed : Mark → Type 0
+Listed k = OneOf (1 ∷ 2 ∷ []) (tagOf M.the-type k)
+
+pub by-list : (P : Mark → Type 0) → P LG → P DC → (k : Mark) → Listed k → P k
+by-list P a b PR h = absurd (elim h [ inl e ↦ omega arith | inr e ↦ omega arith ])
+by-list P a b LG h = a
+by-list P a b DC h = b
+by-list P a b RD h = absurd (elim h [ inl e ↦ omega arith | inr e ↦ omega arith ])
+
 -- the whole messages
-pub pr-cuts : (m : List ℕ) (x : ℕ) → x ≡ prCut m → x ≡ 0 → (2 ≤ length m) × (txCut (behindMark m) ≡ 0)
-unfolding prCut
-pr-cuts m x p z = (mark-long _ _ _ refl (first-none _ _ (sym p ∙ z)), rest-none _ _ (sym p ∙ z))
+abbrev pub TxCut : List ℕ → Type 0
+TxCut m = (2 ≤ length m) × (txCut (behindMark m) ≡ 0)
 
-pub listed-cuts : (due m : List ℕ) (x : ℕ) → x ≡ listedCut due m → x ≡ 0 → (2 ≤ length m) × (txCut (behindMark m) ≡ 0) × (vlCut (vlPart m) ≡ 0)
+abbrev pub ListedCut : List ℕ → Type 0
+ListedCut m = (2 ≤ length m) × (txCut (behindMark m) ≡ 0) × (vlCut (vlPart m) ≡ 0)
+
+pub message-long : (k : Mark) (m : List ℕ) → messageCut k m ≡ 0 → 2 ≤ length m
+unfolding messageCut
+message-long k m z = mark-long _ _ _ refl (first-none _ _ z)
+
+rest-cut : (k : Mark) (m : List ℕ) → messageCut k m ≡ 0 → restCut k m ≡ 0
+unfolding messageCut
+rest-cut k m z = rest-none _ _ z
+
+pub pr-cuts : (m : List ℕ) → messageCut PR m ≡ 0 → TxCut m
+unfolding restCut
+pr-cuts m z = (message-long PR m z, rest-cut PR m z)
+
+parts-cut : (m : List ℕ) → 2 ≤ length m → listedCut m ≡ 0 → ListedCut m
 unfolding listedCut
-listed-cuts due m x p z = (mark-long _ _ _ refl (first-none _ _ (sym p ∙ z)), first-none _ _ (rest-none _ _ (sym p ∙ z)), rest-none _ _ (rest-none _ _ (sym p ∙ z)))
+parts-cut m l z = (l, first-none _ _ z, rest-none _ _ z)
 
-pub rd-long : (m : List ℕ) (x : ℕ) → x ≡ rdCut m → x ≡ 0 → 12 ≤ length m
-unfolding rdCut
-rd-long m x p z = not-less _ _ _ (rest-none _ _ (sym p ∙ z))
+pub lg-cuts : (m : List ℕ) → messageCut LG m ≡ 0 → ListedCut m
+unfolding restCut
+lg-cuts m z = parts-cut m (message-long LG m z) (rest-cut LG m z)
+
+pub dc-cuts : (m : List ℕ) → messageCut DC m ≡ 0 → ListedCut m
+unfolding restCut
+dc-cuts m z = parts-cut m (message-long DC m z) (rest-cut DC m z)
+
+pub listed-cuts : (m : List ℕ) (k : Mark) → Listed k → messageCut k m ≡ 0 → ListedCut m
+listed-cuts m = by-list (λ (k : Mark). messageCut k m ≡ 0 → ListedCut m) (lg-cuts m) (dc-cuts m)
+
+pub listed-rest : (m : List ℕ) (k : Mark) → Listed k → listedCut m ≡ restCut k m
+unfolding restCut
+listed-rest m = by-list (λ (k : Mark). listedCut m ≡ restCut k m) refl refl
+
+pub listed-long : (m : List ℕ) (k : Mark) → Listed k → listedLen m ≡ messageLen k m
+unfolding messageLen
+listed-long m = by-list (λ (k : Mark). listedLen m ≡ messageLen k m) refl refl
+
+pub rd-long : (m : List ℕ) → messageCut RD m ≡ 0 → rdLen ≤ length m
+unfolding restCut
+rd-long m z = not-less _ _ _ (rest-cut RD m z)
+
+-- what passes before the contents
+module _ (k : Mark) (f : ℕ) (m : List ℕ) (z : early k f m ≡ 0) where
+  pub early-small : f ≤ largestF
+  unfolding early
+  early-small = group-small _ _ refl (first-none _ _ z) .1
+
+  pub early-cut : messageCut k m ≡ 0
+  unfolding early
+  early-cut = first-none _ _ (rest-none _ _ z)
 
 -- the same through the functions that hand them out
 pub counts-same : {a b x y : ℕ} → a ≡ x → b ≡ y → countsWrong a b ≡ countsWrong x y
@@ -93,13 +159,5 @@ rest-is m s n p q = rw (q, p)
 pub behind-at : (s : List ℕ) {n k : ℕ} → n ≡ k → behindWrong n s ≡ behindWrong k s
 behind-at s p = cc
 
--- what passes before the contents of an LG or a DC
-module _ (f b n : ℕ) (due m : List ℕ) (p : n ≡ orElse (groupWrong f) (orElse (listedCut due m) b)) (z : n ≡ 0) where
-  pub early-small : f ≤ largestF
-  early-small = group-small _ _ refl (first-none _ _ (sym p ∙ z)) .1
-
-  pub early-cuts : (2 ≤ length m) × (txCut (behindMark m) ≡ 0) × (vlCut (vlPart m) ≡ 0)
-  early-cuts = listed-cuts due _ _ refl (first-none _ _ (rest-none _ _ (sym p ∙ z)))
-
-pub rd-same : {k s x y : ℕ} → k ≡ x → s ≡ y → rdWrong k s ≡ rdWrong x y
-rd-same p q = cc
+pub mark-at : (s : List ℕ) {b due : List ℕ} → b ≡ due → markWrong b s ≡ markWrong due s
+mark-at s p = cc

@@ -1,22 +1,29 @@
 // Any bytes read as a record: cut in the paper's order, then the contents judged; the value, or the first refusal.
 ghost use mathlib.Core.Path.{_≡_};
-ghost use Prim.Native.Nat.{_+_, _≤_};
+ghost use Prim.Native.Nat.{_≤_};
 ghost use lib.ListN.{length, drop};
-ghost use Rattle.terms.specs.Checks.{orElse};
-ghost use Rattle.terms.specs.Group.{groupWrong};
-ghost use Rattle.records.specs.Tx.{txOf, TxThere};
-ghost use Rattle.records.specs.Contents.{txWrong};
-ghost use Rattle.records.specs.Cutting.{markWrong, txCut, vlCut, behindWrong, behindMark, txPart, vlPart, prCut, prLen, listedCut, listedLen, rdCut};
-ghost use Rattle.records.specs.Messages.{readTX, readVL, readPR, readLG, readDC, readRD, isMark, readMessage, handedBack};
-ghost use Rattle.reading.specs.Part.{partReading, hasTx};
-use answer::Listed;
-use answer::TxAnswer;
-use answer::TxReading;
-use records::Found;
+ghost use Rattle.records.specs.declared.Mark.the-variants.{PR, RD};
+ghost use Rattle.records.specs.Tx.{txOf, heldTx, noTx, TxThere};
+ghost use Rattle.records.specs.Vl.{listIn, heldList, noList};
+ghost use Rattle.records.specs.Contents.{txWrong, rdWrong};
+ghost use Rattle.records.specs.Cutting.{markWrong, txCut, vlCut, behindWrong, behindMark, txPart, vlPart, listedCut, restCut, messageCut, listedLen, messageLen, rdLen};
+ghost use Rattle.records.specs.Messages.{txReadingBy, readTX, readVL, listBehind, rdKey, rdStamp, refusedReading, readingBy, readDue, isMark, markOf, readMarked, readMessage, handedBack};
+ghost use Rattle.reading.specs.Judging.{txReadingOf, vlReadingOf, readingOf, early, readOf, listWrongIn, listedReading, judgedBy, markedOr, hasTx};
+use records::Mark;
+use records::Marked;
+use records::Pair;
+use records::Read;
 use records::Reading;
+use records::Transaction;
+use records::TxReading;
+use records::VlReading;
+use records::VoteList;
+use records::Write;
 use terms::Group;
 use terms::Key;
 use terms::Stamp;
+
+const RD_LEN: usize = 12;
 
 // ---- cutting
 
@@ -27,65 +34,51 @@ pub fn mark_wrong(s: &[u8], mark: &[u8; 2]) -> u8
     if s.len() < 2 {
         return terms::SHORT;
     }
-    if s[0] != mark[0] {
-        return terms::MARK;
-    }
-    if s[1] != mark[1] {
-        return terms::MARK;
-    }
-    0
+    terms::first(
+        terms::refuse_if(s[0] != mark[0], terms::MARK),
+        terms::refuse_if(s[1] != mark[1], terms::MARK),
+    )
 }
 
 // A TX at the front.
 pub fn tx_cut(s: &[u8]) -> u8
     ensures { λ r. ⌜ r ≡ txCut (now (s .entry)) ⌝ }
 {
-    let mark = mark_wrong(s, b"TX");
-    if mark != 0 {
-        return mark;
+    let head = terms::first(
+        mark_wrong(s, b"TX"),
+        terms::refuse_if(s.len() < 4, terms::SHORT),
+    );
+    if head != 0 {
+        return head;
     }
-    if s.len() < 4 {
-        return terms::SHORT;
-    }
-    let counts = contents::counts_wrong(records::wide(s[2]), records::wide(s[3]));
-    if counts != 0 {
-        return counts;
-    }
-    if s.len() < records::tx_len(s) {
-        return terms::SHORT;
-    }
-    0
+    terms::first(
+        contents::counts_wrong(records::wide(s[2]), records::wide(s[3])),
+        terms::refuse_if(s.len() < records::tx_len(s), terms::SHORT),
+    )
 }
 
 // A VL at the front.
 pub fn vl_cut(s: &[u8]) -> u8
     ensures { λ r. ⌜ r ≡ vlCut (now (s .entry)) ⌝ }
 {
-    let mark = mark_wrong(s, b"VL");
-    if mark != 0 {
-        return mark;
+    let head = terms::first(
+        mark_wrong(s, b"VL"),
+        terms::refuse_if(s.len() < 5, terms::SHORT),
+    );
+    if head != 0 {
+        return head;
     }
-    if s.len() < 5 {
-        return terms::SHORT;
-    }
-    let count = contents::count_wrong(records::wide(s[4]));
-    if count != 0 {
-        return count;
-    }
-    if s.len() < records::vl_len(s) {
-        return terms::SHORT;
-    }
-    0
+    terms::first(
+        contents::count_wrong(records::wide(s[4])),
+        terms::refuse_if(s.len() < records::vl_len(s), terms::SHORT),
+    )
 }
 
 // 4 where bytes stand behind the first n.
 pub fn behind_wrong(s: &[u8], n: usize) -> u8
     ensures { λ r. ⌜ r ≡ behindWrong n (now (s .entry)) ⌝ }
 {
-    if n < s.len() {
-        return terms::TRAILING;
-    }
-    0
+    terms::refuse_if(n < s.len(), terms::TRAILING)
 }
 
 // What stands behind the first n bytes.
@@ -96,25 +89,11 @@ pub fn behind(s: &[u8], n: usize) -> &[u8]
     &s[n..]
 }
 
-// A PR at the front.
-pub fn pr_cut(m: &[u8]) -> u8
-    ensures { λ r. ⌜ r ≡ prCut (now (m .entry)) ⌝ }
+// A TX and a VL behind the mark.
+fn listed_cut(m: &[u8]) -> u8
+    requires { ⌜ 2 ≤ length (now m) ⌝ }
+    ensures { λ r. ⌜ r ≡ listedCut (now (m .entry)) ⌝ }
 {
-    let mark = mark_wrong(m, b"PR");
-    if mark != 0 {
-        return mark;
-    }
-    tx_cut(behind(m, 2))
-}
-
-// A message with a list, an LG or a DC by its mark, at the front.
-pub fn listed_cut(m: &[u8], mark: &[u8; 2]) -> u8
-    ensures { λ r. ⌜ r ≡ listedCut (now (mark .entry)) (now (m .entry)) ⌝ }
-{
-    let wrong = mark_wrong(m, mark);
-    if wrong != 0 {
-        return wrong;
-    }
     let s = behind(m, 2);
     let tx = tx_cut(s);
     if tx != 0 {
@@ -123,18 +102,27 @@ pub fn listed_cut(m: &[u8], mark: &[u8; 2]) -> u8
     vl_cut(behind(s, records::tx_len(s)))
 }
 
-// An RD at the front.
-pub fn rd_cut(m: &[u8]) -> u8
-    ensures { λ r. ⌜ r ≡ rdCut (now (m .entry)) ⌝ }
+// What follows the mark.
+fn rest_cut(mark: Mark, m: &[u8]) -> u8
+    requires { ⌜ 2 ≤ length (now m) ⌝ }
+    ensures { λ r. ⌜ r ≡ restCut mark (now (m .entry)) ⌝ }
 {
-    let mark = mark_wrong(m, b"RD");
-    if mark != 0 {
-        return mark;
+    match mark {
+        Mark::PR => tx_cut(behind(m, 2)),
+        Mark::LG | Mark::DC => listed_cut(m),
+        Mark::RD => terms::refuse_if(m.len() < RD_LEN, terms::SHORT),
     }
-    if m.len() < 12 {
-        return terms::SHORT;
+}
+
+// A message at the front, where one with this mark is due.
+pub fn message_cut(mark: Mark, m: &[u8]) -> u8
+    ensures { λ r. ⌜ r ≡ messageCut mark (now (m .entry)) ⌝ }
+{
+    let wrong = mark_wrong(m, &mark.bytes());
+    if wrong != 0 {
+        return wrong;
     }
-    0
+    rest_cut(mark, m)
 }
 
 // ---- the parts of a message that is cut
@@ -158,187 +146,256 @@ pub fn vl_part_of(m: &[u8]) -> &[u8]
     behind(s, records::tx_len(s))
 }
 
-// The length of a PR.
-pub fn pr_len(m: &[u8]) -> usize
-    requires { ⌜ prCut (now m) ≡ 0 ⌝ }
-    ensures { λ r. ⌜ r ≡ prLen (now (m .entry)) ⌝ }
-{
-    2 + records::tx_len(behind(m, 2))
-}
-
 // The length of an LG or a DC.
-pub fn listed_len(m: &[u8]) -> usize
+fn listed_len(m: &[u8]) -> usize
     requires { ⌜ (2 ≤ length (now m)) × (txCut (behindMark (now m)) ≡ 0) × (vlCut (vlPart (now m)) ≡ 0) ⌝ }
     ensures { λ r. ⌜ r ≡ listedLen (now (m .entry)) ⌝ }
 {
     2 + records::tx_len(behind(m, 2)) + records::vl_len(vl_part_of(m))
 }
 
-// A TX that is cut, judged.
-fn read_part(s: &[u8]) -> TxReading
-    requires { ⌜ TxThere (now s) ⌝ }
-    ensures { λ r. ⌜ r ≡ partReading (txWrong (txOf (now (s .entry)))) (txOf (now (s .entry))) ⌝ }
+// The length of the message at the front.
+pub fn message_len(mark: Mark, m: &[u8]) -> usize
+    requires { ⌜ messageCut mark (now m) ≡ 0 ⌝ }
+    ensures { λ r. ⌜ r ≡ messageLen mark (now (m .entry)) ⌝ }
 {
-    let tx = records::transaction_of(s);
-    let wrong = contents::tx_wrong(tx);
-    if wrong != 0 {
-        let none = answer::no_tx();
-        return TxReading {
-            answer: TxAnswer::Refused(wrong),
-            tx: none,
-        };
+    match mark {
+        Mark::PR => 2 + records::tx_len(behind(m, 2)),
+        Mark::LG | Mark::DC => listed_len(m),
+        Mark::RD => RD_LEN,
     }
-    let stamp = tx.stamp;
-    TxReading {
-        answer: TxAnswer::Tx(stamp),
+}
+
+// ---- answers: the value, or the refusal's number only
+
+fn no_tx() -> Transaction
+    ensures { λ x. ⌜ x ≡ heldTx noTx ⌝ }
+{
+    let p = Read {
+        key: Key(0),
+        version: Stamp(0),
+    };
+    let q = Write {
+        key: Key(0),
+        value: 0,
+    };
+    let reads = [p; 8];
+    let writes = [q; 8];
+    Transaction {
+        stamp: Stamp(0),
+        r: 0,
+        w: 0,
+        reads,
+        writes,
+    }
+}
+
+fn no_list() -> VoteList
+    ensures { λ l. ⌜ l ≡ heldList noList ⌝ }
+{
+    let p = Pair {
+        number: 0,
+        answer: 0,
+    };
+    let pairs = [p; 26];
+    VoteList {
+        kind: 0,
+        decision: 0,
+        count: 0,
+        pairs,
+    }
+}
+
+pub fn refused(n: u8) -> Reading
+    ensures { λ r. ⌜ r ≡ refusedReading n ⌝ }
+{
+    let tx = no_tx();
+    let list = no_list();
+    Reading {
+        found: Marked::Refused(n),
         tx,
+        list,
+        key: Key(0),
+        stamp: Stamp(0),
     }
+}
+
+fn tx_reading(wrong: u8, tx: Transaction) -> TxReading
+    ensures { λ r. ⌜ r ≡ txReadingOf wrong tx ⌝ }
+{
+    if wrong != 0 {
+        let none = no_tx();
+        return TxReading { wrong, tx: none };
+    }
+    TxReading { wrong, tx }
+}
+
+fn vl_reading(wrong: u8, list: VoteList) -> VlReading
+    ensures { λ r. ⌜ r ≡ vlReadingOf wrong list ⌝ }
+{
+    if wrong != 0 {
+        let none = no_list();
+        return VlReading { wrong, list: none };
+    }
+    VlReading { wrong, list }
+}
+
+fn reading_of(
+    wrong: u8,
+    mark: Mark,
+    tx: Transaction,
+    list: VoteList,
+    key: Key,
+    stamp: Stamp,
+) -> Reading
+    ensures { λ r. ⌜ r ≡ readingOf wrong mark tx list key stamp ⌝ }
+{
+    if wrong != 0 {
+        return refused(wrong);
+    }
+    Reading {
+        found: Marked::Is(mark),
+        tx,
+        list,
+        key,
+        stamp,
+    }
+}
+
+// ---- a list is judged only when the transaction before it was read
+
+// A transaction, or its refusal's number.
+enum TxRead {
+    Tx(Transaction),
+    Refused(u8),
+}
+
+fn read_of(r: TxReading) -> TxRead
+    ensures { λ x. ⌜ x ≡ readOf r ⌝ }
+{
+    match r.wrong {
+        0 => TxRead::Tx(r.tx),
+        n => TxRead::Refused(n),
+    }
+}
+
+// In an LG a list of logs is 8 too.
+fn list_wrong_in(due: Mark, g: Group, l: VoteList) -> u8
+    requires { ⌜ l .count ≤ 26 ⌝ }
+    ensures { λ n. ⌜ n ≡ listWrongIn due (g .f) (listIn l) ⌝ }
+{
+    match due {
+        Mark::LG => contents::log_list_wrong(g, l),
+        _ => contents::list_wrong(g, l),
+    }
+}
+
+// The transaction and the list behind it, or the list's refusal.
+fn with_list(tx: Transaction, due: Mark, g: Group, list: VoteList) -> Reading
+    requires { ⌜ list .count ≤ 26 ⌝ }
+    ensures { λ x. ⌜ x ≡ listedReading due (g .f) tx list ⌝ }
+{
+    let wrong = list_wrong_in(due, g, list);
+    reading_of(wrong, due, tx, list, Key(0), Stamp(0))
+}
+
+// The transaction taken from its reading, or its refusal.
+fn judged(r: TxReading, due: Mark, g: Group, l: VoteList) -> Reading
+    requires { ⌜ l .count ≤ 26 ⌝ }
+    ensures { λ x. ⌜ x ≡ judgedBy r due (g .f) l ⌝ }
+{
+    let TxRead::Tx(tx) = read_of(r) else {
+        return refused(r.wrong);
+    };
+    with_list(tx, due, g, l)
 }
 
 // ---- readers
 
 // A TX by itself.
-pub fn read_tx(s: &[u8]) -> Reading
+pub fn read_tx(s: &[u8]) -> TxReading
     ensures { λ r. ⌜ r ≡ readTX (now (s .entry)) ⌝ }
 {
     let cut = tx_cut(s);
     if cut != 0 {
-        return answer::refused(cut);
+        return tx_reading(cut, no_tx());
     }
-    let more = behind_wrong(s, records::tx_len(s));
-    if more != 0 {
-        return answer::refused(more);
-    }
-    let reading = read_part(s);
-    let answer = reading.answer;
-    let TxAnswer::Tx(_) = answer else {
-        return answer::refused_by(answer);
-    };
-    let tx = reading.tx;
-    let list = answer::no_list();
-    Reading {
-        found: Found::TX,
-        tx,
-        list,
-    }
+    let tx = records::transaction_of(s);
+    let wrong = terms::first(behind_wrong(s, records::tx_len(s)), contents::tx_wrong(tx));
+    tx_reading(wrong, tx)
 }
 
 // A VL by itself, where its kind may be either.
-pub fn read_vl(f: u64, s: &[u8]) -> Reading
+pub fn read_vl(f: u64, s: &[u8]) -> VlReading
     ensures { λ r. ⌜ r ≡ readVL f (now (s .entry)) ⌝ }
 {
-    let group = terms::group_wrong(f);
-    if group != 0 {
-        return answer::refused(group);
-    }
-    let cut = vl_cut(s);
+    let cut = terms::first(terms::group_wrong(f), vl_cut(s));
     if cut != 0 {
-        return answer::refused(cut);
-    }
-    let more = behind_wrong(s, records::vl_len(s));
-    if more != 0 {
-        return answer::refused(more);
+        return vl_reading(cut, no_list());
     }
     let list = records::list_of(s);
-    let wrong = contents::list_wrong(Group { f: f as u8 }, list);
-    if wrong != 0 {
-        return answer::refused(wrong);
-    }
-    let tx = answer::no_tx();
-    Reading {
-        found: Found::VL,
-        tx,
-        list,
-    }
+    let wrong = terms::first(
+        behind_wrong(s, records::vl_len(s)),
+        contents::list_wrong(Group { f: f as u8 }, list),
+    );
+    vl_reading(wrong, list)
 }
 
-pub fn read_pr(m: &[u8]) -> Reading
-    ensures { λ r. ⌜ r ≡ readPR (now (m .entry)) ⌝ }
+// What is refused of a message before its contents: 14, the cutting, 4.
+fn early_wrong(mark: Mark, f: u64, m: &[u8]) -> u8
+    ensures { λ r. ⌜ r ≡ early mark f (now (m .entry)) ⌝ }
 {
-    let cut = pr_cut(m);
-    if cut != 0 {
-        return answer::refused(cut);
-    }
-    let more = behind_wrong(m, pr_len(m));
-    if more != 0 {
-        return answer::refused(more);
-    }
-    let reading = read_part(tx_part_of(m));
-    let answer = reading.answer;
-    let TxAnswer::Tx(_) = answer else {
-        return answer::refused_by(answer);
-    };
-    let tx = reading.tx;
-    let list = answer::no_list();
-    Reading {
-        found: Found::PR,
-        tx,
-        list,
-    }
-}
-
-// The refusal of an LG or a DC before its contents: 14, the cutting of the whole message, 4.
-fn listed_wrong(f: u64, m: &[u8], mark: &[u8; 2]) -> u8
-    ensures { λ r. ⌜ r ≡ orElse (groupWrong f) (orElse (listedCut (now (mark .entry)) (now (m .entry))) (behindWrong (listedLen (now (m .entry))) (now (m .entry)))) ⌝ }
-{
-    let group = terms::group_wrong(f);
-    if group != 0 {
-        return group;
-    }
-    let cut = listed_cut(m, mark);
+    let cut = terms::first(terms::group_wrong(f), message_cut(mark, m));
     if cut != 0 {
         return cut;
     }
-    behind_wrong(m, listed_len(m))
+    behind_wrong(m, message_len(mark, m))
 }
 
-pub fn read_lg(f: u64, m: &[u8]) -> Reading
-    ensures { λ r. ⌜ r ≡ readLG f (now (m .entry)) ⌝ }
+// A PR that is cut.
+fn read_pr(m: &[u8]) -> Reading
+    requires { ⌜ (2 ≤ length (now m)) × (txCut (behindMark (now m)) ≡ 0) ⌝ }
+    ensures { λ r. ⌜ r ≡ readingBy (txWrong (txOf (txPart (now (m .entry))))) PR (now (m .entry)) ⌝ }
 {
-    let early = listed_wrong(f, m, b"LG");
-    if early != 0 {
-        return answer::refused(early);
-    }
-    let reading = read_part(tx_part_of(m));
+    let tx = records::transaction_of(tx_part_of(m));
+    let wrong = contents::tx_wrong(tx);
+    reading_of(wrong, Mark::PR, tx, no_list(), Key(0), Stamp(0))
+}
+
+// An LG or a DC that is cut.
+fn read_listed(mark: Mark, f: u64, m: &[u8]) -> Reading
+    requires { ⌜ (f ≤ 5) × (2 ≤ length (now m)) × (txCut (behindMark (now m)) ≡ 0) × (vlCut (vlPart (now m)) ≡ 0) ⌝ }
+    ensures { λ r. ⌜ r ≡ judgedBy (txReadingBy (txWrong (txOf (txPart (now (m .entry))))) (txOf (txPart (now (m .entry))))) mark f (heldList (listBehind (now (m .entry)))) ⌝ }
+{
+    let tx = records::transaction_of(tx_part_of(m));
+    let reading = tx_reading(contents::tx_wrong(tx), tx);
     let list = records::list_of(vl_part_of(m));
-    answer::judged(reading, Listed::LG, Group { f: f as u8 }, list)
+    judged(reading, mark, Group { f: f as u8 }, list)
 }
 
-pub fn read_dc(f: u64, m: &[u8]) -> Reading
-    ensures { λ r. ⌜ r ≡ readDC f (now (m .entry)) ⌝ }
+// An RD that is cut.
+fn read_rd(m: &[u8]) -> Reading
+    requires { ⌜ rdLen ≤ length (now m) ⌝ }
+    ensures { λ r. ⌜ r ≡ readingBy (rdWrong (rdKey (now (m .entry))) (rdStamp (now (m .entry)))) RD (now (m .entry)) ⌝ }
 {
-    let early = listed_wrong(f, m, b"DC");
-    if early != 0 {
-        return answer::refused(early);
-    }
-    let reading = read_part(tx_part_of(m));
-    let list = records::list_of(vl_part_of(m));
-    answer::judged(reading, Listed::DC, Group { f: f as u8 }, list)
-}
-
-pub fn read_rd(m: &[u8]) -> Reading
-    ensures { λ r. ⌜ r ≡ readRD (now (m .entry)) ⌝ }
-{
-    let cut = rd_cut(m);
-    if cut != 0 {
-        return answer::refused(cut);
-    }
-    let more = behind_wrong(m, 12);
-    if more != 0 {
-        return answer::refused(more);
-    }
     let key = Key(records::u16_at(m, 2));
     let stamp = Stamp(records::u64_at(m, 4));
     let wrong = contents::rd_wrong(key, stamp);
-    if wrong != 0 {
-        return answer::refused(wrong);
+    reading_of(wrong, Mark::RD, no_tx(), no_list(), key, stamp)
+}
+
+// A message where one with this mark is due.
+pub fn read_due(mark: Mark, f: u64, m: &[u8]) -> Reading
+    ensures { λ r. ⌜ r ≡ readDue mark f (now (m .entry)) ⌝ }
+{
+    let early = early_wrong(mark, f, m);
+    if early != 0 {
+        return refused(early);
     }
-    let tx = answer::no_tx();
-    let list = answer::no_list();
-    Reading {
-        found: Found::RD(key, stamp),
-        tx,
-        list,
+    match mark {
+        Mark::PR => read_pr(m),
+        Mark::LG | Mark::DC => read_listed(mark, f, m),
+        Mark::RD => read_rd(m),
     }
 }
 
@@ -349,10 +406,41 @@ pub fn is_mark(m: &[u8], mark: &[u8; 2]) -> bool
     if m[0] != mark[0] {
         return false;
     }
-    if m[1] != mark[1] {
-        return false;
+    m[1] == mark[1]
+}
+
+// This mark where the message has it, else what is found of the others.
+fn marked_or(m: &[u8], mark: Mark, others: Marked) -> Marked
+    requires { ⌜ 2 ≤ length (now m) ⌝ }
+    ensures { λ r. ⌜ r ≡ markedOr mark others (now (m .entry)) ⌝ }
+{
+    if is_mark(m, &mark.bytes()) {
+        return Marked::Is(mark);
     }
-    true
+    others
+}
+
+// The mark that a message has: 1 where there is none, 2 where it is not one of the four.
+pub fn mark_of(m: &[u8]) -> Marked
+    ensures { λ r. ⌜ r ≡ markOf (now (m .entry)) ⌝ }
+{
+    if m.len() < 2 {
+        return Marked::Refused(terms::SHORT);
+    }
+    let rd = marked_or(m, Mark::RD, Marked::Refused(terms::MARK));
+    let dc = marked_or(m, Mark::DC, rd);
+    let lg = marked_or(m, Mark::LG, dc);
+    marked_or(m, Mark::PR, lg)
+}
+
+// A message by the mark that it was found to have.
+pub fn read_marked(marked: Marked, f: u64, m: &[u8]) -> Reading
+    ensures { λ r. ⌜ r ≡ readMarked marked f (now (m .entry)) ⌝ }
+{
+    match marked {
+        Marked::Is(mark) => read_due(mark, f, m),
+        Marked::Refused(n) => refused(n),
+    }
 }
 
 // Any of the four messages.
@@ -361,38 +449,23 @@ pub fn read(f: u64, m: &[u8]) -> Reading
 {
     let group = terms::group_wrong(f);
     if group != 0 {
-        return answer::refused(group);
+        return refused(group);
     }
-    if m.len() < 2 {
-        return answer::refused(terms::SHORT);
-    }
-    if is_mark(m, b"PR") {
-        return read_pr(m);
-    }
-    if is_mark(m, b"LG") {
-        return read_lg(f, m);
-    }
-    if is_mark(m, b"DC") {
-        return read_dc(f, m);
-    }
-    if is_mark(m, b"RD") {
-        return read_rd(m);
-    }
-    answer::refused(terms::MARK)
+    read_marked(mark_of(m), f, m)
 }
 
 // Whether a transaction was read.
-fn has_tx(found: Found) -> bool
+fn has_tx(found: Marked) -> bool
     ensures { λ r. ⌜ r ≡ hasTx found ⌝ }
 {
     match found {
-        Found::TX => true,
-        Found::VL => false,
-        Found::PR => true,
-        Found::LG => true,
-        Found::DC => true,
-        Found::RD(_, _) => false,
-        Found::Refused(_) => false,
+        Marked::Is(mark) => match mark {
+            Mark::PR => true,
+            Mark::LG => true,
+            Mark::DC => true,
+            Mark::RD => false,
+        },
+        Marked::Refused(_) => false,
     }
 }
 

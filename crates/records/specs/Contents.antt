@@ -56,8 +56,8 @@ answerOdd p = eqb (p .answer) 0 || ltb 2 (p .answer)
 abbrev pub boxWide : ℕ → Pair → Bool
 boxWide f p = leb (boxes f) (p .number)
 
-abbrev pub boxOf : Pair → ℕ
-boxOf p = p .number
+abbrev pub pairBox : Pair → ℕ
+pairBox p = p .number
 
 -- "code: kind, decision or answer not 1 or 2"; "range: .. box number n or more"; "order: .. box numbers not strictly rising"
 unfoldable pub listWrong : ℕ → Vl → ℕ
@@ -66,7 +66,7 @@ listWrong f l =
     (orElse (codeWrong (l .decision))
     (orElse (when (any answerOdd (l .pairs)) code)
     (orElse (when (any (boxWide f) (l .pairs)) range)
-    (when (falls boxOf 0 (l .pairs)) order))))
+    (when (falls pairBox 0 (l .pairs)) order))))
 
 -- the kind of a list of logs
 abbrev pub logs : ℕ

@@ -3,6 +3,8 @@ use Prim.Native.Nat.{ℕ, _+_}
 use mathlib.Core.List.{List, [], _∷_}
 use lib.ListN.{length, getD, take, drop}
 use Rattle.terms.specs.Checks.{orElse, ifLess, ifOther, short, mark, trailing}
+use Rattle.records.specs.declared.Mark.{Mark}
+use Rattle.records.specs.declared.Mark.the-variants.{PR, LG, DC, RD}
 use Rattle.records.specs.Tx.{markTX, rCount, wCount, txLen}
 use Rattle.records.specs.Vl.{markVL, vlCount, vlLen}
 use Rattle.records.specs.Contents.{countsWrong, countWrong}
@@ -47,6 +49,13 @@ markDC = 68 ∷ 67 ∷ []
 abbrev pub markRD : List ℕ
 markRD = 82 ∷ 68 ∷ []
 
+-- a message's mark as its two bytes
+abbrev pub markBytes : Mark → List ℕ
+markBytes PR = markPR
+markBytes LG = markLG
+markBytes DC = markDC
+markBytes RD = markRD
+
 -- what stands behind a message's mark, and there behind the TX
 abbrev pub behindMark : List ℕ → List ℕ
 behindMark m = drop 2 m
@@ -57,23 +66,31 @@ txPart m = take (txLen (behindMark m)) (behindMark m)
 unfoldable pub vlPart : List ℕ → List ℕ
 vlPart m = drop (txLen (behindMark m)) (behindMark m)
 
--- a mark and a TX at the front, and its length
-unfoldable pub prCut : List ℕ → ℕ
-prCut m = orElse (markWrong markPR m) (txCut (behindMark m))
+-- a TX and a VL behind the mark
+unfoldable pub listedCut : List ℕ → ℕ
+listedCut m = orElse (txCut (behindMark m)) (vlCut (vlPart m))
 
-unfoldable pub prLen : List ℕ → ℕ
-prLen m = 2 + txLen (behindMark m)
+-- the length of an RD
+abbrev pub rdLen : ℕ
+rdLen = 12
 
--- a mark, a TX and a VL at the front
-unfoldable pub listedCut : List ℕ → List ℕ → ℕ
-listedCut due m = orElse (markWrong due m) (orElse (txCut (behindMark m)) (vlCut (vlPart m)))
+-- what follows the mark
+unfoldable pub restCut : Mark → List ℕ → ℕ
+restCut PR m = txCut (behindMark m)
+restCut LG m = listedCut m
+restCut DC m = listedCut m
+restCut RD m = ifLess (length m) rdLen short
 
+-- a message at the front, where one with this mark is due
+unfoldable pub messageCut : Mark → List ℕ → ℕ
+messageCut k m = orElse (markWrong (markBytes k) m) (restCut k m)
+
+-- its length
 unfoldable pub listedLen : List ℕ → ℕ
 listedLen m = 2 + txLen (behindMark m) + vlLen (vlPart m)
 
--- an RD at the front
-unfoldable pub rdCut : List ℕ → ℕ
-rdCut m = orElse (markWrong markRD m) (ifLess (length m) 12 short)
-
-abbrev pub rdLen : ℕ
-rdLen = 12
+unfoldable pub messageLen : Mark → List ℕ → ℕ
+messageLen PR m = 2 + txLen (behindMark m)
+messageLen LG m = listedLen m
+messageLen DC m = listedLen m
+messageLen RD m = rdLen

@@ -3,48 +3,49 @@ use Prim.Native.Nat.{ℕ, zero, suc}
 use mathlib.Core.Bool.{Bool, true, false, _&&_}
 use mathlib.Core.List.{List, []}
 use lib.ListN.{length, getD}
-use lib.Dec.{eqb}
+use lib.Dec.{eqb, ltb}
 use Rattle.terms.specs.Choice.{pick}
-use Rattle.terms.specs.Checks.{orElse, ifLess, short, mark}
-use Rattle.terms.specs.Refusals.{refusalOf}
+use Rattle.terms.specs.Checks.{orElse, short, mark}
 use Rattle.terms.specs.Group.{groupWrong}
 use Rattle.records.specs.Numbers.{numAt}
 use Rattle.records.specs.Tx.{Tx, txOf, heldTx, noTx, txLen}
 use Rattle.records.specs.Vl.{Vl, vlOf, heldList, noList, vlLen}
 use Rattle.records.specs.Contents.{txWrong, listWrong, logListWrong, rdWrong}
-use Rattle.records.specs.Cutting.{txCut, vlCut, behindWrong, prCut, prLen, listedCut, listedLen, rdCut, rdLen, txPart, vlPart, markPR, markLG, markDC, markRD}
-use Rattle.records.specs.declared.Found.{Found}
-use Rattle.records.specs.declared.Found.the-variants.{TX, VL, PR, LG, DC, RD, Refused}
+use Rattle.records.specs.Cutting.{txCut, vlCut, behindWrong, messageCut, messageLen, txPart, vlPart, markPR, markLG, markDC, markRD}
+use Rattle.records.specs.declared.Mark.{Mark}
+use Rattle.records.specs.declared.Mark.the-variants.{PR, LG, DC, RD}
+use Rattle.records.specs.declared.Marked.{Marked}
+use Rattle.records.specs.declared.Marked.the-variants.{Is, Refused}
 use Rattle.records.specs.declared.Reading.{Reading}
+use Rattle.records.specs.declared.TxReading.{TxReading}
+use Rattle.records.specs.declared.VlReading.{VlReading}
 
--- ---- the refusal of each reading, 0 where it is accepted
--- a TX by itself
+-- ---- a TX and a VL by themselves
 unfoldable pub txRefusal : List ℕ → ℕ
 txRefusal s = orElse (txCut s) (orElse (behindWrong (txLen s) s) (txWrong (txOf s)))
 
--- a VL by itself
 unfoldable pub vlRefusal : ℕ → List ℕ → ℕ
 vlRefusal f s = orElse (groupWrong f) (orElse (vlCut s) (orElse (behindWrong (vlLen s) s) (listWrong f (vlOf s))))
 
-unfoldable pub prRefusal : List ℕ → ℕ
-prRefusal m = orElse (prCut m) (orElse (behindWrong (prLen m) m) (txWrong (txOf (txPart m))))
+-- "A refusal returns its number only"
+unfoldable pub txReadingBy : ℕ → Tx → TxReading
+txReadingBy zero x = record { wrong = 0; tx = heldTx x }
+txReadingBy (suc n) x = record { wrong = suc n; tx = heldTx noTx }
 
--- the whole message is cut first, then 4, then the TX's contents, then the list's
-unfoldable pub lgRefusal : ℕ → List ℕ → ℕ
-lgRefusal f m =
-    orElse (groupWrong f)
-    (orElse (listedCut markLG m)
-    (orElse (behindWrong (listedLen m) m)
-    (orElse (txWrong (txOf (txPart m)))
-    (logListWrong f (vlOf (vlPart m))))))
+unfoldable pub vlReadingBy : ℕ → Vl → VlReading
+vlReadingBy zero l = record { wrong = 0; list = heldList l }
+vlReadingBy (suc n) l = record { wrong = suc n; list = heldList noList }
 
-unfoldable pub dcRefusal : ℕ → List ℕ → ℕ
-dcRefusal f m =
-    orElse (groupWrong f)
-    (orElse (listedCut markDC m)
-    (orElse (behindWrong (listedLen m) m)
-    (orElse (txWrong (txOf (txPart m)))
-    (listWrong f (vlOf (vlPart m))))))
+unfoldable pub readTX : List ℕ → TxReading
+readTX s = txReadingBy (txRefusal s) (txOf s)
+
+unfoldable pub readVL : ℕ → List ℕ → VlReading
+readVL f s = vlReadingBy (vlRefusal f s) (vlOf s)
+
+-- ---- what stands in a message
+-- the list behind the transaction
+unfoldable pub listBehind : List ℕ → Vl
+listBehind m = vlOf (vlPart m)
 
 -- the key and the stamp of an RD
 abbrev pub rdKey : List ℕ → ℕ
@@ -53,77 +54,101 @@ rdKey m = numAt 2 2 m
 abbrev pub rdStamp : List ℕ → ℕ
 rdStamp m = numAt 8 4 m
 
-unfoldable pub rdRefusal : List ℕ → ℕ
-rdRefusal m = orElse (rdCut m) (orElse (behindWrong rdLen m) (rdWrong (rdKey m) (rdStamp m)))
+-- by its mark
+unfoldable pub messageTx : Mark → List ℕ → Tx
+messageTx PR m = txOf (txPart m)
+messageTx LG m = txOf (txPart m)
+messageTx DC m = txOf (txPart m)
+messageTx RD m = noTx
 
--- ---- the answers
--- "A refusal returns its number only"
+unfoldable pub messageList : Mark → List ℕ → Vl
+messageList PR m = noList
+messageList LG m = listBehind m
+messageList DC m = listBehind m
+messageList RD m = noList
+
+unfoldable pub messageKey : Mark → List ℕ → ℕ
+messageKey PR m = 0
+messageKey LG m = 0
+messageKey DC m = 0
+messageKey RD m = rdKey m
+
+unfoldable pub messageStamp : Mark → List ℕ → ℕ
+messageStamp PR m = 0
+messageStamp LG m = 0
+messageStamp DC m = 0
+messageStamp RD m = rdStamp m
+
+-- ---- a message where one with this mark is due
+-- "a list is judged only when the transaction before it was read"; "code: .. kind 2 in an LG"
+unfoldable pub contentsWrong : Mark → ℕ → List ℕ → ℕ
+contentsWrong PR f m = txWrong (txOf (txPart m))
+contentsWrong LG f m = orElse (txWrong (txOf (txPart m))) (logListWrong f (listBehind m))
+contentsWrong DC f m = orElse (txWrong (txOf (txPart m))) (listWrong f (listBehind m))
+contentsWrong RD f m = rdWrong (rdKey m) (rdStamp m)
+
+-- "Order: 14, ..; then cutting, record by record ..; then 4. Then contents"
+unfoldable pub dueRefusal : Mark → ℕ → List ℕ → ℕ
+dueRefusal k f m =
+    orElse (groupWrong f)
+    (orElse (messageCut k m)
+    (orElse (behindWrong (messageLen k m) m)
+    (contentsWrong k f m)))
+
 unfoldable pub refusedReading : ℕ → Reading
-refusedReading n = record { found = Refused (refusalOf n); tx = heldTx noTx; list = heldList noList }
+refusedReading n =
+    record { found = Refused n; tx = heldTx noTx; list = heldList noList; key = record { 0 = 0 }; stamp = record { 0 = 0 } }
 
-unfoldable pub readingBy : ℕ → Found → Tx → Vl → Reading
-readingBy zero w x l = record { found = w; tx = heldTx x; list = heldList l }
-readingBy (suc n) w x l = refusedReading (suc n)
+unfoldable pub readingBy : ℕ → Mark → List ℕ → Reading
+readingBy zero k m =
+    record {
+      found = Is k;
+      tx = heldTx (messageTx k m);
+      list = heldList (messageList k m);
+      key = record { 0 = messageKey k m };
+      stamp = record { 0 = messageStamp k m };
+    }
+readingBy (suc n) k m = refusedReading (suc n)
 
-unfoldable pub readTX : List ℕ → Reading
-readTX s = readingBy (txRefusal s) TX (txOf s) noList
+unfoldable pub readDue : Mark → ℕ → List ℕ → Reading
+readDue k f m = readingBy (dueRefusal k f m) k m
 
-unfoldable pub readVL : ℕ → List ℕ → Reading
-readVL f s = readingBy (vlRefusal f s) VL noTx (vlOf s)
-
-unfoldable pub readPR : List ℕ → Reading
-readPR m = readingBy (prRefusal m) PR (txOf (txPart m)) noList
-
-unfoldable pub readLG : ℕ → List ℕ → Reading
-readLG f m = readingBy (lgRefusal f m) LG (txOf (txPart m)) (vlOf (vlPart m))
-
-unfoldable pub readDC : ℕ → List ℕ → Reading
-readDC f m = readingBy (dcRefusal f m) DC (txOf (txPart m)) (vlOf (vlPart m))
-
-unfoldable pub readRD : List ℕ → Reading
-readRD m = readingBy (rdRefusal m) (RD (record { 0 = rdKey m }) (record { 0 = rdStamp m })) noTx noList
-
--- ---- any of the four: "mark is not .. PR, LG, DC, RD"
+-- ---- any of the four
 unfoldable pub isMark : List ℕ → List ℕ → Bool
 isMark due m = eqb (getD m 0 0) (getD due 0 0) && eqb (getD m 1 0) (getD due 1 0)
 
-module _ {A : Type 0} where
-  -- the choice by a message's mark
-  unfoldable pub byMark : List ℕ → A → A → A → A → A → A
-  byMark m pr lg dc rd other =
-      pick (isMark markPR m) pr
-      (pick (isMark markLG m) lg
-      (pick (isMark markDC m) dc
-      (pick (isMark markRD m) rd other)))
+-- "mark bytes present (1)"; "mark is not .. PR, LG, DC, RD" is 2
+unfoldable pub markOf : List ℕ → Marked
+markOf m =
+    pick (ltb (length m) 2) (Refused short)
+    (pick (isMark markPR m) (Is PR)
+    (pick (isMark markLG m) (Is LG)
+    (pick (isMark markDC m) (Is DC)
+    (pick (isMark markRD m) (Is RD) (Refused mark)))))
+
+-- a message by the mark that it is said to have
+unfoldable pub markedRefusal : Marked → ℕ → List ℕ → ℕ
+markedRefusal (Is k) f m = dueRefusal k f m
+markedRefusal (Refused n) f m = n
+
+unfoldable pub readMarked : Marked → ℕ → List ℕ → Reading
+readMarked (Is k) f m = readDue k f m
+readMarked (Refused n) f m = refusedReading n
 
 -- "14 ..; then cutting"
-unfoldable pub messageRefusal : ℕ → List ℕ → ℕ
-messageRefusal f m =
-    orElse (groupWrong f)
-    (orElse (ifLess (length m) 2 short)
-    (byMark m (prRefusal m) (lgRefusal f m) (dcRefusal f m) (rdRefusal m) mark))
-
--- which message it is, its transaction and its list
-unfoldable pub messageFound : List ℕ → Found
-messageFound m = byMark m PR LG DC (RD (record { 0 = rdKey m }) (record { 0 = rdStamp m })) (Refused (refusalOf mark))
-
-unfoldable pub messageTx : List ℕ → Tx
-messageTx m = byMark m (txOf (txPart m)) (txOf (txPart m)) (txOf (txPart m)) noTx noTx
-
-unfoldable pub messageList : List ℕ → Vl
-messageList m = byMark m noList (vlOf (vlPart m)) (vlOf (vlPart m)) noList noList
+unfoldable pub readingAfter : ℕ → Reading → Reading
+readingAfter zero r = r
+readingAfter (suc n) r = refusedReading (suc n)
 
 unfoldable pub readMessage : ℕ → List ℕ → Reading
-readMessage f m = readingBy (messageRefusal f m) (messageFound m) (messageTx m) (messageList m)
+readMessage f m = readingAfter (groupWrong f) (readMarked (markOf m) f m)
 
 -- "the transaction's bytes inside the message are handed back as they stand (an empty part for a refused message or an RD)"
-unfoldable pub handedBy : Found → List ℕ → List ℕ
-handedBy TX s = s
-handedBy VL s = []
-handedBy PR s = s
-handedBy LG s = s
-handedBy DC s = s
-handedBy (RD k s) p = []
+unfoldable pub handedBy : Marked → List ℕ → List ℕ
+handedBy (Is PR) s = s
+handedBy (Is LG) s = s
+handedBy (Is DC) s = s
+handedBy (Is RD) s = []
 handedBy (Refused n) s = []
 
 unfoldable pub handedBack : ℕ → List ℕ → List ℕ

@@ -2,9 +2,11 @@
 use Prim.Native.Nat.{ℕ, zero, suc, _+_, _*_}
 use mathlib.Core.List.{List, [], _∷_, _++_}
 use lib.ListN.{length, drop}
-use Rattle.terms.specs.Checks.{orElse, ifLess, buffer}
+use Rattle.terms.specs.Checks.{orElse, ifLess, mark, buffer}
 use Rattle.terms.specs.Refusals.{refusalOf}
 use Rattle.terms.specs.Group.{groupWrong}
+use Rattle.records.specs.declared.Mark.{Mark}
+use Rattle.records.specs.declared.Mark.the-variants.{PR, LG, DC, RD}
 use Rattle.records.specs.declared.Transaction.{Transaction}
 use Rattle.records.specs.declared.VoteList.{VoteList}
 use Rattle.records.specs.declared.Written.{Written}
@@ -13,17 +15,15 @@ use Rattle.records.specs.Numbers.{leBytes}
 use Rattle.records.specs.Tx.{Tx, txIn, txBytes}
 use Rattle.records.specs.Vl.{Vl, listIn, vlBytes}
 use Rattle.records.specs.Contents.{countsWrong, countWrong, txWrong, listWrong, logListWrong, rdWrong}
-use Rattle.records.specs.Cutting.{markPR, markLG, markDC, markRD}
+use Rattle.records.specs.Cutting.{markPR, markRD, markBytes}
 
 -- ---- the bytes of each message
 unfoldable pub prBytes : Tx → List ℕ
 prBytes x = markPR ++ txBytes x
 
-unfoldable pub lgBytes : Tx → Vl → List ℕ
-lgBytes x l = markLG ++ (txBytes x ++ vlBytes l)
-
-unfoldable pub dcBytes : Tx → Vl → List ℕ
-dcBytes x l = markDC ++ (txBytes x ++ vlBytes l)
+-- an LG or a DC
+unfoldable pub listedBytes : Mark → Tx → Vl → List ℕ
+listedBytes k x l = markBytes k ++ (txBytes x ++ vlBytes l)
 
 unfoldable pub rdBytes : ℕ → ℕ → List ℕ
 rdBytes k s = markRD ++ (leBytes 2 k ++ leBytes 8 s)
@@ -46,23 +46,21 @@ vlUnwritten f l out =
 unfoldable pub prUnwritten : Transaction → List ℕ → ℕ
 prUnwritten x out = orElse (countsWrong (x .r) (x .w)) (orElse (txWrong (txIn x)) (bufferWrong (prBytes (txIn x)) out))
 
-unfoldable pub lgUnwritten : ℕ → Transaction → VoteList → List ℕ → ℕ
-lgUnwritten f x l out =
-    orElse (groupWrong f)
-    (orElse (countsWrong (x .r) (x .w))
-    (orElse (countWrong (l .count))
-    (orElse (txWrong (txIn x))
-    (orElse (logListWrong f (listIn l))
-    (bufferWrong (lgBytes (txIn x) (listIn l)) out)))))
+-- "code: .. kind 2 in an LG"; a message with another mark carries no list (2)
+unfoldable pub listedWrong : Mark → ℕ → Vl → ℕ
+listedWrong PR f l = mark
+listedWrong LG f l = logListWrong f l
+listedWrong DC f l = listWrong f l
+listedWrong RD f l = mark
 
-unfoldable pub dcUnwritten : ℕ → Transaction → VoteList → List ℕ → ℕ
-dcUnwritten f x l out =
+unfoldable pub listedUnwritten : Mark → ℕ → Transaction → VoteList → List ℕ → ℕ
+listedUnwritten k f x l out =
     orElse (groupWrong f)
     (orElse (countsWrong (x .r) (x .w))
     (orElse (countWrong (l .count))
     (orElse (txWrong (txIn x))
-    (orElse (listWrong f (listIn l))
-    (bufferWrong (dcBytes (txIn x) (listIn l)) out)))))
+    (orElse (listedWrong k f (listIn l))
+    (bufferWrong (listedBytes k (txIn x) (listIn l)) out)))))
 
 unfoldable pub rdUnwritten : ℕ → ℕ → List ℕ → ℕ
 rdUnwritten k s out = orElse (rdWrong k s) (bufferWrong (rdBytes k s) out)

@@ -4,6 +4,7 @@ ghost use Prim.Native.Nat.{_+_, _*_, _<_, _≤_};
 ghost use lib.ListN.{length};
 ghost use Rattle.records.specs.Numbers.{numAt, leBytes};
 ghost use Rattle.records.specs.Tx.{readAt, writeAt, padded, zeroRead, zeroWrite, txLen, txOf, heldTx, TxThere};
+ghost use Rattle.records.specs.Cutting.{markBytes};
 ghost use Rattle.records.specs.Vl.{pairAt, zeroPair, vlLen, vlOf, heldList, VlThere};
 use terms::Key;
 use terms::Refusal;
@@ -42,20 +43,51 @@ pub struct VoteList {
     pub pairs: [Pair; 26],
 }
 
-// Which record was read; its transaction and its list stand beside it.
-pub enum Found {
-    TX,
-    VL,
+// The four messages, by their marks.
+pub enum Mark {
     PR,
     LG,
     DC,
-    RD(Key, Stamp),
-    Refused(Refusal),
+    RD,
 }
 
+impl Mark {
+    // Its two bytes.
+    pub fn bytes(self) -> [u8; 2]
+        ensures { λ r. ⌜ r ≡ markBytes self ⌝ }
+    {
+        match self {
+            Mark::PR => *b"PR",
+            Mark::LG => *b"LG",
+            Mark::DC => *b"DC",
+            Mark::RD => *b"RD",
+        }
+    }
+}
+
+// Which message it is, or its refusal's number.
+pub enum Marked {
+    Is(Mark),
+    Refused(u8),
+}
+
+// What was read of a message: which it is, or its refusal; its transaction and its list; an RD's key and stamp.
 pub struct Reading {
-    pub found: Found,
+    pub found: Marked,
     pub tx: Transaction,
+    pub list: VoteList,
+    pub key: Key,
+    pub stamp: Stamp,
+}
+
+// A TX by itself, and a VL by itself: 0 and the value, or the refusal's number and no value.
+pub struct TxReading {
+    pub wrong: u8,
+    pub tx: Transaction,
+}
+
+pub struct VlReading {
+    pub wrong: u8,
     pub list: VoteList,
 }
 

@@ -1,22 +1,25 @@
 -- The cut of a record and its length, by its mark: each outcome, and that a record that is cut is there.
-use Prim.Native.Nat.{ℕ, _+_, _-_, _≤_, _<_}
+use Prim.Native.Nat.{ℕ, _-_, _≤_, _<_}
 use native.Mathlib.Omega.{arith}
 use mathlib.Core.Bool.{Bool, true, false}
 use mathlib.Core.Path.{_≡_, refl, ap, sym, _∙_}
 use mathlib.Core.List.{List}
+use lib.Dec.{ltb}
 use lib.ListN.{length, length-drop}
 use Rattle.terms.specs.Choice.{pick}
-use Rattle.terms.specs.Checks.{orElse, ifLess, short, mark}
-use Rattle.terms.proofs.Checks.{pass, stop, halt, less-no, less-yes, not-less, first-none, rest-none}
+use Rattle.terms.specs.Checks.{ifLess, short, mark}
+use Rattle.terms.proofs.Checks.{pass, halt, less-no, less-yes, not-less, first-none, rest-none}
+use Rattle.records.specs.declared.Mark.{Mark}
+use Rattle.records.specs.declared.Mark.the-variants.{PR, LG, DC, RD}
+use Rattle.records.specs.declared.Marked.{Marked}
+use Rattle.records.specs.declared.Marked.the-variants.{Is, Refused as Unmarked}
 use Rattle.records.specs.Tx.{txLen, TxThere}
-use Rattle.records.specs.Vl.{vlLen, VlThere}
-use Rattle.records.specs.Cutting.{txCut, vlCut, behindMark, vlPart, prCut, prLen, listedCut, listedLen, rdCut, rdLen, markPR, markLG, markDC, markRD}
-use Rattle.records.specs.Messages.{isMark, byMark}
-use Rattle.reading.proofs.Cuts.{tx-there, vl-there, pr-cuts, listed-cuts, rd-long}
-use Rattle.reading.proofs.Marks.{by-pr, by-lg, by-dc, by-rd, by-other}
-use Rattle.rules.specs.Act.{configWrong}
-use Rattle.lines.specs.Lines.{markGP, markCK}
-use Rattle.replay.specs.Bench.{recordCut, recordLen, ckLen}
+use Rattle.records.specs.Vl.{VlThere}
+use Rattle.records.specs.Cutting.{behindMark, vlPart, messageCut, listedLen, messageLen, rdLen, markPR, markLG, markDC, markRD}
+use Rattle.records.specs.Messages.{isMark, markOf}
+use Rattle.reading.proofs.Cuts.{ListedCut, tx-there, vl-there, pr-cuts, lg-cuts, dc-cuts, rd-long}
+use Rattle.lines.specs.Lines.{markCK}
+use Rattle.replay.specs.Bench.{markedCut, markedLen, recordCut, recordLen, ckLen}
 
 module _ {A : Type 0} (b : Bool) (x y : A) where
   pub yes : b ≡ true → pick b x y ≡ x
@@ -36,58 +39,75 @@ module _ (s : List ℕ) where
     unfolding recordCut
     cut-ck p x e = pass (less-no _ _ _ l) (e ∙ sym (yes _ _ _ p))
 
-    module _ (n : isMark markCK s ≡ false) where
-      other : (x : ℕ) → x ≡ byMark s (prCut s) (listedCut markLG s) (listedCut markDC s) (rdCut s) mark → x ≡ recordCut s
+    module _ (n : isMark markCK s ≡ false) (w : Marked) (e : w ≡ markOf s) where
+      other : (x : ℕ) → x ≡ markedCut w s → x ≡ recordCut s
       unfolding recordCut
-      other x e = pass (less-no _ _ _ l) (e ∙ sym (no _ _ _ n))
+      other x q = pass (less-no _ _ _ l) (q ∙ ap (λ (v : Marked). markedCut v s) e ∙ sym (no _ _ _ n))
 
-      pub cut-pr : isMark markPR s ≡ true → (x : ℕ) → x ≡ prCut s → x ≡ recordCut s
-      cut-pr p x e = other x (e ∙ sym (by-pr s _ _ _ _ _ p))
+      pub cut-message : (k : Mark) → w ≡ Is k → (x : ℕ) → x ≡ messageCut k s → x ≡ recordCut s
+      unfolding markedCut
+      cut-message k p x q = other x (rw p q)
 
-      module _ (a : isMark markPR s ≡ false) where
-        pub cut-lg : isMark markLG s ≡ true → (x : ℕ) → x ≡ listedCut markLG s → x ≡ recordCut s
-        cut-lg p x e = other x (e ∙ sym (by-lg s _ _ _ _ _ a p))
+      pub cut-none : (k : ℕ) → w ≡ Unmarked k → k ≡ recordCut s
+      unfolding markedCut
+      cut-none k p = other k (rw p)
 
-        module _ (b : isMark markLG s ≡ false) where
-          pub cut-dc : isMark markDC s ≡ true → (x : ℕ) → x ≡ listedCut markDC s → x ≡ recordCut s
-          cut-dc p x e = other x (e ∙ sym (by-dc s _ _ _ _ _ a b p))
+-- what has none of the four marks is refused
+Refusing : Marked → Type 0
+Refusing (Is k) = Unit {0}
+Refusing (Unmarked n) = n ≡ 0 → ⊥
 
-          module _ (c : isMark markDC s ≡ false) where
-            pub cut-rd : isMark markRD s ≡ true → (x : ℕ) → x ≡ rdCut s → x ≡ recordCut s
-            cut-rd p x e = other x (e ∙ sym (by-rd s _ _ _ _ _ a b c p))
+either : (b : Bool) (x y : Marked) → Refusing x → Refusing y → Refusing (pick b x y)
+either true x y p q = p
+either false x y p q = q
 
-            pub cut-none : isMark markRD s ≡ false → mark ≡ recordCut s
-            cut-none p = other mark (sym (by-other s _ _ _ _ _ a b c p))
+refusing : (s : List ℕ) → Refusing (markOf s)
+unfolding markOf Refusing
+refusing s =
+    either (ltb (length s) 2) (Unmarked short) _ (λ (z : short ≡ 0). omega arith)
+    (either (isMark markPR s) (Is PR) _ tt
+    (either (isMark markLG s) (Is LG) _ tt
+    (either (isMark markDC s) (Is DC) _ tt
+    (either (isMark markRD s) (Is RD) (Unmarked mark) tt (λ (z : mark ≡ 0). omega arith)))))
+
+unmarked : (w : Marked) (n : ℕ) → Refusing w → w ≡ Unmarked n → n ≡ 0 → ⊥
+unfolding Refusing
+unmarked (Is k) n h e = absurd (let z : _≡_ {A = ℕ} 0 1 = cc in omega arith)
+unmarked (Unmarked k) n h e = λ (z : n ≡ 0). let q : k ≡ n = cc in h (q ∙ z)
 
 -- ---- the length of a record that is cut
 abbrev pub Sized : List ℕ → ℕ → Type 0
 Sized s n = (n ≡ recordLen s) × (10 ≤ n) × (n ≤ length s)
 
--- a record whose TX, and whose VL, is there
-pr-fits : (s : List ℕ) → prCut s ≡ 0 → (10 ≤ prLen s) × (prLen s ≤ length s)
-unfolding prLen
-pr-fits s z =
-    let c = pr-cuts s _ refl z in
-    let h : TxThere (behindMark s) = tx-there _ _ refl (c .1) in
-    let d : length (behindMark s) ≡ length s - 2 = length-drop 2 s in
-    (omega arith, omega arith)
+-- a message whose TX, and whose VL, is there
+abbrev Fits : List ℕ → ℕ → Type 0
+Fits s n = (10 ≤ n) × (n ≤ length s)
 
-listed-fits : (due s : List ℕ) → listedCut due s ≡ 0 → (10 ≤ listedLen s) × (listedLen s ≤ length s)
+listed-fits : (s : List ℕ) → ListedCut s → Fits s (listedLen s)
 unfolding listedLen vlPart
-listed-fits due s z =
-    let c = listed-cuts due s _ refl z in
+listed-fits s c =
     let h : TxThere (behindMark s) = tx-there _ _ refl (c .1) in
     let g : VlThere (vlPart s) = vl-there _ _ refl (c .2) in
     let d : length (behindMark s) ≡ length s - 2 = length-drop 2 s in
     let e : length (vlPart s) ≡ length (behindMark s) - txLen (behindMark s) = length-drop (txLen (behindMark s)) (behindMark s) in
     (omega arith, omega arith)
 
+message-fits : (k : Mark) (s : List ℕ) → messageCut k s ≡ 0 → Fits s (messageLen k s)
+unfolding messageLen
+message-fits PR s z =
+    let h : TxThere (behindMark s) = tx-there _ _ refl (pr-cuts s z .1) in
+    let d : length (behindMark s) ≡ length s - 2 = length-drop 2 s in
+    (omega arith, omega arith)
+message-fits LG s z = listed-fits s (lg-cuts s z)
+message-fits DC s z = listed-fits s (dc-cuts s z)
+message-fits RD s z = let h : rdLen ≤ length s = rd-long s z in (omega arith, omega arith)
+
 module _ (s : List ℕ) (z : recordCut s ≡ 0) where
   pub cut-long : 2 ≤ length s
   unfolding recordCut
   cut-long = not-less _ _ _ (first-none _ _ z)
 
-  rest : pick (isMark markCK s) (ifLess (length s) ckLen short) (byMark s (prCut s) (listedCut markLG s) (listedCut markDC s) (rdCut s) mark) ≡ 0
+  rest : pick (isMark markCK s) (ifLess (length s) ckLen short) (markedCut (markOf s) s) ≡ 0
   unfolding recordCut
   rest = rest-none _ _ z
 
@@ -95,62 +115,38 @@ module _ (s : List ℕ) (z : recordCut s ≡ 0) where
   unfolding recordLen
   len-ck p = (sym (yes _ _ _ p), omega arith, not-less _ _ _ (sym (yes _ _ _ p) ∙ rest))
 
-  module _ (n : isMark markCK s ≡ false) where
-    chosen : byMark s (prCut s) (listedCut markLG s) (listedCut markDC s) (rdCut s) mark ≡ 0
-    chosen = sym (no _ _ _ n) ∙ rest
+  module _ (n : isMark markCK s ≡ false) (w : Marked) (e : w ≡ markOf s) where
+    chosen : markedCut w s ≡ 0
+    chosen = ap (λ (v : Marked). markedCut v s) e ∙ sym (no _ _ _ n) ∙ rest
 
-    sized : (x y : ℕ) → x ≡ y → (10 ≤ y) × (y ≤ length s) → byMark s (prLen s) (listedLen s) (listedLen s) rdLen 0 ≡ y → Sized s x
+    long : recordLen s ≡ markedLen w s
     unfolding recordLen
-    sized x y e h q = (e ∙ sym q ∙ sym (no _ _ _ n), omega arith, omega arith)
+    long = no _ _ _ n ∙ ap (λ (v : Marked). markedLen v s) (sym e)
 
-    module _ (p : isMark markPR s ≡ true) where
-      pub pr-passes : prCut s ≡ 0
-      pr-passes = sym (by-pr s _ _ _ _ _ p) ∙ chosen
+    module _ (k : Mark) (p : w ≡ Is k) where
+      pub message-passes : messageCut k s ≡ 0
+      unfolding markedCut
+      message-passes = rw p at chosen
 
-      pub len-pr : (x : ℕ) → x ≡ prLen s → Sized s x
-      len-pr x e = sized x _ e (pr-fits s pr-passes) (by-pr s _ _ _ _ _ p)
+      pub len-message : (x : ℕ) → x ≡ messageLen k s → Sized s x
+      unfolding markedLen
+      len-message x q =
+          let f = message-fits k s message-passes in
+          let g : recordLen s ≡ messageLen k s = rw p at long in
+          (q ∙ sym g, omega arith, omega arith)
 
-    module _ (a : isMark markPR s ≡ false) where
-      module _ (p : isMark markLG s ≡ true) where
-        lg-passes : listedCut markLG s ≡ 0
-        lg-passes = sym (by-lg s _ _ _ _ _ a p) ∙ chosen
-
-        pub lg-cuts : (2 ≤ length s) × (txCut (behindMark s) ≡ 0) × (vlCut (vlPart s) ≡ 0)
-        lg-cuts = listed-cuts _ s _ refl lg-passes
-
-        pub len-lg : (x : ℕ) → x ≡ listedLen s → Sized s x
-        len-lg x e = sized x _ e (listed-fits _ s lg-passes) (by-lg s _ _ _ _ _ a p)
-
-      module _ (b : isMark markLG s ≡ false) where
-        module _ (p : isMark markDC s ≡ true) where
-          dc-passes : listedCut markDC s ≡ 0
-          dc-passes = sym (by-dc s _ _ _ _ _ a b p) ∙ chosen
-
-          pub dc-cuts : (2 ≤ length s) × (txCut (behindMark s) ≡ 0) × (vlCut (vlPart s) ≡ 0)
-          dc-cuts = listed-cuts _ s _ refl dc-passes
-
-          pub len-dc : (x : ℕ) → x ≡ listedLen s → Sized s x
-          len-dc x e = sized x _ e (listed-fits _ s dc-passes) (by-dc s _ _ _ _ _ a b p)
-
-        pub len-rd : isMark markDC s ≡ false → Sized s rdLen
-        len-rd c = by (isMark markRD s) refl
-          where
-            by : (d : Bool) → isMark markRD s ≡ d → Sized s rdLen
-            by true p =
-                let h : 12 ≤ length s = rd-long s _ refl (sym (by-rd s _ _ _ _ _ a b c p) ∙ chosen) in
-                sized rdLen _ refl (omega arith, omega arith) (by-rd s _ _ _ _ _ a b c p)
-            by false p = absurd (let e : mark ≡ 0 = sym (by-other s _ _ _ _ _ a b c p) ∙ chosen in omega arith)
+    pub len-none : (k : ℕ) → w ≡ Unmarked k → Sized s 0
+    unfolding markedCut
+    len-none k p = absurd (let c : k ≡ 0 = rw p at chosen in unmarked (markOf s) k (refusing s) (sym e ∙ p) c)
 
   -- whichever it is
   pub cut-sized : 10 ≤ recordLen s
-  cut-sized = by (isMark markCK s) refl (isMark markPR s) refl (isMark markLG s) refl (isMark markDC s) refl
+  cut-sized = by (isMark markCK s) refl (markOf s) refl
     where
       of : (x : ℕ) → Sized s x → 10 ≤ recordLen s
       of x h = let e = h .0 in let a = h .1 in omega arith
 
-      by : (k : Bool) → isMark markCK s ≡ k → (a : Bool) → isMark markPR s ≡ a → (b : Bool) → isMark markLG s ≡ b → (c : Bool) → isMark markDC s ≡ c → 10 ≤ recordLen s
-      by true p a q b u c v = of 10 (len-ck p)
-      by false p true q b u c v = of _ (len-pr p q _ refl)
-      by false p false q true u c v = of _ (len-lg p q u _ refl)
-      by false p false q false u true v = of _ (len-dc p q u v _ refl)
-      by false p false q false u false v = of _ (len-rd p q u v)
+      by : (b : Bool) → isMark markCK s ≡ b → (w : Marked) → w ≡ markOf s → 10 ≤ recordLen s
+      by true p w e = of 10 (len-ck p)
+      by false p (Is k) e = of _ (len-message p (Is k) e k refl _ refl)
+      by false p (Unmarked n) e = of 0 (len-none p (Unmarked n) e n refl)

@@ -1,12 +1,10 @@
 -- What the bench prints, by what it read; and how it answers for the buffer that it was lent.
-use Prim.Native.Nat.{ℕ, zero, suc, _+_, _≤_, _<_}
+use Prim.Native.Nat.{ℕ, _+_, _≤_, _<_}
 use native.Mathlib.Omega.{arith}
-use mathlib.Core.Bool.{Bool, true, false}
 use mathlib.Core.Path.{_≡_, refl, ap, sym, _∙_}
-use mathlib.Core.List.{List, [], _∷_, _++_}
+use mathlib.Core.List.{List, [], _++_}
 use lib.ListN.{length, drop}
 use borrow.Author.Tests.{lt-ltb, le-ltb}
-use Rattle.terms.specs.Choice.{pick}
 use Rattle.terms.specs.Refusals.{refusalOf}
 use Rattle.terms.specs.declared.Refusal.the-variants.{Buffer}
 use Rattle.terms.proofs.Checks.{less-no, less-yes}

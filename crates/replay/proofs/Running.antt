@@ -9,28 +9,24 @@ use lib.ListN.{length, getD, take, drop, replicate, length-drop, drop-of-length-
 use lib.Seq.{drop-drop, length-take-le}
 use borrow.Author.Tests.{lt-ltb, ltb-true, ltb-false}
 use Rattle.terms.specs.Choice.{pick}
-use Rattle.terms.specs.Checks.{orElse, ifLess}
 use Rattle.terms.specs.Refusals.{refusalOf}
-use Rattle.terms.proofs.Checks.{pass, less-no, when-no, not-less, first-none, rest-none}
+use Rattle.terms.proofs.Checks.{not-less, first-none, rest-none}
 use Rattle.records.specs.Numbers.{numAt}
-use Rattle.rules.specs.declared.Answer.{Answer}
 use Rattle.rules.specs.declared.Answer.the-variants.{Refused}
-use Rattle.rules.specs.Table.{Config, Box, empty}
-use Rattle.rules.specs.Act.{configWrong}
-use Rattle.table.specs.Table.{tableWrong, entriesOf, rowLen}
-use Rattle.steps.specs.Step.{config}
-use Rattle.engine.specs.Outcome.{boxIn}
-use Rattle.engine.specs.Traces.{Kept}
-use Rattle.engine.proofs.Traces.{Tracks}
+use Rattle.rules.specs.declared.Told.{Told}
+use Rattle.rules.specs.Table.{Box, empty}
+use Rattle.rules.specs.Act.{toldWrong}
+use Rattle.table.specs.Table.{tableWrong, entriesOf}
+use Rattle.engine.specs.Outcome.{Kept, kept, boxIn}
 use Rattle.engine.proofs.Starts.{zeros-taken}
 use Rattle.lines.specs.declared.Said.{Said}
 use Rattle.lines.specs.declared.Said.the-variants.{Taken, Answered}
-use Rattle.lines.specs.Lines.{lineOf, putAt, Puts}
+use Rattle.lines.specs.Lines.{lineOf, Puts}
 use Rattle.lines.proofs.Putting.{puts-none, puts-same, puts-both, puts-as}
-use Rattle.replay.specs.Bench.{longest, gpLen, configOf, gpRefusal, recordCut, recordLen, front, said, boxNext, clockNext, stops, cutOr, linesFrom, restText, runText, room}
-use Rattle.replay.specs.Turn.{Fronted, kept, saidTo, keptNext}
+use Rattle.replay.specs.Bench.{longest, toldBy, gpRefusal, recordCut, recordLen, front, said, boxNext, clockNext, stops, cutOr, linesFrom, restText, runText, room}
+use Rattle.replay.specs.Turn.{Fronted, saidTo, keptNext}
 use Rattle.replay.proofs.Cuts.{yes, no, Sized, cut-sized}
-use Rattle.replay.proofs.Turns.{said-same, next-tracks}
+use Rattle.replay.proofs.Turns.{said-same, next-same}
 
 -- ---- the lines of the records that are left
 pub cut-is : (c k : ℕ) (s rest : List ℕ) → (c ≡ 0 → ⊥) → cutOr c k s rest ≡ lineOf k s (Answered (Refused (refusalOf c)))
@@ -52,8 +48,8 @@ no-bytes [] h = refl
 no-bytes (x ∷ s) h = absurd (omega arith)
 
 module _ (n k : ℕ) (gp : List ℕ) (clock : ℕ) (x : Box) (s : List ℕ) (h : 0 < length s) where
-  abbrev cf : Config
-  cf = configOf gp clock
+  abbrev told : Told
+  told = toldBy gp clock
 
   lines-cut : (recordCut s ≡ 0 → ⊥) → linesFrom (suc n) k gp clock x s ≡ lineOf k s (Answered (Refused (refusalOf (recordCut s))))
   unfolding linesFrom
@@ -61,16 +57,16 @@ module _ (n k : ℕ) (gp : List ℕ) (clock : ℕ) (x : Box) (s : List ℕ) (h :
 
   module _ (z : recordCut s ≡ 0) where
     passed : linesFrom (suc n) k gp clock x s
-        ≡ lineOf k s (said cf x (front s)) ++ pick (stops (said cf x (front s))) [] (linesFrom n (k + 1) gp (clockNext clock (front s)) (boxNext cf x (front s)) (drop (recordLen s) s))
+        ≡ lineOf k s (said told x (front s)) ++ pick (stops (said told x (front s))) [] (linesFrom n (k + 1) gp (clockNext clock (front s)) (boxNext told x (front s)) (drop (recordLen s) s))
     unfolding linesFrom
     passed = yes _ _ _ (lt-ltb 0 (length s) h) ∙ cut-passes _ _ _ _ z
 
-    lines-stop : stops (said cf x (front s)) ≡ true → linesFrom (suc n) k gp clock x s ≡ lineOf k s (said cf x (front s))
-    lines-stop p = passed ∙ ap (λ (l : List ℕ). lineOf k s (said cf x (front s)) ++ l) (yes _ _ _ p) ∙ append-nil _
+    lines-stop : stops (said told x (front s)) ≡ true → linesFrom (suc n) k gp clock x s ≡ lineOf k s (said told x (front s))
+    lines-stop p = passed ∙ ap (λ (l : List ℕ). lineOf k s (said told x (front s)) ++ l) (yes _ _ _ p) ∙ append-nil _
 
-    lines-go : stops (said cf x (front s)) ≡ false → linesFrom (suc n) k gp clock x s
-        ≡ lineOf k s (said cf x (front s)) ++ linesFrom n (k + 1) gp (clockNext clock (front s)) (boxNext cf x (front s)) (drop (recordLen s) s)
-    lines-go p = passed ∙ ap (λ (l : List ℕ). lineOf k s (said cf x (front s)) ++ l) (no _ _ _ p)
+    lines-go : stops (said told x (front s)) ≡ false → linesFrom (suc n) k gp clock x s
+        ≡ lineOf k s (said told x (front s)) ++ linesFrom n (k + 1) gp (clockNext clock (front s)) (boxNext told x (front s)) (drop (recordLen s) s)
+    lines-go p = passed ∙ ap (λ (l : List ℕ). lineOf k s (said told x (front s)) ++ l) (no _ _ _ p)
 
 -- no line is lost to the number of turns: as many turns as there are bytes are enough, and more change nothing
 pub enough : (n k : ℕ) (gp : List ℕ) (clock : ℕ) (x : Box) (s : List ℕ) → length s ≤ n → linesFrom n k gp clock x s ≡ linesFrom (suc n) k gp clock x s
@@ -78,13 +74,13 @@ enough zero k gp clock x s h =
     let e : s ≡ [] = no-bytes s h in
     lines-end zero k gp clock x s e ∙ sym (lines-end 1 k gp clock x s e)
 enough (suc n) k gp clock x s h =
-    by (ltb 0 (length s)) refl (recordCut s) refl (stops (said (configOf gp clock) x (front s))) refl
-    (λ (l : length (drop (recordLen s) s) ≤ n). enough n (k + 1) gp (clockNext clock (front s)) (boxNext (configOf gp clock) x (front s)) (drop (recordLen s) s) l)
+    by (ltb 0 (length s)) refl (recordCut s) refl (stops (said (toldBy gp clock) x (front s))) refl
+    (λ (l : length (drop (recordLen s) s) ≤ n). enough n (k + 1) gp (clockNext clock (front s)) (boxNext (toldBy gp clock) x (front s)) (drop (recordLen s) s) l)
   where
     next : ℕ → List ℕ
-    next i = linesFrom i (k + 1) gp (clockNext clock (front s)) (boxNext (configOf gp clock) x (front s)) (drop (recordLen s) s)
+    next i = linesFrom i (k + 1) gp (clockNext clock (front s)) (boxNext (toldBy gp clock) x (front s)) (drop (recordLen s) s)
 
-    by : (some : Bool) → ltb 0 (length s) ≡ some → (c : ℕ) → recordCut s ≡ c → (halt : Bool) → stops (said (configOf gp clock) x (front s)) ≡ halt
+    by : (some : Bool) → ltb 0 (length s) ≡ some → (c : ℕ) → recordCut s ≡ c → (halt : Bool) → stops (said (toldBy gp clock) x (front s)) ≡ halt
         → (length (drop (recordLen s) s) ≤ n → next n ≡ next (suc n)) → linesFrom (suc n) k gp clock x s ≡ linesFrom (suc (suc n)) k gp clock x s
     by false p c q halt r more =
         let e : s ≡ [] = no-bytes s (ltb-false 0 (length s) p) in
@@ -100,16 +96,18 @@ enough (suc n) k gp clock x s h =
         let d = length-drop (recordLen s) s in
         let z = cut-sized s q in
         lines-go n k gp clock x s l q r
-        ∙ ap (λ (t : List ℕ). lineOf k s (said (configOf gp clock) x f) ++ t) (more (omega arith))
+        ∙ ap (λ (t : List ℕ). lineOf k s (said (toldBy gp clock) x f) ++ t) (more (omega arith))
         ∙ sym (lines-go (suc n) k gp clock x s l q r)
 
 pub gp-long : (s : List ℕ) → gpRefusal s ≡ 0 → 12 ≤ length s
 unfolding gpRefusal
 gp-long s z = not-less _ _ _ (first-none _ _ (rest-none _ _ z))
 
-pub config-is : (gp : List ℕ) (f capacity clock delta : ℕ) → f ≡ getD gp 2 0 → capacity ≡ getD gp 3 0 → delta ≡ numAt 8 4 gp → config f capacity clock delta ≡ configOf gp clock
-unfolding configOf
-config-is gp f capacity clock delta p q d = rw (p, q, d)
+-- what a GP tells, number by number
+pub told-is : (gp : List ℕ) (f capacity clock delta : ℕ) → f ≡ getD gp 2 0 → capacity ≡ getD gp 3 0 → delta ≡ numAt 8 4 gp
+    → _≡_ {A = Told} (record { f = f; capacity = capacity; clock = clock; delta = delta }) (toldBy gp clock)
+unfolding toldBy
+told-is gp f capacity clock delta p q d = rw (p, q, d)
 
 -- the front of a record that is cut
 pub front-is : (s : List ℕ) (n : ℕ) → Sized s n → Fronted s (take n s)
@@ -124,7 +122,7 @@ front-is s n size =
 pub record Running (input out₀ : List ℕ) (first number at clock n : ℕ) (table marks out : List ℕ) : Type 0 where
   pub done : List ℕ
   pub put : Puts out₀ first done (12 * at - 144) out n
-  pub whole : restText input ≡ done ++ linesFrom (length input + 1 - number) number input clock (boxIn table marks) (drop at input)
+  pub whole : restText input ≡ done ++ linesFrom (length input + 1 - number) number input clock (boxIn (kept table marks)) (drop at input)
   pub taken : tableWrong (getD input 3 0) table ≡ 0
   pub counted : number ≤ at
   pub behind : 12 ≤ at
@@ -134,7 +132,7 @@ pub record Running (input out₀ : List ℕ) (first number at clock n : ℕ) (ta
   pub short : first ≤ 112
 
 pub running-first : {input out : List ℕ} {first : ℕ} {table marks : List ℕ}
-    → (gpRefusal input ≡ 0) × (length input ≤ longest) × (room ≤ length out) × (first ≤ 112) × (tableWrong (getD input 3 0) table ≡ 0) × (boxIn table marks ≡ empty)
+    → (gpRefusal input ≡ 0) × (length input ≤ longest) × (room ≤ length out) × (first ≤ 112) × (tableWrong (getD input 3 0) table ≡ 0) × (boxIn (kept table marks) ≡ empty)
     → Running input out first 1 12 0 first table marks out
 unfolding restText
 running-first {input} {out} {first} {table} {marks} h =
@@ -162,7 +160,7 @@ module _ {input out₀ : List ℕ} {first number at clock n : ℕ} {table marks 
   -- all lines are put down
   pub running-end : length input ≤ at → Puts out₀ first (restText input) 786400 out n
   running-end h =
-      let e = lines-end (length input + 1 - number) number input clock (boxIn table marks) (drop at input) (drop-of-length-le input h) in
+      let e = lines-end (length input + 1 - number) number input clock (boxIn (kept table marks)) (drop at input) (drop-of-length-le input h) in
       let w = r .within in
       let f = r .few in
       puts-as (sym (r .whole ∙ ap (λ (l : List ℕ). r .done ++ l) e ∙ append-nil _)) (r .put) (omega arith)
@@ -194,11 +192,11 @@ module _ {input out₀ : List ℕ} {first number at clock n : ℕ} {table marks 
         omega arith
 
     -- a record that cannot be cut, or that stops the bench, has the last line
-    last : (line out' : List ℕ) (n' : ℕ) → Puts out n line 112 out' n' → linesFrom (suc left) number input clock (boxIn table marks) (drop at input) ≡ line → Puts out₀ first (restText input) 786400 out' n'
+    last : (line out' : List ℕ) (n' : ℕ) → Puts out n line 112 out' n' → linesFrom (suc left) number input clock (boxIn (kept table marks)) (drop at input) ≡ line → Puts out₀ first (restText input) 786400 out' n'
     last line out' n' p e =
         let f = r .few in
         puts-as
-        (sym (r .whole ∙ ap (λ (k : ℕ). r .done ++ linesFrom k number input clock (boxIn table marks) (drop at input)) more ∙ ap (λ (l : List ℕ). r .done ++ l) e))
+        (sym (r .whole ∙ ap (λ (k : ℕ). r .done ++ linesFrom k number input clock (boxIn (kept table marks)) (drop at input)) more ∙ ap (λ (l : List ℕ). r .done ++ l) e))
         (puts-both (r .put) p room-behind)
         (omega arith)
 
@@ -212,8 +210,8 @@ module _ {input out₀ : List ℕ} {first number at clock n : ℕ} {table marks 
           ∙ ap (lineOf number (drop at input)) (sym q))
 
       -- a record that is cut
-      module _ (z : c ≡ 0) (m : List ℕ) (fronted : Fronted s m) (cf : Config) (same : cf ≡ configOf input clock) (what : Said)
-          (told : what ≡ saidTo cf (kept table marks) m) (out' : List ℕ) (n' : ℕ) (p : Puts out n (lineOf number s what) 112 out' n') where
+      module _ (z : c ≡ 0) (m : List ℕ) (fronted : Fronted s m) (told : Told) (same : told ≡ toldBy input clock) (what : Said)
+          (answers : what ≡ saidTo told (kept table marks) m) (out' : List ℕ) (n' : ℕ) (p : Puts out n (lineOf number s what) 112 out' n') where
         zero-cut : recordCut (drop at input) ≡ 0
         zero-cut = ap recordCut (sym is) ∙ sym cut ∙ z
 
@@ -223,16 +221,16 @@ module _ {input out₀ : List ℕ} {first number at clock n : ℕ} {table marks 
         put-down : Puts out n (lineOf number (drop at input) what) 112 out' n'
         put-down = rw (← is) p
 
-        tracks : Tracks (configOf input clock .capacity) (kept table marks) (boxIn table marks)
-        unfolding configOf
-        tracks = record { taken = r .taken; same = refl }
+        taken-so : tableWrong (toldBy input clock .capacity) table ≡ 0
+        unfolding toldBy
+        taken-so = r .taken
 
-        still : tableWrong (getD input 3 0) (keptNext (configOf input clock) (kept table marks) (front (drop at input)) .table) ≡ 0
-        unfolding configOf
-        still = next-tracks (configOf input clock) (kept table marks) (boxIn table marks) (front (drop at input)) tracks .taken
+        still : tableWrong (getD input 3 0) (keptNext (toldBy input clock) (kept table marks) (front (drop at input)) .table) ≡ 0
+        unfolding toldBy
+        still = next-same (toldBy input clock) (kept table marks) (front (drop at input)) taken-so .1
 
-        what-said : what ≡ said (configOf input clock) (boxIn table marks) (front (drop at input))
-        what-said = told ∙ (rw (same, fronts) (said-same (configOf input clock) (kept table marks) (boxIn table marks) (front (drop at input)) tracks))
+        what-said : what ≡ said (toldBy input clock) (boxIn (kept table marks)) (front (drop at input))
+        what-said = answers ∙ (rw (same, fronts) (said-same (toldBy input clock) (kept table marks) (front (drop at input)) taken-so))
 
         pub running-stop : stops what ≡ true → Puts out₀ first (restText input) 786400 out' n'
         running-stop q =
@@ -243,20 +241,20 @@ module _ {input out₀ : List ℕ} {first number at clock n : ℕ} {table marks 
         fits = let d = length-drop at input in let b = fronted .3 in let e = ap length is in omega arith
 
         pub running-more : stops what ≡ false → (clock' : ℕ) (table' marks' : List ℕ) → clock' ≡ clockNext clock m
-            → table' ≡ keptNext cf (kept table marks) m .table → marks' ≡ keptNext cf (kept table marks) m .marks
+            → table' ≡ keptNext told (kept table marks) m .table → marks' ≡ keptNext told (kept table marks) m .marks
             → Running input out₀ first (number + 1) (at + length m) clock' n' table' marks' out'
         running-more q clock' table' marks' u v w =
             let x = kept table marks in
             let y = drop at input in
-            let k : keptNext cf x m ≡ keptNext (configOf input clock) x (front y) = rw (same, fronts) refl in
-            let t = next-tracks (configOf input clock) x (boxIn table marks) (front y) tracks in
-            let tv : table' ≡ keptNext (configOf input clock) x (front y) .table = v ∙ ap (λ (y : Kept). y .table) k in
-            let tw : marks' ≡ keptNext (configOf input clock) x (front y) .marks = w ∙ ap (λ (y : Kept). y .marks) k in
-            let bx : boxIn table' marks' ≡ boxNext (configOf input clock) (boxIn table marks) (front y) = (rw (tv, tw) (t .same)) in
+            let k : keptNext told x m ≡ keptNext (toldBy input clock) x (front y) = rw (same, fronts) refl in
+            let t = next-same (toldBy input clock) x (front y) taken-so in
+            let tv : table' ≡ keptNext (toldBy input clock) x (front y) .table = v ∙ ap (λ (y : Kept). y .table) k in
+            let tw : marks' ≡ keptNext (toldBy input clock) x (front y) .marks = w ∙ ap (λ (y : Kept). y .marks) k in
+            let bx : boxIn (kept table' marks') ≡ boxNext (toldBy input clock) (boxIn (kept table marks)) (front y) = (rw (tv, tw) (t .0)) in
             let ck : clock' ≡ clockNext clock (front y) = u ∙ ap (clockNext clock) fronts in
             let dr : drop (at + length m) input ≡ drop (recordLen y) y = sym (drop-drop (length m) at input) ∙ ap (λ (i : ℕ). drop i y) (fronted .1 ∙ ap recordLen is) in
             let fu : length input + 1 - (number + 1) ≡ left = omega arith in
-            let go = lines-go left number input clock (boxIn table marks) y some zero-cut (ap stops (sym what-said) ∙ q) in
+            let go = lines-go left number input clock (boxIn (kept table marks)) y some zero-cut (ap stops (sym what-said) ∙ q) in
             let d = r .done in
             let line = lineOf number y what in
             let g = fronted .2 in
@@ -267,7 +265,7 @@ module _ {input out₀ : List ℕ} {first number at clock n : ℕ} {table marks 
               put = puts-as refl (puts-both (r .put) put-down room-behind) (omega arith);
               whole =
                   r .whole
-                  ∙ ap (λ (i : ℕ). d ++ linesFrom i number input clock (boxIn table marks) y) more
+                  ∙ ap (λ (i : ℕ). d ++ linesFrom i number input clock (boxIn (kept table marks)) y) more
                   ∙ ap (λ (l : List ℕ). d ++ l) (go ∙ (rw (fu, ck, bx, dr, what-said)))
                   ∙ sym (append-assoc d line _);
               taken = rw tv still;
@@ -280,19 +278,19 @@ module _ {input out₀ : List ℕ} {first number at clock n : ℕ} {table marks 
             }
 
 -- ---- a table of zeros is empty, for each capacity that a GP may ask
-zeros-empty : (n : ℕ) → boxIn (replicate (suc n) 0) (replicate 512 0) ≡ empty
+zeros-empty : (n : ℕ) → boxIn (kept (replicate (suc n) 0) (replicate 512 0)) ≡ empty
 unfolding boxIn empty entriesOf
 zeros-empty n = refl
 
-pub zeros-start : (input : List ℕ) → gpRefusal input ≡ 0 → (tableWrong (getD input 3 0) (replicate 44881 0) ≡ 0) × (boxIn (replicate 44881 0) (replicate 512 0) ≡ empty)
-unfolding gpRefusal configWrong configOf
+pub zeros-start : (input : List ℕ) → gpRefusal input ≡ 0 → (tableWrong (getD input 3 0) (replicate 44881 0) ≡ 0) × (boxIn (kept (replicate 44881 0) (replicate 512 0)) ≡ empty)
+unfolding gpRefusal toldWrong toldBy
 zeros-start input z =
     let c : getD input 3 0 ≤ 255 = not-less _ _ _ (rest-none _ _ (rest-none _ _ (rest-none _ _ (rest-none _ _ z)))) in
     (zeros-taken (getD input 3 0) 44880 (omega arith), zeros-empty 44880)
 
 -- the first line, then the rest
 pub rest-ready : (input : List ℕ) {o e : List ℕ} {a : ℕ} → (gpRefusal input ≡ 0) × (length input ≤ longest) × (room ≤ length o) → Puts o 0 (lineOf 0 input Taken) 112 e a
-    → (gpRefusal input ≡ 0) × (length input ≤ longest) × (room ≤ length e) × (a ≤ 112) × (tableWrong (getD input 3 0) (replicate 44881 0) ≡ 0) × (boxIn (replicate 44881 0) (replicate 512 0) ≡ empty)
+    → (gpRefusal input ≡ 0) × (length input ≤ longest) × (room ≤ length e) × (a ≤ 112) × (tableWrong (getD input 3 0) (replicate 44881 0) ≡ 0) × (boxIn (kept (replicate 44881 0) (replicate 512 0)) ≡ empty)
 rest-ready input h p =
     let w = h .2 in
     let l = puts-same p (omega arith) in

@@ -5,18 +5,20 @@ use mathlib.Core.List.{List, [], _∷_, _++_}
 use lib.ListN.{length, getD, take, drop}
 use lib.Dec.{eqb, ltb}
 use Rattle.terms.specs.Choice.{pick}
-use Rattle.terms.specs.Checks.{orElse, ifLess, short, mark, buffer}
+use Rattle.terms.specs.Checks.{orElse, ifLess, short, buffer}
 use Rattle.terms.specs.Refusals.{refusalOf, numberOf}
 use Rattle.records.specs.Numbers.{numAt}
 use Rattle.records.specs.declared.Written.{Written}
 use Rattle.records.specs.declared.Written.the-variants.{Wrote, Refused as refusedWritten}
-use Rattle.records.specs.Cutting.{markWrong, prCut, prLen, listedCut, listedLen, rdCut, rdLen, markLG, markDC}
-use Rattle.records.specs.Messages.{isMark, byMark}
+use Rattle.records.specs.declared.Marked.{Marked}
+use Rattle.records.specs.declared.Marked.the-variants.{Is, Refused as Unmarked}
+use Rattle.records.specs.Cutting.{markWrong, messageCut, messageLen}
+use Rattle.records.specs.Messages.{isMark, markOf}
 use Rattle.rules.specs.declared.Answer.{Answer}
 use Rattle.rules.specs.declared.Answer.the-variants.{Voted, Decided, Logged, Done, Found, Refused}
-use Rattle.rules.specs.Table.{Box, Config, empty}
-use Rattle.rules.specs.Act.{configWrong, act, answerIn, after}
-use Rattle.steps.specs.Step.{config}
+use Rattle.rules.specs.declared.Told.{Told}
+use Rattle.rules.specs.Table.{Box, empty}
+use Rattle.rules.specs.Act.{receive, toldWrong, act, after}
 use Rattle.lines.specs.declared.Said.{Said}
 use Rattle.lines.specs.declared.Said.the-variants.{Taken, Answered}
 use Rattle.lines.specs.Lines.{lineOf, markGP, markCK}
@@ -33,36 +35,45 @@ tooLong = 116 ∷ 111 ∷ 111 ∷ 32 ∷ 108 ∷ 111 ∷ 110 ∷ 103 ∷ 10 ∷ 
 abbrev pub gpLen : ℕ
 gpLen = 12
 
-unfoldable pub configOf : List ℕ → ℕ → Config
-configOf gp clock = config (getD gp 2 0) (getD gp 3 0) clock (numAt 8 4 gp)
+unfoldable pub toldBy : List ℕ → ℕ → Told
+toldBy gp clock = record { f = getD gp 2 0; capacity = getD gp 3 0; clock = clock; delta = numAt 8 4 gp }
 
 -- ".. another mark first, is 2; a cut GP is 1"; then 14
 unfoldable pub gpRefusal : List ℕ → ℕ
-gpRefusal s = orElse (markWrong markGP s) (orElse (ifLess (length s) gpLen short) (configWrong (configOf s 0)))
+gpRefusal s = orElse (markWrong markGP s) (orElse (ifLess (length s) gpLen short) (toldWrong (toldBy s 0)))
 
 -- "Then CK ("CK", clock, 8 bytes; clock starts at 0) and messages."
 abbrev pub ckLen : ℕ
 ckLen = 10
+
+-- a message at the front, by its mark, and its length
+unfoldable pub markedCut : Marked → List ℕ → ℕ
+markedCut (Is k) s = messageCut k s
+markedCut (Unmarked n) s = n
+
+unfoldable pub markedLen : Marked → List ℕ → ℕ
+markedLen (Is k) s = messageLen k s
+markedLen (Unmarked n) s = 0
 
 -- a record at the front is cut by its mark: "Records follow one another directly, so 4 occurs only at the entry points that take a single message."
 -- "GP elsewhere .. is 2"
 unfoldable pub recordCut : List ℕ → ℕ
 recordCut s =
     orElse (ifLess (length s) 2 short)
-    (pick (isMark markCK s) (ifLess (length s) ckLen short) (byMark s (prCut s) (listedCut markLG s) (listedCut markDC s) (rdCut s) mark))
+    (pick (isMark markCK s) (ifLess (length s) ckLen short) (markedCut (markOf s) s))
 
 unfoldable pub recordLen : List ℕ → ℕ
-recordLen s = pick (isMark markCK s) ckLen (byMark s (prLen s) (listedLen s) (listedLen s) rdLen 0)
+recordLen s = pick (isMark markCK s) ckLen (markedLen (markOf s) s)
 
 unfoldable pub front : List ℕ → List ℕ
 front s = take (recordLen s) s
 
 -- what a record says, and what stands afterwards: a CK moves the clock, a message reaches the box
-unfoldable pub said : Config → Box → List ℕ → Said
-said cf x m = pick (isMark markCK m) Taken (Answered (answerIn (act cf x m)))
+unfoldable pub said : Told → Box → List ℕ → Said
+said told x m = pick (isMark markCK m) Taken (Answered (act receive told x m .answer))
 
-unfoldable pub boxNext : Config → Box → List ℕ → Box
-boxNext cf x m = pick (isMark markCK m) x (after cf x m)
+unfoldable pub boxNext : Told → Box → List ℕ → Box
+boxNext told x m = pick (isMark markCK m) x (after receive told x m)
 
 unfoldable pub clockNext : ℕ → List ℕ → ℕ
 clockNext clock m = pick (isMark markCK m) (numAt 8 2 m) clock
@@ -76,7 +87,7 @@ answerStops (Voted v) = false
 answerStops (Decided d) = false
 answerStops (Logged d) = false
 answerStops Done = false
-answerStops (Found version value undecided its) = false
+answerStops (Found committed undecided) = false
 answerStops (Refused r) = stopsAt (numberOf r)
 
 abbrev pub stops : Said → Bool
@@ -94,9 +105,9 @@ linesFrom zero k gp clock x s = []
 linesFrom (suc n) k gp clock x s =
     pick (ltb 0 (length s))
     (cutOr (recordCut s) k s
-    (lineOf k s (said (configOf gp clock) x (front s))
-    ++ pick (stops (said (configOf gp clock) x (front s))) []
-    (linesFrom n (k + 1) gp (clockNext clock (front s)) (boxNext (configOf gp clock) x (front s)) (drop (recordLen s) s))))
+    (lineOf k s (said (toldBy gp clock) x (front s))
+    ++ pick (stops (said (toldBy gp clock) x (front s))) []
+    (linesFrom n (k + 1) gp (clockNext clock (front s)) (boxNext (toldBy gp clock) x (front s)) (drop (recordLen s) s))))
     []
 
 -- behind a GP that is taken; no record is empty, so as many turns as there are bytes are enough (proofs/Running, `enough`)

@@ -5,10 +5,10 @@ use mathlib.Core.List.{List}
 use lib.ListN.{length}
 use Rattle.terms.specs.Choice.{pick}
 use Rattle.records.specs.Messages.{isMark}
-use Rattle.rules.specs.Table.{Config}
-use Rattle.rules.specs.Act.{answerIn}
-use Rattle.engine.specs.Outcome.{outcome}
-use Rattle.engine.specs.Traces.{Kept, leaves}
+use Rattle.rules.specs.declared.Told.{Told}
+use Rattle.rules.specs.Act.{receive}
+use Rattle.engine.specs.Outcome.{Kept, called}
+use Rattle.engine.specs.Safety.{leaves}
 use Rattle.lines.specs.declared.Said.{Said}
 use Rattle.lines.specs.declared.Said.the-variants.{Taken, Answered}
 use Rattle.lines.specs.Lines.{markCK}
@@ -18,11 +18,8 @@ use Rattle.replay.specs.Bench.{front, recordLen}
 abbrev pub Fronted : List ℕ → List ℕ → Type 0
 Fronted s m = (m ≡ front s) × (length m ≡ recordLen s) × (10 ≤ length m) × (length m ≤ length s)
 
-abbrev pub kept : List ℕ → List ℕ → Kept
-kept t marks = record { table = t; marks = marks }
+unfoldable pub saidTo : Told → Kept → List ℕ → Said
+saidTo told x m = pick (isMark markCK m) Taken (Answered (called receive told x m .answer))
 
-unfoldable pub saidTo : Config → Kept → List ℕ → Said
-saidTo cf x m = pick (isMark markCK m) Taken (Answered (answerIn (outcome cf (x .table) (x .marks) m)))
-
-unfoldable pub keptNext : Config → Kept → List ℕ → Kept
-keptNext cf x m = pick (isMark markCK m) x (leaves cf x m)
+unfoldable pub keptNext : Told → Kept → List ℕ → Kept
+keptNext told x m = pick (isMark markCK m) x (leaves receive told x m)

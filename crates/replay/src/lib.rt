@@ -4,23 +4,43 @@ ghost use Prim.Native.Nat.{_≤_};
 ghost use lib.ListN.{length, getD};
 ghost use Rattle.terms.specs.Checks.{ifLess, short};
 ghost use Rattle.records.specs.Writing.{wroteBy, bufferBy};
-ghost use Rattle.steps.specs.Step.{config};
-ghost use Rattle.replay.specs.Bench.{gpRefusal, recordCut, recordLen, ckLen, clockNext, stopsAt, answerStops, stops, restText, runText, benchText, roomWrong, room, longest, wroteIn};
+ghost use Rattle.replay.specs.Bench.{gpLen, toldBy, gpRefusal, recordCut, recordLen, ckLen, clockNext, stopsAt, answerStops, stops, restText, runText, benchText, roomWrong, room, longest, wroteIn};
 ghost use Rattle.lines.specs.Lines.{Puts};
 ghost use Rattle.lines.specs.declared.Said.the-variants.{Answered};
 ghost use Rattle.rules.specs.declared.Answer.the-variants.{Refused};
 ghost use Rattle.terms.specs.Refusals.{refusalOf};
-ghost use Rattle.replay.specs.Turn.{Fronted, kept, saidTo, keptNext};
+ghost use Rattle.replay.specs.Turn.{Fronted, saidTo, keptNext};
 ghost use Rattle.rules.specs.Table.{empty};
 ghost use Rattle.table.specs.Table.{tableWrong};
-ghost use Rattle.engine.specs.Outcome.{boxIn};
+ghost use Rattle.engine.specs.Outcome.{kept, boxIn};
 use lines::Said;
+use records::Marked;
 use records::Written;
 use rules::Answer;
+use rules::Told;
 use terms::Refusal;
 
 // Room for the lines of every input: a line is at most 112 bytes, and all records but the last have at least ten.
 pub const ROOM: usize = 786_544;
+
+// A table with room for every capacity: a count and 255 rows of 176.
+const TABLE: usize = table::HEAD + 255 * table::ROW;
+
+// What a GP tells a box, at a clock.
+fn told_of(gp: &[u8], clock: u64) -> Told
+    requires { ⌜ gpLen ≤ length (now gp) ⌝ }
+    ensures { λ r. ⌜ r ≡ toldBy (now (gp .entry)) clock ⌝ }
+{
+    let f = records::widened(gp[2]);
+    let capacity = records::widened(gp[3]);
+    let delta = records::u64_at(gp, 4);
+    Told {
+        f,
+        capacity,
+        clock,
+        delta,
+    }
+}
 
 // A GP at the front: 2 or 1, then 14.
 fn gp_wrong(s: &[u8]) -> u8
@@ -33,7 +53,7 @@ fn gp_wrong(s: &[u8]) -> u8
     if s.len() < 12 {
         return terms::SHORT;
     }
-    engine::config_wrong(records::widened(s[2]), records::widened(s[3]))
+    engine::told_wrong(told_of(s, 0))
 }
 
 // A CK at the front, by its mark.
@@ -56,19 +76,11 @@ fn record_cut(s: &[u8]) -> u8
     if reading::is_mark(s, b"CK") {
         return ck_cut(s);
     }
-    if reading::is_mark(s, b"PR") {
-        return reading::pr_cut(s);
+    let marked = reading::mark_of(s);
+    match marked {
+        Marked::Is(mark) => reading::message_cut(mark, s),
+        Marked::Refused(n) => n,
     }
-    if reading::is_mark(s, b"LG") {
-        return reading::listed_cut(s, b"LG");
-    }
-    if reading::is_mark(s, b"DC") {
-        return reading::listed_cut(s, b"DC");
-    }
-    if reading::is_mark(s, b"RD") {
-        return reading::rd_cut(s);
-    }
-    terms::MARK
 }
 
 // The length of a record that is cut.
@@ -79,35 +91,22 @@ fn record_len(s: &[u8]) -> usize
     if reading::is_mark(s, b"CK") {
         return 10;
     }
-    if reading::is_mark(s, b"PR") {
-        return reading::pr_len(s);
+    let marked = reading::mark_of(s);
+    match marked {
+        Marked::Is(mark) => reading::message_len(mark, s),
+        Marked::Refused(_) => 0,
     }
-    if reading::is_mark(s, b"LG") {
-        return reading::listed_len(s);
-    }
-    if reading::is_mark(s, b"DC") {
-        return reading::listed_len(s);
-    }
-    12
 }
 
 // A CK is taken; a message reaches the box.
-fn turn(
-    table: &mut [u8],
-    marks: &mut [u64; 512],
-    f: u64,
-    capacity: u64,
-    clock: u64,
-    delta: u64,
-    m: &[u8],
-) -> Said
+fn turn(table: &mut [u8], marks: &mut [u64; 512], told: Told, m: &[u8]) -> Said
     requires { ⌜ 2 ≤ length (now m) ⌝ }
-    ensures { λ r. ⌜ (r ≡ saidTo (config f capacity clock delta) (kept (now (table .entry)) (now (marks .entry))) (now (m .entry))) × (now (table .exit) ≡ keptNext (config f capacity clock delta) (kept (now (table .entry)) (now (marks .entry))) (now (m .entry)) .table) × (now (marks .exit) ≡ keptNext (config f capacity clock delta) (kept (now (table .entry)) (now (marks .entry))) (now (m .entry)) .marks) ⌝ }
+    ensures { λ r. ⌜ (r ≡ saidTo told (kept (now (table .entry)) (now (marks .entry))) (now (m .entry))) × (now (table .exit) ≡ keptNext told (kept (now (table .entry)) (now (marks .entry))) (now (m .entry)) .table) × (now (marks .exit) ≡ keptNext told (kept (now (table .entry)) (now (marks .entry))) (now (m .entry)) .marks) ⌝ }
 {
     if reading::is_mark(m, b"CK") {
         return Said::Taken;
     }
-    let answer = engine::receive(table, marks, f, capacity, clock, delta, m);
+    let answer = engine::receive(table, marks, told, m);
     Said::Answered(answer)
 }
 
@@ -144,7 +143,7 @@ fn answer_stops(a: Answer) -> bool
         Answer::Decided(_) => false,
         Answer::Logged(_) => false,
         Answer::Done => false,
-        Answer::Found(_, _, _, _) => false,
+        Answer::Found(_, _) => false,
         Answer::Refused(r) => stops_at(r.number()),
     }
 }
@@ -182,12 +181,9 @@ fn rest(
     out: &mut [u8],
     first: usize,
 ) -> usize
-    requires { ⌜ (gpRefusal (now input) ≡ 0) × (length (now input) ≤ longest) × (room ≤ length (now out)) × (first ≤ 112) × (tableWrong (getD (now input) 3 0) (now table) ≡ 0) × (boxIn (now table) (now marks) ≡ empty) ⌝ }
+    requires { ⌜ (gpRefusal (now input) ≡ 0) × (length (now input) ≤ longest) × (room ≤ length (now out)) × (first ≤ 112) × (tableWrong (getD (now input) 3 0) (now table) ≡ 0) × (boxIn (kept (now table) (now marks)) ≡ empty) ⌝ }
     ensures { λ r. ⌜ Puts (now (out .entry)) first (restText (now (input .entry))) 786400 (now (out .exit)) r ⌝ }
 {
-    let f = records::widened(input[2]);
-    let capacity = records::widened(input[3]);
-    let delta = records::u64_at(input, 4);
     let mut clock = 0;
     let mut number = 1;
     let mut at = 12;
@@ -199,7 +195,7 @@ fn rest(
             return lines::put_line(out, n, number, s, refused(cut));
         }
         let m = front_of(s);
-        let said = turn(table, marks, f, capacity, clock, delta, m);
+        let said = turn(table, marks, told_of(input, clock), m);
         n = lines::put_line(out, n, number, s, said);
         if stops(said) {
             return n;
@@ -216,7 +212,7 @@ fn run(input: &[u8], out: &mut [u8]) -> usize
     requires { ⌜ (gpRefusal (now input) ≡ 0) × (length (now input) ≤ longest) × (room ≤ length (now out)) ⌝ }
     ensures { λ r. ⌜ Puts (now (out .entry)) 0 (runText (now (input .entry))) room (now (out .exit)) r ⌝ }
 {
-    let mut table = [0u8; 44881]; // a count and 255 rows of 176
+    let mut table = [0u8; TABLE];
     let mut marks = [0u64; 512];
     let first = lines::put_line(out, 0, 0, input, Said::Taken);
     rest(&mut table, &mut marks, input, out, first)

@@ -8,14 +8,15 @@ use mathlib.Core.List.{List, [], _∷_, List·Memᴰ as In, List·Memᴰ·head a
 use native.Mathlib.Omega.{arith}
 use lib.Dec.{T, ltb, ltb→lt}
 use Rattle.records.specs.Tx.{readKey, readVersion}
-use Rattle.rules.specs.Answers.{Decision, commit, abort}
+use Rattle.rules.specs.Answers.{Decision, commit, abort, settled, Settled, unsettled}
 use Rattle.rules.specs.Bodies.{Body, stampOf, readsOf, writesKey}
 use Rattle.rules.specs.Table.{Entry, empty}
 use Rattle.rules.specs.Tests.{undercut}
-use Rattle.rules.specs.Act.{bodyOf, tableAfter}
+use Rattle.records.specs.Cutting.{txPart}
+use Rattle.rules.specs.Act.{tableAfter}
 use Rattle.rules.specs.System.{Event, boxAt, vote, gave, Sound, Fair, Proof}
 use Rattle.rules.proofs.Laws.{ands, any-found, find-stamp, find-in}
-use Rattle.rules.proofs.Moves.{none-some, abort-commit, stands-cast, Clear}
+use Rattle.rules.proofs.Moves.{none-some, abort-commit, stands-cast, Clear, un-settled}
 use Rattle.rules.proofs.Kept.{Keeps, Kept}
 use Rattle.rules.proofs.Said.{spoken}
 use Rattle.rules.proofs.Fresh.{Upright, upright-spoken, upright-cases, stands-live}
@@ -75,17 +76,17 @@ module _ (f : ℕ) (faulty : ℕ → Bool) where
       inside : In e (table f i es)
       inside = find-in (stampOf b) (table f i es) e (K .at)
 
-      go : ((e.body ≡ b) × Keeps e (vote commit)) ⊎ ((e.decided ≡ some commit) × (e.body ≡ b → ⊥)) → Dead es b ⊎ Upright (table f i es) b
+      go : ((e.body ≡ b) × Keeps e (vote commit)) ⊎ ((e.decided ≡ settled commit) × (e.body ≡ b → ⊥)) → Dead es b ⊎ Upright (table f i es) b
       go (inr u) = inl (rivalled e.body (find-stamp (stampOf b) (table f i es) e (K .at)) (u .1) (R .decided e commit inside (u .0)))
       go (inl u) = by e.decided refl
         where
-          stands-if : (e.decided ≡ some abort → ⊥) → Upright (table f i es) b
+          stands-if : (e.decided ≡ settled abort → ⊥) → Upright (table f i es) b
           stands-if n = record { entry = e; inside = inside; body = u .0; here = record { vote = stands-cast e.vote (u .1); decided = n } }
 
-          by : (o : Option Decision) → e.decided ≡ o → Dead es b ⊎ Upright (table f i es) b
-          by (some abort) q = inl (aborted (rw (u .0) at (R .decided e abort inside q)))
-          by (some commit) q = inr (stands-if (λ h. abort-commit h q))
-          by none q = inr (stands-if (λ h. none-some q h))
+          by : (o : Settled) → e.decided ≡ o → Dead es b ⊎ Upright (table f i es) b
+          by (settled abort) q = inl (aborted (rw (u .0) at (R .decided e abort inside q)))
+          by (settled commit) q = inr (stands-if (λ h. abort-commit h q))
+          by unsettled q = inr (stands-if (λ h. un-settled q h))
 
   -- an accepted body stands in the table, or is dead
   here-or-dead : (i : ℕ) (es : List Event) → Rests f faulty i es → (b : Body) → T (gave f i b (vote commit) es) → Dead es b ⊎ Upright (table f i es) b
@@ -120,17 +121,17 @@ module _ (f : ℕ) (faulty : ℕ → Bool) where
 
   -- accepted before, or just now after the tests
   accepted : (i : ℕ) (e : Event) (es : List Event) → Moved f i e es → (b : Body) → Accepts i (e ∷ es) b
-      → Accepts i es b ⊎ ((bodyOf e.message ≡ b) × Clear (boxAt f i es) (bodyOf e.message))
+      → Accepts i es b ⊎ ((txPart e.message ≡ b) × Clear (boxAt f i es) (txPart e.message))
   unfolding table
   accepted i e es s b x = from x
     where
       Before : Type 0
-      Before = Accepts i es b ⊎ ((bodyOf e.message ≡ b) × Clear (boxAt f i es) (bodyOf e.message))
+      Before = Accepts i es b ⊎ ((txPart e.message ≡ b) × Clear (boxAt f i es) (txPart e.message))
 
-      entry : Upright (tableAfter (table f i es) (s .act)) b → Before
+      entry : Upright (tableAfter (table f i es) (s .act .change)) b → Before
       entry u = by (upright-cases (s .act) (s .move) b u)
         where
-          by : Upright (table f i es) b ⊎ ((bodyOf e.message ≡ b) × Clear (boxAt f i es) (bodyOf e.message)) → Before
+          by : Upright (table f i es) b ⊎ ((txPart e.message ≡ b) × Clear (boxAt f i es) (txPart e.message)) → Before
           by (inl o) = inl (by-entry o)
           by (inr o) = inr o
 
@@ -146,7 +147,7 @@ module _ (f : ℕ) (faulty : ℕ → Bool) where
   parted-moved i e es s R P = record { apart = λ b c x y h. either-later e es b c (apart-by b c h (accepted i e es s b x) (accepted i e es s c y)) }
     where
       b₀ : Body
-      b₀ = bodyOf e.message
+      b₀ = txPart e.message
 
       Before : Body → Type 0
       Before b = Accepts i es b ⊎ ((b₀ ≡ b) × Clear (boxAt f i es) b₀)

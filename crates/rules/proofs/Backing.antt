@@ -13,7 +13,7 @@ use Rattle.records.specs.Contents.{listWrong}
 use Rattle.rules.specs.Answers.{Decision, votes}
 use Rattle.rules.specs.Bodies.{Body}
 use Rattle.rules.specs.Lists.{kindOf, decisionOf, forLogging, forProof, tally, meets}
-use Rattle.rules.specs.System.{Event, Word, vote, word, gave, count, Sound, Backed, Proof}
+use Rattle.rules.specs.System.{Event, Word, vote, word, gave, howMany, Sound, Backed, BackedBy, Proof}
 use Rattle.rules.proofs.Laws.{ands, or-cases, or-l, or-r, decideT, no-both, any-found}
 use Rattle.rules.proofs.Counting.{count-mono, says, rising, formed-rising, tally-count}
 use Rattle.rules.proofs.Moves.{Listing}
@@ -35,7 +35,7 @@ module _ (f : ℕ) (faulty : ℕ → Bool) where
   -- pairs that are what sound boxes gave: as many are upheld as are tallied
   pub pairs-count : (es : List Event) (b : Body) (w : Word) (d : ℕ) (ps : List Pair) → T (rising 0 (boxes f) ps)
       → ((p : Pair) → In p ps → Sound f faulty (p .number) → (p .answer) ≡ d → T (gave f (p .number) b w es))
-      → tally d ps ≤ count (upheld es b w) (boxes f)
+      → tally d ps ≤ howMany (upheld es b w) (boxes f)
   unfolding says upheld
   pairs-count es b w d ps r g = omega (arith, tally-count d 0 (boxes f) ps r, count-mono (says d ps) (upheld es b w) (boxes f) each)
     where
@@ -54,8 +54,8 @@ module _ (f : ℕ) (faulty : ℕ → Bool) where
               or-r (faulty i) (gave f i b w es) (rw q′ at t)
 
   list-count : (es : List Event) (b : Body) (l : Vl) (need : ℕ) → listWrong f l ≡ 0 → T (meets need l) → Backed f faulty es b l
-      → need ≤ count (upheld es b (word (kindOf (l .kind)) (decisionOf (l .decision)))) (boxes f)
-  unfolding meets Backed
+      → need ≤ howMany (upheld es b (word (kindOf (l .kind)) (decisionOf (l .decision)))) (boxes f)
+  unfolding meets BackedBy
   list-count es b l need wf h B =
       omega (
         arith,
@@ -66,7 +66,7 @@ module _ (f : ℕ) (faulty : ℕ → Bool) where
 
   -- the votes or logs behind a proof, and the votes behind a logged decision
   pub proof-count : (es : List Event) (b : Body) (d : Decision) (P : Proof f faulty es b d)
-      → forProof f (kindOf (P .list .kind)) d ≤ count (upheld es b (word (kindOf (P .list .kind)) d)) (boxes f)
+      → forProof f (kindOf (P .list .kind)) d ≤ howMany (upheld es b (word (kindOf (P .list .kind)) d)) (boxes f)
   proof-count es b d P =
       let n = list-count es b (P .list) (forProof f (kindOf (P .list .kind)) (decisionOf (P .list .decision))) (P .formed) (P .enough) (P .backed) in
       rw (P .names) at n
@@ -78,14 +78,14 @@ module _ (f : ℕ) (faulty : ℕ → Bool) where
     pub listing : Listing f list (forLogging f (decisionOf (list .decision)))
     pub backed : Backed f faulty es b list
 
-  pub logged-count : (es : List Event) (b : Body) (d : Decision) → LogBehind es b d → forLogging f d ≤ count (upheld es b (vote d)) (boxes f)
+  pub logged-count : (es : List Event) (b : Body) (d : Decision) → LogBehind es b d → forLogging f d ≤ howMany (upheld es b (vote d)) (boxes f)
   unfolding word
   logged-count es b d P =
       let n = list-count es b (P .list) (forLogging f (decisionOf (P .list .decision))) (P .listing .formed) (P .listing .enough) (P .backed) in
       rw (P .names, P .kind) at n
 
   pub backed-later : (e : Event) (es : List Event) (b : Body) (l : Vl) → Backed f faulty es b l → Backed f faulty (e ∷ es) b l
-  unfolding Backed
+  unfolding BackedBy
   backed-later e es b l h p m s = gave-later f (p .number) e es b (word (kindOf (l .kind)) (decisionOf (p .answer))) (h p m s)
 
   pub logged-later : (e : Event) (es : List Event) (b : Body) (d : Decision) → LogBehind es b d → LogBehind (e ∷ es) b d

@@ -12,11 +12,11 @@ use Rattle.terms.specs.Group.{boxes}
 use Rattle.terms.proofs.Checks.{first-none, rest-none, when-none}
 use Rattle.records.specs.declared.Pair.{Pair}
 use Rattle.records.specs.Vl.{Vl}
-use Rattle.records.specs.Contents.{listWrong, codeWrong, boxWide, boxOf, answerOdd}
+use Rattle.records.specs.Contents.{listWrong, codeWrong, boxWide, pairBox, answerOdd}
 use Rattle.rules.specs.Answers.{Found}
 use Rattle.rules.specs.Lists.{bit, tally}
 use Rattle.rules.specs.Act.{after}
-use Rattle.rules.specs.System.{count}
+use Rattle.rules.specs.System.{howMany}
 use Rattle.rules.proofs.Laws.{and-l, and-r, both, ands, or-cases, decideT, not-eqb}
 
 bit-both : (a b : Bool) → bit a + bit b ≤ 1 + bit (a && b)
@@ -26,9 +26,9 @@ bit-both true false = omega arith
 bit-both false true = omega arith
 bit-both false false = omega arith
 
--- two counts and the count of what they share
-pub count-both : (p q : ℕ → Bool) (n : ℕ) → count p n + count q n ≤ n + count (λ i. p i && q i) n
-unfolding count
+-- two counts and the howMany of what they share
+pub count-both : (p q : ℕ → Bool) (n : ℕ) → howMany p n + howMany q n ≤ n + howMany (λ i. p i && q i) n
+unfolding howMany
 count-both p q zero = omega arith
 count-both p q (suc n) = omega (arith, bit-both (p n) (q n), count-both p q n)
 
@@ -38,8 +38,8 @@ bit-mono true true h = omega arith
 bit-mono true false h = absurd (h tt)
 bit-mono false b h = omega arith
 
-pub count-mono : (p q : ℕ → Bool) (n : ℕ) → ((i : ℕ) → i < n → T (p i) → T (q i)) → count p n ≤ count q n
-unfolding count
+pub count-mono : (p q : ℕ → Bool) (n : ℕ) → ((i : ℕ) → i < n → T (p i) → T (q i)) → howMany p n ≤ howMany q n
+unfolding howMany
 count-mono p q zero h = omega arith
 count-mono p q (suc n) h =
     omega (arith, bit-mono (p n) (q n) (h n (omega arith)), count-mono p q n (λ i l. h i (omega arith)))
@@ -50,14 +50,14 @@ bit-or true true h = absurd (h tt tt)
 bit-or true false h = omega arith
 bit-or false b h = omega arith
 
-pub count-or : (p q : ℕ → Bool) (n : ℕ) → ((i : ℕ) → T (p i) → T (q i) → ⊥) → count p n + count q n ≤ count (λ i. p i || q i) n
-unfolding count
+pub count-or : (p q : ℕ → Bool) (n : ℕ) → ((i : ℕ) → T (p i) → T (q i) → ⊥) → howMany p n + howMany q n ≤ howMany (λ i. p i || q i) n
+unfolding howMany
 count-or p q zero h = omega arith
 count-or p q (suc n) h = omega (arith, bit-or (p n) (q n) (h n), count-or p q n h)
 
 -- more pass p than r: one passes p and not r
-pub count-more : (p r : ℕ → Bool) (n : ℕ) → count r n < count p n → (i : ℕ) × (i < n) × T (p i) × T (not (r i))
-unfolding count bit
+pub count-more : (p r : ℕ → Bool) (n : ℕ) → howMany r n < howMany p n → (i : ℕ) × (i < n) × T (p i) × T (not (r i))
+unfolding howMany bit
 count-more p r zero h = absurd (omega arith)
 count-more p r (suc n) h = go (p n) (r n) refl refl (λ k. count-more p r n k)
   where
@@ -67,14 +67,14 @@ count-more p r (suc n) h = go (p n) (r n) refl refl (λ k. count-more p r n k)
     later : Found n → Found (suc n)
     later w = (w .0, omega (arith, w .1), w .2, w .3)
 
-    go : (a b : Bool) → p n ≡ a → r n ≡ b → (count r n < count p n → Found n) → Found (suc n)
+    go : (a b : Bool) → p n ≡ a → r n ≡ b → (howMany r n < howMany p n → Found n) → Found (suc n)
     go true false e e′ k = (n, omega arith, rw e tt, rw e′ tt)
     go true true e e′ k = later (k (omega (arith, rw (e, e′) at h)))
     go false true e e′ k = later (k (omega (arith, rw (e, e′) at h)))
     go false false e e′ k = later (k (omega (arith, rw (e, e′) at h)))
 
 -- two counts that come to more than n and those that pass r: one passes both and not r
-pub meet : (p q r : ℕ → Bool) (n : ℕ) → n + count r n < count p n + count q n → (i : ℕ) × (i < n) × T (p i) × T (q i) × T (not (r i))
+pub meet : (p q r : ℕ → Bool) (n : ℕ) → n + howMany r n < howMany p n + howMany q n → (i : ℕ) × (i < n) × T (p i) × T (q i) × T (not (r i))
 meet p q r n h =
     let w = count-more (λ i. p i && q i) r n (omega (arith, count-both p q n)) in
     (w .0, w .1, and-l (p w.0) (q w.0) w.2, and-r (p w.0) (q w.0) w.2, w .3)
@@ -83,12 +83,12 @@ meet p q r n h =
 unfoldable pub says : ℕ → List Pair → ℕ → Bool
 says d ps i = any (λ p. eqb (p .number) i && eqb (p .answer) d) ps
 
-bit-at : (a : ℕ) (b : Bool) (n : ℕ) → a < n → bit b ≤ count (λ i. eqb a i && b) n
-unfolding count
+bit-at : (a : ℕ) (b : Bool) (n : ℕ) → a < n → bit b ≤ howMany (λ i. eqb a i && b) n
+unfolding howMany
 bit-at a b zero h = absurd (omega arith)
 bit-at a b (suc n) h = go (decideT (eqb a n)) (λ k. bit-at a b n k)
   where
-    go : T (eqb a n) ⊎ T (not (eqb a n)) → (a < n → bit b ≤ count (λ i. eqb a i && b) n) → bit b ≤ bit (eqb a n && b) + count (λ i. eqb a i && b) n
+    go : T (eqb a n) ⊎ T (not (eqb a n)) → (a < n → bit b ≤ howMany (λ i. eqb a i && b) n) → bit b ≤ bit (eqb a n && b) + howMany (λ i. eqb a i && b) n
     go (inl k) r = omega (arith, bit-mono b (eqb a n && b) (λ t. both (eqb a n) b k t))
     go (inr k) r = omega (arith, r (omega (arith, not-eqb a n k)))
 
@@ -105,12 +105,12 @@ or-false false b h = (refl, h)
 not-of : (a : Bool) → a ≡ false → T (not a)
 not-of a h = rw h tt
 
-rising-of : (f lo : ℕ) (ps : List Pair) → any (boxWide f) ps ≡ false → falls boxOf lo ps ≡ false → T (rising lo (boxes f) ps)
+rising-of : (f lo : ℕ) (ps : List Pair) → any (boxWide f) ps ≡ false → falls pairBox lo ps ≡ false → T (rising lo (boxes f) ps)
 unfolding rising
 rising-of f lo [] h k = tt
 rising-of f lo (p ∷ ps) h k =
     let w = or-false (boxWide f p) (any (boxWide f) ps) h in
-    let v = or-false (ltb (p .number) lo) (falls boxOf (p .number + 1) ps) k in
+    let v = or-false (ltb (p .number) lo) (falls pairBox (p .number + 1) ps) k in
     both (leb lo (p .number)) _ (le→leb lo (p .number) (nltb→le (p .number) lo (not-of _ (v .0))))
     (both (ltb (p .number) (boxes f)) _ (lt→ltb (p .number) (boxes f) (nleb→lt (boxes f) (p .number) (not-of _ (w .0))))
     (rising-of f (p .number + 1) ps (w .1) (v .1)))
@@ -136,13 +136,13 @@ none-wide f lo (p ∷ ps) h =
     (λ y. omega (arith, leb→le (boxes f) (p .number) y, ltb→lt (p .number) (boxes f) l))
     (none-wide f (p .number + 1) ps r)
 
-none-falls : (lo n : ℕ) (ps : List Pair) → T (rising lo n ps) → falls boxOf lo ps ≡ false
+none-falls : (lo n : ℕ) (ps : List Pair) → T (rising lo n ps) → falls pairBox lo ps ≡ false
 unfolding rising
 none-falls lo n [] h = refl
 none-falls lo n (p ∷ ps) h =
     let l : T (leb lo (p .number)) = search ands in
     let r : T (rising (p .number + 1) n ps) = search ands in
-    nor (ltb (p .number) lo) (falls boxOf (p .number + 1) ps)
+    nor (ltb (p .number) lo) (falls pairBox (p .number + 1) ps)
     (λ y. omega (arith, leb→le lo (p .number) l, ltb→lt (p .number) lo y))
     (none-falls (p .number + 1) n ps r)
 
@@ -169,7 +169,7 @@ says-from d lo n (p ∷ ps) h i k =
     go (inr u) s = omega (arith, leb→le lo (p .number) l, s u)
 
 -- what is tallied on a list is counted over the boxes
-pub tally-count : (d lo n : ℕ) (ps : List Pair) → T (rising lo n ps) → tally d ps ≤ count (says d ps) n
+pub tally-count : (d lo n : ℕ) (ps : List Pair) → T (rising lo n ps) → tally d ps ≤ howMany (says d ps) n
 unfolding tally rising says
 tally-count d lo n [] h = omega arith
 tally-count d lo n (p ∷ ps) h =

@@ -1,4 +1,4 @@
--- What any bytes do to a box: a move on the entry of their stamp, or nothing. The reading is taken apart here, and nowhere else.
+-- What any bytes do to a box is a move. The reading is taken apart here, and nowhere else.
 use Prim.Native.Nat.{ℕ, zero, suc}
 use mathlib.Core.Bool.{Bool, true, false}
 use mathlib.Core.Path.{_≡_, refl}
@@ -12,58 +12,30 @@ use Rattle.terms.specs.Refusals.{refusalOf}
 use Rattle.terms.specs.declared.Refusal.{Refusal}
 use Rattle.terms.proofs.Checks.{first-none, rest-none, not-less}
 use Rattle.records.specs.Contents.{listWrong, logListWrong, codeWrong}
-use Rattle.records.specs.Cutting.{markPR, markLG, markDC, markRD}
-use Rattle.records.specs.Messages.{prRefusal, lgRefusal, dcRefusal, messageRefusal, byMark, isMark, rdKey, rdStamp}
-use Rattle.rules.specs.Answers.{votes, Answer}
+use Rattle.records.specs.declared.Mark.{Mark}
+use Rattle.records.specs.declared.Mark.the-variants.{PR, LG, DC, RD}
+use Rattle.records.specs.declared.Marked.{Marked}
+use Rattle.records.specs.declared.Marked.the-variants.{Is, Refused as Unmarked}
+use Rattle.records.specs.Messages.{contentsWrong, dueRefusal, listBehind}
+use Rattle.rules.specs.Answers.{votes}
 use Rattle.rules.specs.Bodies.{Body}
 use Rattle.rules.specs.Lists.{kindOf}
-use Rattle.rules.specs.Table.{Box, Config}
-use Rattle.rules.specs.Calls.{Act, keep, refuse, guarded, prRule, lgRule, dcRule, rdFound, rdAnswer, rdRule}
-use Rattle.rules.specs.Act.{configWrong, bodyOf, listOf, rule, act}
-use Rattle.rules.specs.System.{wordIn, carriesList}
-use Rattle.rules.proofs.Laws.{or-l, or-r}
-use Rattle.rules.proofs.Moves.{Brings, Move}
-use Rattle.rules.proofs.Called.{pr-move, lg-move, dc-move}
-
-pub data Deed (f : ℕ) (x : Box) (m : List ℕ) (b : Body) : Act → Type 0 where
-  moves : {a : Act} → Move f x m b a → Deed f x m b a
-  idles : {a : Answer} → wordIn a ≡ none → Deed f x m b (keep a)
+use Rattle.rules.specs.Table.{Box, Told}
+use Rattle.rules.specs.Calls.{Act, refuse, guarded, prRule, lgRule, dcRule, rdRule}
+use Rattle.records.specs.Cutting.{txPart}
+use Rattle.rules.specs.Act.{EntryPoint, toldWrong, rule, dueAct, markedAct, markBy, act}
+use Rattle.rules.specs.System.{carriesList}
+use Rattle.rules.proofs.Moves.{Brings, Move, looks}
+use Rattle.rules.proofs.Called.{refuses, pr-move, lg-move, dc-move}
 
 pub guarded-elim : (P : Act → Type 0) (n : ℕ) (a : Act) → (n ≡ 0 → P a) → ((r : Refusal) → P (refuse r)) → P (guarded n a)
 unfolding guarded
 guarded-elim P zero a h k = h refl
 guarded-elim P (suc n) a h k = k (refusalOf (suc n))
 
--- a check in front changes no deed
-guard : {f : ℕ} {x : Box} {m : List ℕ} {b : Body} (n : ℕ) (a : Act) → (n ≡ 0 → Deed f x m b a) → Deed f x m b (guarded n a)
-unfolding wordIn
-guard {f} {x} {m} {b} n a h = guarded-elim (Deed f x m b) n a h (λ r. idles refl)
-
--- two choices by one mark
-pub by-marks : {A B : Type 0} (P : A → B → Type 0) (m : List ℕ) {p l d r o : A} {p′ l′ d′ r′ o′ : B}
-    → (T (isMark markPR m) → P p p′) → (T (isMark markLG m) → P l l′) → (T (isMark markDC m) → P d d′) → (T (isMark markRD m) → P r r′) → P o o′
-    → P (byMark m p l d r o) (byMark m p′ l′ d′ r′ o′)
-unfolding byMark
-by-marks P m {p} {l} {d} {r} {o} {p′} {l′} {d′} {r′} {o′} hp hl hd hr ho = first (isMark markPR m) hp
-  where
-    fourth : (c : Bool) → (T c → P r r′) → P (pick c r o) (pick c r′ o′)
-    fourth true h = h tt
-    fourth false h = ho
-
-    third : (c : Bool) → (T c → P d d′) → P (pick c d (pick (isMark markRD m) r o)) (pick c d′ (pick (isMark markRD m) r′ o′))
-    third true h = h tt
-    third false h = fourth (isMark markRD m) hr
-
-    second : (c : Bool) → (T c → P l l′)
-        → P (pick c l (pick (isMark markDC m) d (pick (isMark markRD m) r o))) (pick c l′ (pick (isMark markDC m) d′ (pick (isMark markRD m) r′ o′)))
-    second true h = h tt
-    second false h = third (isMark markDC m) hd
-
-    first : (c : Bool) → (T c → P p p′)
-        → P (pick c p (pick (isMark markLG m) l (pick (isMark markDC m) d (pick (isMark markRD m) r o))))
-        (pick c p′ (pick (isMark markLG m) l′ (pick (isMark markDC m) d′ (pick (isMark markRD m) r′ o′))))
-    first true h = h tt
-    first false h = second (isMark markLG m) hl
+-- a check in front changes no move
+guard : {f : ℕ} {x : Box} {way : EntryPoint} {m : List ℕ} {b : Body} (n : ℕ) (a : Act) → (n ≡ 0 → Move f x way m b a) → Move f x way m b (guarded n a)
+guard {f} {x} {way} {m} {b} n a h = guarded-elim (Move f x way m b) n a h (λ r. refuses r)
 
 same-none : (a b n : ℕ) → ifSame a b (suc n) ≡ 0 → a ≡ b → ⊥
 unfolding ifSame
@@ -80,40 +52,32 @@ kind-votes n h k =
     let one : n ≡ 1 = omega (arith, same-none n 2 7 h, same-none n 0 7 (first-none _ _ k), not-less 2 n 7 (rest-none _ _ k)) in
     rw one
 
-module _ (cf : Config) (x : Box) (m : List ℕ) (h : messageRefusal cf.f m ≡ 0) where
-  pr-deed : prRefusal m ≡ 0 → Deed cf.f x m (bodyOf m) (prRule cf x (bodyOf m))
-  unfolding prRefusal
-  pr-deed k = moves (pr-move cf x m (bodyOf m) (rest-none _ _ (rest-none _ _ k)))
+-- what each message does, once it is read
+module _ (told : Told) (x : Box) (way : EntryPoint) (m : List ℕ) where
+  -- 14, the cutting and 4 are behind it
+  judged : (k : Mark) → dueRefusal k told.f m ≡ 0 → contentsWrong k told.f m ≡ 0
+  unfolding dueRefusal
+  judged k h = rest-none _ _ (rest-none _ _ (rest-none _ _ h))
 
-  lg-deed : T (isMark markLG m) → lgRefusal cf.f m ≡ 0 → Deed cf.f x m (bodyOf m) (lgRule cf x (bodyOf m) (listOf m))
-  unfolding lgRefusal logListWrong listWrong carriesList
-  lg-deed y k =
-      let judged = rest-none _ _ (rest-none _ _ (rest-none _ _ (rest-none _ _ k))) in
-      let formed = rest-none _ _ judged in
-      let brings : Brings cf.f m (bodyOf m) (listOf m) =
-      record { read = h; carries = or-l (isMark markLG m) (isMark markDC m) y; body = refl; list = refl } in
-      moves (lg-move cf x m (bodyOf m) (listOf m) brings (kind-votes _ (first-none _ _ judged) (first-none _ _ formed)) formed)
+  brings : (k : Mark) → markBy way m ≡ Is k → dueRefusal k told.f m ≡ 0 → T (carriesList k) → Brings told.f way m (txPart m) (listBehind m)
+  brings k q h y = record { mark = k; marked = q; read = h; carries = y; body = refl; list = refl }
 
-  dc-deed : T (isMark markDC m) → dcRefusal cf.f m ≡ 0 → Deed cf.f x m (bodyOf m) (dcRule cf x (bodyOf m) (listOf m))
-  unfolding dcRefusal carriesList
-  dc-deed y k =
-      let formed = rest-none _ _ (rest-none _ _ (rest-none _ _ (rest-none _ _ k))) in
-      let brings : Brings cf.f m (bodyOf m) (listOf m) =
-      record { read = h; carries = or-r (isMark markLG m) (isMark markDC m) y; body = refl; list = refl } in
-      moves (dc-move cf x m (bodyOf m) (listOf m) brings formed)
+  deed-by : (k : Mark) → markBy way m ≡ Is k → dueRefusal k told.f m ≡ 0 → Move told.f x way m (txPart m) (rule k told x m)
+  unfolding rule contentsWrong logListWrong listWrong carriesList rdRule
+  deed-by PR q h = pr-move told x way m (txPart m) (judged PR h)
+  deed-by LG q h =
+      let list = rest-none _ _ (judged LG h) in
+      let formed = rest-none _ _ list in
+      lg-move told x way m (txPart m) (listBehind m) (brings LG q h tt) (kind-votes _ (first-none _ _ list) (first-none _ _ formed)) formed
+  deed-by DC q h = dc-move told x way m (txPart m) (listBehind m) (brings DC q h tt) (rest-none _ _ (judged DC h))
+  deed-by RD q h = guard _ _ (λ _. looks _ _)
 
-  rd-deed : Deed cf.f x m (bodyOf m) (rdRule cf x (rdKey m) (rdStamp m))
-  unfolding rdRule rdAnswer rdFound wordIn
-  rd-deed = guard _ _ (λ _. idles refl)
+  deed-marked : (k : Marked) → markBy way m ≡ k → Move told.f x way m (txPart m) (markedAct k told x m)
+  unfolding markedAct dueAct
+  deed-marked (Is k) q = guard (dueRefusal k told.f m) _ (deed-by k q)
+  deed-marked (Unmarked n) q = refuses _
 
-  rule-deed : Deed cf.f x m (bodyOf m) (rule cf x m)
-  unfolding rule messageRefusal
-  rule-deed =
-      by-marks (λ (n : ℕ) (a : Act). n ≡ 0 → Deed cf.f x m (bodyOf m) a) m
-      (λ _ k. pr-deed k) lg-deed dc-deed (λ _ k. rd-deed) (λ k. absurd (omega arith))
-      (rest-none _ _ (rest-none _ _ h))
-
--- whatever the bytes are, they are such a deed
-pub deed : (cf : Config) (x : Box) (m : List ℕ) → Deed cf.f x m (bodyOf m) (act cf x m)
-unfolding act
-deed cf x m = guard (configWrong cf) _ (λ _. guard (messageRefusal cf.f m) _ (λ h. rule-deed cf x m h))
+  -- whatever the bytes are, they are such a move
+  pub deed : Move told.f x way m (txPart m) (act way told x m)
+  unfolding act
+  deed = guard (toldWrong told) _ (λ _. deed-marked (markBy way m) refl)

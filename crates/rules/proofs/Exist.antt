@@ -10,8 +10,8 @@ use Rattle.terms.specs.Choice.{pick}
 use Rattle.terms.specs.Group.{boxes}
 use Rattle.rules.specs.Answers.{commit}
 use Rattle.rules.specs.Bodies.{Body, stampOf, sameBody}
-use Rattle.rules.specs.Act.{bodyOf}
-use Rattle.rules.specs.System.{Event, Word, vote, givesNow, gave, count, Fair, Proof, InOrder, Lists}
+use Rattle.records.specs.Cutting.{txPart}
+use Rattle.rules.specs.System.{Event, Word, vote, givesNow, gave, howMany, Fair, Proof, InOrder, Lists}
 use Rattle.rules.proofs.Laws.{pick-elim, ands, or-cases, no-both, sameBody-eq}
 use Rattle.rules.proofs.Counting.{count-more}
 use Rattle.rules.proofs.Quorums.{quorums}
@@ -79,59 +79,59 @@ insert-order b (c ∷ cs) o =
     second l x (inr i) = o .0 x i
 
 -- what was given was asked for
-gave-asked : (f i : ℕ) (b : Body) (w : Word) (es : List Event) → T (gave f i b w es) → (e : Event) × In e es × (bodyOf e.message ≡ b)
+gave-asked : (f i : ℕ) (b : Body) (w : Word) (es : List Event) → T (gave f i b w es) → (e : Event) × In e es × (txPart e.message ≡ b)
 unfolding gave givesNow
 gave-asked f i b w [] h = absurd h
 gave-asked f i b w (e ∷ es) h =
     go (or-cases (givesNow f i b w e es) (gave f i b w es) h) (gave-asked f i b w es)
   where
     go : T (givesNow f i b w e es) ⊎ T (gave f i b w es)
-        → (T (gave f i b w es) → (x : Event) × In x es × (bodyOf x.message ≡ b)) → (x : Event) × In x (e ∷ es) × (bodyOf x.message ≡ b)
-    go (inl u) r = let a : T (sameBody (bodyOf e.message) b) = search ands in (e, here refl, sameBody-eq (bodyOf e.message) b a)
+        → (T (gave f i b w es) → (x : Event) × In x es × (txPart x.message ≡ b)) → (x : Event) × In x (e ∷ es) × (txPart x.message ≡ b)
+    go (inl u) r = let a : T (sameBody (txPart e.message) b) = search ands in (e, here refl, sameBody-eq (txPart e.message) b a)
     go (inr u) r = let y = r u in (y .0, there (y .1), y .2)
 
 -- those of the asked that pass a test, in stamp order
 gather : (Body → Bool) → List Event → List Body
 gather p [] = []
-gather p (e ∷ es) = pick (p (bodyOf e.message)) (insert (bodyOf e.message) (gather p es)) (gather p es)
+gather p (e ∷ es) = pick (p (txPart e.message)) (insert (txPart e.message) (gather p es)) (gather p es)
 
 module _ (p : Body → Bool) (single : (b c : Body) → T (p b) → T (p c) → stampOf b ≡ stampOf c → b ≡ c) where
   gather-order : (es : List Event) → InOrder (gather p es)
   unfolding gather InOrder
   gather-order [] = tt
   gather-order (e ∷ es) =
-      pick-elim InOrder (p (bodyOf e.message)) (λ _. insert-order (bodyOf e.message) (gather p es) (gather-order es)) (λ _. gather-order es)
+      pick-elim InOrder (p (txPart e.message)) (λ _. insert-order (txPart e.message) (gather p es) (gather-order es)) (λ _. gather-order es)
 
   gather-passes : (es : List Event) (b : Body) → In b (gather p es) → T (p b)
   unfolding gather
   gather-passes [] b h = elim h [ ]
   gather-passes (e ∷ es) b h =
-      pick-elim (λ (l : List Body). In b l → T (p b)) (p (bodyOf e.message))
-      (λ y i. go y (insert-from (bodyOf e.message) (gather p es) b i) (gather-passes es b))
+      pick-elim (λ (l : List Body). In b l → T (p b)) (p (txPart e.message))
+      (λ y i. go y (insert-from (txPart e.message) (gather p es) b i) (gather-passes es b))
       (λ _. gather-passes es b)
       h
     where
-      go : T (p (bodyOf e.message)) → (b ≡ bodyOf e.message) ⊎ In b (gather p es) → (In b (gather p es) → T (p b)) → T (p b)
+      go : T (p (txPart e.message)) → (b ≡ txPart e.message) ⊎ In b (gather p es) → (In b (gather p es) → T (p b)) → T (p b)
       go y (inl q) r = rw q y
       go y (inr i) r = r i
 
-  gather-all : (es : List Event) (b : Body) → T (p b) → (e : Event) → In e es → bodyOf e.message ≡ b → In b (gather p es)
+  gather-all : (es : List Event) (b : Body) → T (p b) → (e : Event) → In e es → txPart e.message ≡ b → In b (gather p es)
   unfolding gather
   gather-all [] b y x h q = elim h [ ]
   gather-all (e ∷ es) b y x h q = go (List·Memᴰ·cases-cons h) (λ i. gather-all es b y x i q)
     where
       go : (x ≡ e) ⊎ In x es → (In x es → In b (gather p es))
-          → In b (pick (p (bodyOf e.message)) (insert (bodyOf e.message) (gather p es)) (gather p es))
+          → In b (pick (p (txPart e.message)) (insert (txPart e.message) (gather p es)) (gather p es))
       go (inl u) r =
-          let q′ : bodyOf e.message ≡ b = rw u at q in
-          pick-elim (In b) (p (bodyOf e.message))
+          let q′ : txPart e.message ≡ b = rw u at q in
+          pick-elim (In b) (p (txPart e.message))
           (λ z. rw q′ (insert-has b (gather p es) (λ c i s. single b c y (gather-passes es c i) s)))
-          (λ z. absurd (no-both (p (bodyOf e.message)) (rw q′ y) z))
+          (λ z. absurd (no-both (p (txPart e.message)) (rw q′ y) z))
       go (inr i) r =
-          pick-elim (In b) (p (bodyOf e.message)) (λ _. insert-keeps (bodyOf e.message) (gather p es) b (r i)) (λ _. r i)
+          pick-elim (In b) (p (txPart e.message)) (λ _. insert-keeps (txPart e.message) (gather p es) b (r i)) (λ _. r i)
 
 -- the committed ones can be listed in stamp order
-pub listing : (f : ℕ) (faulty : ℕ → Bool) → count faulty (boxes f) ≤ f → (es : List Event) → Fair f faulty es
+pub listing : (f : ℕ) (faulty : ℕ → Bool) → howMany faulty (boxes f) ≤ f → (es : List Event) → Fair f faulty es
     → (bs : List Body) × Lists f faulty es bs
 listing f faulty few es F = (
   gather p es,
@@ -148,7 +148,7 @@ listing f faulty few es F = (
     single : (b c : Body) → T (p b) → T (p c) → stampOf b ≡ stampOf c → b ≡ c
     single b c y z s = one-body f faulty few es F b c s (provable-proof f faulty es b commit y) (provable-proof f faulty es c commit z)
 
-    asked : (b : Body) → Proof f faulty es b commit → (e : Event) × In e es × (bodyOf e.message ≡ b)
+    asked : (b : Body) → Proof f faulty es b commit → (e : Event) × In e es × (txPart e.message ≡ b)
     asked b P =
         let w = count-more (upheld f faulty es b (vote commit)) faulty (boxes f) (omega (arith, quorums f .commit-sound, quorum f faulty few es F b P)) in
         gave-asked f (w .0) b (vote commit) es (upheld-gave f faulty es b (vote commit) (w .0) (w .2) (w .3))

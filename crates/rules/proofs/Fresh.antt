@@ -6,22 +6,22 @@ use mathlib.Core.Option.{Option, some, none}
 use mathlib.Core.List.{List, List·Memᴰ as In, List·Memᴰ·head as here}
 use lib.Dec.{T}
 use Rattle.records.specs.Vl.{Vl}
-use Rattle.rules.specs.Answers.{Decision, commit, abort, Vote, unvoted, waiting, voteCommit, voteAbort, Answer, Voted, Logged, Done}
+use Rattle.rules.specs.Answers.{Decision, commit, abort, Vote, unvoted, waiting, voteCommit, voteAbort, Answer, Voted, Logged, Done, Settled, settled, unsettled}
 use Rattle.rules.specs.Bodies.{Body, stampOf}
 use Rattle.rules.specs.Lists.{decisionOf}
 use Rattle.rules.specs.Table.{Entry, Box, voteIn, logIn, liveBy, live}
-use Rattle.rules.specs.Calls.{Act, keep, store, castAct, logAct, decideAct}
-use Rattle.rules.specs.Act.{answerIn, tableAfter}
+use Rattle.rules.specs.Calls.{Act, Change, nothing, puts, raises, castAct, logAct, decideAct, lookAct}
+use Rattle.rules.specs.Act.{tableAfter, EntryPoint}
 use Rattle.rules.specs.System.{Word, vote, log, cast, voteWord, wordIn}
 use Rattle.rules.proofs.Laws.{find-in, in-put}
-use Rattle.rules.proofs.Moves.{none-some, some-eq, Holds, stands, stands-cast, Clear, Prior, Arrives, Move, quiet, again, casts, logs-first}
+use Rattle.rules.proofs.Moves.{none-some, some-eq, Holds, stands, stands-cast, Clear, Prior, Arrives, Move, quiet, looks, again, casts, logs-first, settled-eq, un-settled}
 use Rattle.rules.proofs.Moves.{decides, replaces}
 use Rattle.rules.proofs.Kept.{Keeps}
 use Rattle.rules.proofs.Said.{Spoken, Carried, carried}
 
 pub record Stands (e : Entry) : Type 0 where
   pub vote : T (stands e.vote)
-  pub decided : e.decided ≡ some abort → ⊥
+  pub decided : e.decided ≡ settled abort → ⊥
 
 -- a body that stands in a table
 pub record Upright (t : List Entry) (b : Body) : Type 0 where
@@ -38,7 +38,7 @@ upright-by {t} {b} (some e) p h =
       entry = e;
       inside = find-in (stampOf b) t e (p .at);
       body = p .body e refl;
-      here = record { vote = h; decided = λ q. none-some (p .undecided e refl) q };
+      here = record { vote = h; decided = λ q. un-settled (p .undecided e refl) q };
     }
 
 pub upright-spoken : {t : List Entry} {b : Body} → Spoken t b (vote commit) → Upright t b
@@ -47,19 +47,20 @@ upright-spoken {t} {b} y = record {
   entry = y .entry;
   inside = find-in (stampOf b) t (y .entry) (y .at);
   body = y .body;
-  here = record { vote = stands-cast (y .entry .vote) (y .keeps); decided = λ q. none-some (y .undecided) q };
+  here = record { vote = stands-cast (y .entry .vote) (y .keeps); decided = λ q. un-settled (y .undecided) q };
 }
 
 -- the new entry: whose it is, where what it holds comes from, who decided it, why it stands
-pub record Fresh (f : ℕ) (x : Box) (m : List ℕ) (b : Body) (e : Entry) (a : Answer) : Type 0 where
+pub record Fresh (f : ℕ) (x : Box) (way : EntryPoint) (m : List ℕ) (b : Body) (e : Entry) (a : Answer) : Type 0 where
   pub owner : e.body ≡ b
   pub told : (w : Word) → Holds (some e) w → (wordIn a ≡ some w) ⊎ Carried x.table b w
-  pub decided : (d : Decision) → e.decided ≡ some d → (l : Vl) × Arrives f m b l × (decisionOf (l .decision) ≡ d)
+  pub decided : (d : Decision) → e.decided ≡ settled d → (l : Vl) × Arrives f way m b l × (decisionOf (l .decision) ≡ d)
   pub stood : Stands e → Upright x.table b ⊎ Clear x b
 
-FreshBy : (f : ℕ) (x : Box) (m : List ℕ) (b : Body) → Act → Type 0
-FreshBy f x m b (keep a) = Unit {0}
-FreshBy f x m b (store e a) = Fresh f x m b e a
+FreshBy : (f : ℕ) (x : Box) (way : EntryPoint) (m : List ℕ) (b : Body) → Answer → Change → Type 0
+FreshBy f x way m b a nothing = Unit {0}
+FreshBy f x way m b a (raises k s) = Unit {0}
+FreshBy f x way m b a (puts e) = Fresh f x way m b e a
 
 module _ {t : List Entry} {b : Body} (o : Option Entry) (p : Prior t b o) where
   -- what a move leaves of what was held is carried
@@ -68,25 +69,26 @@ module _ {t : List Entry} {b : Body} (o : Option Entry) (p : Prior t b o) where
   told-cast v x q k (vote d) h = inl (rw (rw q at h))
   told-cast v x q k (log d) h = inr (carried o p (log d) (sym k ∙ h))
 
-  told-log : (y : Decision) (x : Entry) → x.vote ≡ voteIn o → x.log ≡ some y → (w : Word) → Holds (some x) w
+  told-log : (y : Decision) (x : Entry) → x.vote ≡ voteIn o → x.log ≡ settled y → (w : Word) → Holds (some x) w
       → (wordIn (Logged y) ≡ some w) ⊎ Carried t b w
   unfolding Holds wordIn
   told-log y x q k (vote d) h = inr (carried o p (vote d) (rw q at h))
-  told-log y x q k (log d) h = inl (ap (λ z. some (log z)) (some-eq k h))
+  told-log y x q k (log d) h = inl (ap (λ z. some (log z)) (settled-eq k h))
 
   told-kept : (x : Entry) → x.vote ≡ voteIn o → x.log ≡ logIn o → (w : Word) → Holds (some x) w → Carried t b w
   unfolding Holds
   told-kept x q k (vote d) h = carried o p (vote d) (rw q at h)
   told-kept x q k (log d) h = carried o p (log d) (sym k ∙ h)
 
-fresh : {f : ℕ} {x : Box} {m : List ℕ} {b : Body} {a : Act} → Move f x m b a → FreshBy f x m b a
-unfolding FreshBy castAct logAct decideAct stands Holds cast
+fresh : {f : ℕ} {x : Box} {way : EntryPoint} {m : List ℕ} {b : Body} {a : Act} → Move f x way m b a → FreshBy f x way m b (a .answer) (a .change)
+unfolding FreshBy castAct logAct decideAct lookAct stands Holds cast
 fresh (quiet n) = tt
+fresh (looks k s) = tt
 fresh (again w e p h n) = tt
 fresh {x = x} {b = b} (casts v o p n r cl) = record {
   owner = refl;
   told = told-cast o p v _ refl refl;
-  decided = λ d h. absurd (none-some refl h);
+  decided = λ d h. absurd (un-settled refl h);
   stood = λ w. go (cl (w .vote));
 }
   where
@@ -96,47 +98,48 @@ fresh {x = x} {b = b} (casts v o p n r cl) = record {
 fresh (logs-first l o q k w p n) = record {
   owner = refl;
   told = told-log o p (decisionOf (l .decision)) _ refl refl;
-  decided = λ d h. absurd (none-some refl h);
+  decided = λ d h. absurd (un-settled refl h);
   stood = λ w. inl (upright-by o p (w .vote));
 }
 fresh (decides l o w p) = record {
   owner = refl;
   told = λ w h. inr (told-kept o p _ refl refl w h);
-  decided = λ d h. (l, w, some-eq refl h);
+  decided = λ d h. (l, w, settled-eq refl h);
   stood = λ w. inl (upright-by o p (w .vote));
 }
 fresh {x = x} {b = b} (replaces l e w p d) = record {
   owner = refl;
   told = blank;
-  decided = λ d′ h. (l, w, d ∙ some-eq refl h);
+  decided = λ d′ h. (l, w, d ∙ settled-eq refl h);
   stood = λ w. absurd (w .vote);
 }
   where
-    blank : (w : Word) → Holds (some (record { body = b; vote = unvoted; log = none; decided = some commit })) w
+    blank : (w : Word) → Holds (some (record { body = b; vote = unvoted; log = unsettled; decided = settled commit })) w
         → (wordIn Done ≡ some w) ⊎ Carried x.table b w
-    blank (vote d) h = absurd (none-some refl h)
-    blank (log d) h = absurd (none-some refl h)
+    blank (vote d) h = absurd (un-settled refl h)
+    blank (log d) h = absurd (un-settled refl h)
 
 -- an entry after a move: an old one, or the new one
-pub after-cases : {f : ℕ} {x : Box} {m : List ℕ} {b : Body} (a : Act) → Move f x m b a → (e : Entry) → In e (tableAfter x.table a)
-    → In e x.table ⊎ Fresh f x m b e (answerIn a)
-unfolding tableAfter answerIn FreshBy
-after-cases (keep a) k e h = inl h
-after-cases {f = f} {x = x} {m = m} {b = b} (store y a) k e h = go (in-put y e x.table h)
+pub after-cases : {f : ℕ} {x : Box} {way : EntryPoint} {m : List ℕ} {b : Body} (a : Act) → Move f x way m b a → (e : Entry) → In e (tableAfter x.table (a .change))
+    → In e x.table ⊎ Fresh f x way m b e (a .answer)
+unfolding tableAfter FreshBy
+after-cases {f = f} {x = x} {way = way} {m = m} {b = b} a k e h = go (a .change) (fresh k) h
   where
-    w : Fresh f x m b y a
-    w = fresh k
+    new : (y : Entry) → Fresh f x way m b y (a .answer) → (e ≡ y) ⊎ In e x.table → In e x.table ⊎ Fresh f x way m b e (a .answer)
+    new y w (inl q) = inr (rw (← q) at w)
+    new y w (inr i) = inl i
 
-    go : (e ≡ y) ⊎ In e x.table → In e x.table ⊎ Fresh f x m b e a
-    go (inl q) = inr (rw (← q) at w)
-    go (inr i) = inl i
+    go : (c : Change) → FreshBy f x way m b (a .answer) c → In e (tableAfter x.table c) → In e x.table ⊎ Fresh f x way m b e (a .answer)
+    go nothing w i = inl i
+    go (raises k s) w i = inl i
+    go (puts y) w i = new y w (in-put y e x.table i)
 
 -- a body that stands afterwards stood before, or has just passed the tests
-pub upright-cases : {f : ℕ} {x : Box} {m : List ℕ} {b : Body} (a : Act) → Move f x m b a → (b′ : Body) → Upright (tableAfter x.table a) b′
+pub upright-cases : {f : ℕ} {x : Box} {way : EntryPoint} {m : List ℕ} {b : Body} (a : Act) → Move f x way m b a → (b′ : Body) → Upright (tableAfter x.table (a .change)) b′
     → Upright x.table b′ ⊎ ((b ≡ b′) × Clear x b)
-upright-cases {f = f} {x = x} {m = m} {b = b} a k b′ w = go (after-cases a k (w .entry) (w .inside))
+upright-cases {f = f} {x = x} {way = way} {m = m} {b = b} a k b′ w = go (after-cases a k (w .entry) (w .inside))
   where
-    go : In (w .entry) x.table ⊎ Fresh f x m b (w .entry) (answerIn a) → Upright x.table b′ ⊎ ((b ≡ b′) × Clear x b)
+    go : In (w .entry) x.table ⊎ Fresh f x way m b (w .entry) (a .answer) → Upright x.table b′ ⊎ ((b ≡ b′) × Clear x b)
     go (inl i) = inl (record { entry = w .entry; inside = i; body = w .body; here = w .here })
     go (inr n) = by (n .stood (w .here))
       where
@@ -151,10 +154,10 @@ pub stands-live : (e : Entry) → Stands e → T (live e)
 unfolding live liveBy stands
 stands-live e w = go e.decided e.vote refl (w .vote)
   where
-    go : (o : Option Decision) (v : Vote) → e.decided ≡ o → T (stands v) → T (liveBy o v)
-    go (some commit) v q h = tt
-    go (some abort) v q h = absurd (w .decided q)
-    go none unvoted q h = h
-    go none waiting q h = h
-    go none voteCommit q h = h
-    go none (voteAbort r) q h = h
+    go : (o : Settled) (v : Vote) → e.decided ≡ o → T (stands v) → T (liveBy o v)
+    go (settled commit) v q h = tt
+    go (settled abort) v q h = absurd (w .decided q)
+    go unsettled unvoted q h = h
+    go unsettled waiting q h = h
+    go unsettled voteCommit q h = h
+    go unsettled (voteAbort r) q h = h

@@ -13,7 +13,7 @@ use Rattle.rules.specs.Answers.{Decision, commit, abort, Kind, votes, lo
 use Rattle.rules.specs.Bodies.{Body, stampOf, readsOf, writesKey}
 use Rattle.rules.specs.Lists.{kindOf, forLogging, forProof}
 use Rattle.rules.specs.Tests.{undercut}
-use Rattle.rules.specs.System.{Event, Word, vote, log, word, gave, count, Sound, Fair, Proof}
+use Rattle.rules.specs.System.{Event, Word, vote, log, word, gave, howMany, Sound, Fair, Proof}
 use Rattle.rules.proofs.Laws.{both, any-of}
 use Rattle.rules.proofs.Counting.{count-more, meet}
 use Rattle.rules.proofs.Quorums.{quorums}
@@ -25,9 +25,9 @@ use Rattle.rules.proofs.Apart.{Dead, aborted, rivalled, by-vote, parted
 commit-abort : commit ≡ abort → ⊥
 commit-abort p = let z : _≡_ {A = ℕ} 0 1 = cc in omega arith
 
-module _ (f : ℕ) (faulty : ℕ → Bool) (few : count faulty (boxes f) ≤ f) (es : List Event) (F : Fair f faulty es) where
+module _ (f : ℕ) (faulty : ℕ → Bool) (few : howMany faulty (boxes f) ≤ f) (es : List Event) (F : Fair f faulty es) where
   many : Body → Word → ℕ
-  many b w = count (upheld f faulty es b w) (boxes f)
+  many b w = howMany (upheld f faulty es b w) (boxes f)
 
   -- a sound box that gave both of two words
   record Both (b b′ : Body) (w w′ : Word) : Type 0 where
@@ -82,7 +82,7 @@ module _ (f : ℕ) (faulty : ℕ → Bool) (few : count faulty (boxes f) ≤ f) 
   quorum-votes b (by-votes h) = omega (arith, quorums f .proof-lists)
   quorum-votes b (by-logs h) = behind-logs b commit h
 
-  pub quorum : (b : Body) → Proof f faulty es b commit → forLogging f commit ≤ count (upheld f faulty es b (vote commit)) (boxes f)
+  pub quorum : (b : Body) → Proof f faulty es b commit → forLogging f commit ≤ howMany (upheld f faulty es b (vote commit)) (boxes f)
   unfolding many
   quorum b P = quorum-votes b (cases b commit P)
 

@@ -21,6 +21,7 @@ pub mod Serial
 pub mod Made
 pub mod Exist
 pub mod Safety
+pub mod Alike
 pub mod Running
 pub mod Cases
 pub mod Traces

@@ -9,7 +9,8 @@ use Rattle.rules.specs.Answers.{Decision}
 use Rattle.rules.specs.Bodies.{Body, stampOf}
 use Rattle.rules.specs.Table.{Entry, empty}
 use Rattle.rules.specs.Calls.{Act}
-use Rattle.rules.specs.Act.{bodyOf, answerIn, tableAfter}
+use Rattle.records.specs.Cutting.{txPart}
+use Rattle.rules.specs.Act.{tableAfter}
 use Rattle.rules.specs.System.{Event, boxAt, Word, vote, log, wordIn, gave}
 use Rattle.rules.proofs.Laws.{find-in}
 use Rattle.rules.proofs.Moves.{some-eq, Holds, Move}
@@ -59,24 +60,24 @@ module _ (f i : ℕ) where
   }
     where
       b₀ : Body
-      b₀ = bodyOf e.message
+      b₀ = txPart e.message
 
       a : Act
       a = s .act
 
-      m : Move f (boxAt f i es) e.message b₀ a
+      m : Move f (boxAt f i es) e.entry e.message b₀ a
       m = s .move
 
-      kept-by : (b : Body) (w : Word) → New f i e es a b w → Kept (tableAfter (table f i es) a) b w
+      kept-by : (b : Body) (w : Word) → New f i e es a b w → Kept (tableAfter (table f i es) (a .change)) b w
       kept-by b w (inl u) = rw (← u .0) (kept-new (spoken m w (u .1)))
       kept-by b w (inr u) = kept-old a m b w (L .kept b w u)
 
-      told-by : (x : Entry) (w : Word) → Holds (some x) w → In x (table f i es) ⊎ Fresh f (boxAt f i es) e.message b₀ x (answerIn a)
+      told-by : (x : Entry) (w : Word) → Holds (some x) w → In x (table f i es) ⊎ Fresh f (boxAt f i es) e.entry e.message b₀ x (a .answer)
           → T (gave f i x.body w (e ∷ es))
       told-by x w h (inl o) = gave-later f i e es x.body w (L .told x w o h)
       told-by x w h (inr y) = from (y .told w h)
         where
-          from : (wordIn (answerIn a) ≡ some w) ⊎ Carried (table f i es) b₀ w → T (gave f i x.body w (e ∷ es))
+          from : (wordIn (a .answer) ≡ some w) ⊎ Carried (table f i es) b₀ w → T (gave f i x.body w (e ∷ es))
           from (inl u) = rw (y .owner) (s .gives w u)
           from (inr o) = rw (y .owner) (gave-later f i e es b₀ w (carried-gave es L b₀ w o))
 

@@ -15,7 +15,7 @@ use Rattle.records.specs.Contents.{codeWrong, answerOdd}
 use Rattle.rules.specs.Answers.{Decision, commit, abort, Kind, votes, logs, decisionNumber, kindNumber}
 use Rattle.rules.specs.Bodies.{Body}
 use Rattle.rules.specs.Lists.{kindOf, decisionOf, forProof, bit, tally, meets}
-use Rattle.rules.specs.System.{Event, word, count, Backed, Proof}
+use Rattle.rules.specs.System.{Event, word, howMany, Backed, BackedBy, Proof}
 use Rattle.rules.proofs.Laws.{pick-elim, both, or-cases, or-l, or-r}
 use Rattle.rules.proofs.Counting.{rising, rising-formed}
 use Rattle.rules.proofs.Backing.{upheld, upheld-gave, proof-count}
@@ -44,14 +44,14 @@ unfolding bit
 bit-false true h = absurd h
 bit-false false h = refl
 
-tally-build : (p : ℕ → Bool) (d lo m : ℕ) → count p (lo + m) ≤ count p lo + tally d (build p d lo m)
-unfolding build count tally
+tally-build : (p : ℕ → Bool) (d lo m : ℕ) → howMany p (lo + m) ≤ howMany p lo + tally d (build p d lo m)
+unfolding build howMany tally
 tally-build p d lo zero = let e : lo + zero ≡ lo = omega arith in rw e (omega arith)
 tally-build p d lo (suc m) =
     let e : lo + suc m ≡ suc lo + m = omega arith in
     let r = tally-build p d (suc lo) m in
     rw e
-    (pick-elim (λ (l : List Pair). count p (suc lo + m) ≤ count p lo + tally d l) (p lo)
+    (pick-elim (λ (l : List Pair). howMany p (suc lo + m) ≤ howMany p lo + tally d l) (p lo)
     (λ y. omega (arith, r, bit-true (p lo) y, bit-true (eqb d d) (eqb-refl d)))
     (λ y. omega (arith, r, bit-false (p lo) y)))
 
@@ -102,10 +102,10 @@ decision-of commit = refl
 decision-of abort = refl
 
 module _ (f : ℕ) (faulty : ℕ → Bool) where
-  -- a count that meets the threshold is a list that can be made
-  pub proof-of : (es : List Event) (k : Kind) (b : Body) (d : Decision) → forProof f k d ≤ count (upheld f faulty es b (word k d)) (boxes f)
+  -- a howMany that meets the threshold is a list that can be made
+  pub proof-of : (es : List Event) (k : Kind) (b : Body) (d : Decision) → forProof f k d ≤ howMany (upheld f faulty es b (word k d)) (boxes f)
       → Proof f faulty es b d
-  unfolding meets Backed count
+  unfolding meets BackedBy howMany
   proof-of es k b d h = record {
     list = made;
     names = decision-of d;
@@ -131,7 +131,7 @@ module _ (f : ℕ) (faulty : ℕ → Bool) where
 
   -- whether a proof can be made, as a test
   unfoldable pub provableBy : List Event → Body → Decision → Kind → Bool
-  provableBy es b d k = leb (forProof f k d) (count (upheld f faulty es b (word k d)) (boxes f))
+  provableBy es b d k = leb (forProof f k d) (howMany (upheld f faulty es b (word k d)) (boxes f))
 
   unfoldable pub provable : List Event → Body → Decision → Bool
   provable es b d = provableBy es b d votes || provableBy es b d logs
@@ -151,6 +151,6 @@ module _ (f : ℕ) (faulty : ℕ → Bool) where
   unfolding provable provableBy
   proof-provable es b d P = go (kindOf (P .list .kind)) (proof-count f faulty es b d P)
     where
-      go : (k : Kind) → forProof f k d ≤ count (upheld f faulty es b (word k d)) (boxes f) → T (provable es b d)
+      go : (k : Kind) → forProof f k d ≤ howMany (upheld f faulty es b (word k d)) (boxes f) → T (provable es b d)
       go votes h = or-l (provableBy es b d votes) (provableBy es b d logs) (le→leb (forProof f votes d) _ h)
       go logs h = or-r (provableBy es b d votes) (provableBy es b d logs) (le→leb (forProof f logs d) _ h)

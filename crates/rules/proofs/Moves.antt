@@ -1,4 +1,4 @@
--- The six moves that a message can be, on the entry of its stamp.
+-- The seven moves that a message can be, on the entry of its stamp or on a read mark.
 use Prim.Native.Nat.{ℕ, _<_}
 use mathlib.Core.Bool.{Bool, true, false}
 use mathlib.Core.Path.{_≡_, refl, ap}
@@ -11,14 +11,17 @@ use Rattle.records.specs.declared.Read.{Read}
 use Rattle.records.specs.Tx.{readKey, readVersion}
 use Rattle.records.specs.Vl.{Vl}
 use Rattle.records.specs.Contents.{listWrong}
-use Rattle.records.specs.Messages.{messageRefusal}
-use Rattle.rules.specs.Answers.{Decision, commit, abort, votes, Vote, unvoted, waiting, voteCommit, voteAbort, Answer}
+use Rattle.records.specs.declared.Mark.{Mark}
+use Rattle.records.specs.declared.Marked.the-variants.{Is}
+use Rattle.rules.specs.Act.{EntryPoint, markBy}
+use Rattle.rules.specs.Answers.{Decision, commit, abort, votes, Settled, settled, unsettled, Vote, unvoted, waiting, voteCommit, voteAbort, Answer}
 use Rattle.rules.specs.Bodies.{Body, stampOf, readsOf, writesKey}
 use Rattle.rules.specs.Lists.{kindOf, decisionOf, forLogging, forProof, meets}
 use Rattle.rules.specs.Table.{Entry, Box, find, voteIn, logIn, live}
 use Rattle.rules.specs.Tests.{undercut, test5}
-use Rattle.rules.specs.Calls.{Act, keep, castAct, logAct, decideAct}
-use Rattle.rules.specs.Act.{bodyOf, listOf}
+use Rattle.rules.specs.Calls.{Act, keep, castAct, logAct, decideAct, lookAct}
+use Rattle.records.specs.Cutting.{txPart}
+use Rattle.records.specs.Messages.{dueRefusal, listBehind}
 use Rattle.rules.specs.System.{Word, vote, log, cast, wordIn, sameWord, isWord, carriesList}
 use Rattle.rules.proofs.Laws.{sameDecision-eq, sameDecision-refl}
 
@@ -28,13 +31,19 @@ none-some p q = let z : _≡_ {A = ℕ} 0 1 = cc in omega arith
 pub some-eq : {A : Type 0} {o : Option A} {x y : A} → o ≡ some x → o ≡ some y → x ≡ y
 some-eq p q = cc
 
-pub abort-commit : {o : Option Decision} → o ≡ some abort → o ≡ some commit → ⊥
+pub un-settled : {o : Settled} {d : Decision} → o ≡ unsettled → o ≡ settled d → ⊥
+un-settled p q = let z : _≡_ {A = ℕ} 0 1 = cc in omega arith
+
+pub settled-eq : {o : Settled} {d e : Decision} → o ≡ settled d → o ≡ settled e → d ≡ e
+settled-eq p q = cc
+
+pub abort-commit : {o : Settled} → o ≡ settled abort → o ≡ settled commit → ⊥
 abort-commit p q = let z : _≡_ {A = ℕ} 0 1 = cc in omega arith
 
 -- the words that an entry holds
 unfoldable pub Holds : Option Entry → Word → Type 0
-Holds o (vote d) = cast (voteIn o) ≡ some d
-Holds o (log d) = logIn o ≡ some d
+Holds o (vote d) = cast (voteIn o) ≡ settled d
+Holds o (log d) = logIn o ≡ settled d
 
 unfoldable pub stands : Vote → Bool
 stands unvoted = false
@@ -42,9 +51,9 @@ stands waiting = true
 stands voteCommit = true
 stands (voteAbort r) = false
 
-pub stands-cast : (v : Vote) → cast v ≡ some commit → T (stands v)
+pub stands-cast : (v : Vote) → cast v ≡ settled commit → T (stands v)
 unfolding cast stands
-stands-cast unvoted h = none-some refl h
+stands-cast unvoted h = un-settled refl h
 stands-cast waiting h = tt
 stands-cast voteCommit h = tt
 stands-cast (voteAbort r) h = abort-commit refl h
@@ -71,16 +80,16 @@ unfolding isWord sameWord
 is-word w o q = rw q (same-word w)
 
 -- the version that a read names is committed here, by a writer of the key
-pub record Settled (x : Box) (r : Read) : Type 0 where
+pub record Committed (x : Box) (r : Read) : Type 0 where
   pub entry : Entry
   pub at : find (readVersion r) x.table ≡ some entry
-  pub committed : entry .decided ≡ some commit
+  pub committed : entry .decided ≡ settled commit
   pub writes : T (writesKey (entry .body) (readKey r))
 
 -- what a read may name: the start, or a committed writer here
 pub data Names (x : Box) (r : Read) : Type 0 where
   start : readVersion r ≡ 0 → Names x r
-  here-held : Settled x r → Names x r
+  here-held : Committed x r → Names x r
 
 -- what a vote that is stored has been tested for
 pub record Ready (x : Box) (b : Body) (v : Vote) : Type 0 where
@@ -96,7 +105,7 @@ pub record Clear (x : Box) (b : Body) : Type 0 where
 pub record Prior (t : List Entry) (b : Body) (o : Option Entry) : Type 0 where
   pub at : find (stampOf b) t ≡ o
   pub body : (e : Entry) → o ≡ some e → e.body ≡ b
-  pub undecided : (e : Entry) → o ≡ some e → e.decided ≡ none
+  pub undecided : (e : Entry) → o ≡ some e → e.decided ≡ unsettled
 
 -- a list that is in order and reaches a threshold
 pub record Listing (f : ℕ) (l : Vl) (need : ℕ) : Type 0 where
@@ -104,35 +113,39 @@ pub record Listing (f : ℕ) (l : Vl) (need : ℕ) : Type 0 where
   pub enough : T (meets need l)
 
 -- a message that was read without refusal and carries a list: its body and its list
-pub record Brings (f : ℕ) (m : List ℕ) (b : Body) (l : Vl) : Type 0 where
-  pub read : messageRefusal f m ≡ 0
-  pub carries : T (carriesList m)
-  pub body : bodyOf m ≡ b
-  pub list : listOf m ≡ l
+pub record Brings (f : ℕ) (way : EntryPoint) (m : List ℕ) (b : Body) (l : Vl) : Type 0 where
+  pub mark : Mark
+  pub marked : markBy way m ≡ Is mark
+  pub read : dueRefusal mark f m ≡ 0
+  pub carries : T (carriesList mark)
+  pub body : txPart m ≡ b
+  pub list : listBehind m ≡ l
 
 -- a decision that arrives with its proof
-pub record Arrives (f : ℕ) (m : List ℕ) (b : Body) (l : Vl) : Type 0 where
-  pub brings : Brings f m b l
+pub record Arrives (f : ℕ) (way : EntryPoint) (m : List ℕ) (b : Body) (l : Vl) : Type 0 where
+  pub brings : Brings f way m b l
   pub listing : Listing f l (forProof f (kindOf (l .kind)) (decisionOf (l .decision)))
 
 -- another body held under this stamp, not committed
 pub record Rival (t : List Entry) (b : Body) (e : Entry) : Type 0 where
   pub at : find (stampOf b) t ≡ some e
   pub other : e.body ≡ b → ⊥
-  pub not-committed : e.decided ≡ some commit → ⊥
+  pub not-committed : e.decided ≡ settled commit → ⊥
 
-pub data Move (f : ℕ) (x : Box) (m : List ℕ) (b : Body) : Act → Type 0 where
+pub data Move (f : ℕ) (x : Box) (way : EntryPoint) (m : List ℕ) (b : Body) : Act → Type 0 where
   -- nothing is stored, and no word is given
-  quiet : {a : Answer} → wordIn a ≡ none → Move f x m b (keep a)
+  quiet : {a : Answer} → wordIn a ≡ none → Move f x way m b (keep a)
+  -- a read mark is raised, and no word is given
+  looks : (k s : ℕ) → Move f x way m b (lookAct x k s)
   -- a word that is held is given again
-  again : {a : Answer} (w : Word) (e : Entry) → Prior x.table b (some e) → Holds (some e) w → wordIn a ≡ some w → Move f x m b (keep a)
+  again : {a : Answer} (w : Word) (e : Entry) → Prior x.table b (some e) → Holds (some e) w → wordIn a ≡ some w → Move f x way m b (keep a)
   -- a vote after the tests, or a waiting one after the waiting rule
-  casts : (v : Vote) (o : Option Entry) → Prior x.table b o → cast (voteIn o) ≡ none → Ready x b v
-      → (T (stands v) → Clear x b ⊎ (voteIn o ≡ waiting)) → Move f x m b (castAct b o v)
+  casts : (v : Vote) (o : Option Entry) → Prior x.table b o → cast (voteIn o) ≡ unsettled → Ready x b v
+      → (T (stands v) → Clear x b ⊎ (voteIn o ≡ waiting)) → Move f x way m b (castAct b o v)
   -- a first log
-  logs-first : (l : Vl) (o : Option Entry) → Brings f m b l → kindOf (l .kind) ≡ votes → Listing f l (forLogging f (decisionOf (l .decision)))
-      → Prior x.table b o → logIn o ≡ none → Move f x m b (logAct b (decisionOf (l .decision)) o)
+  logs-first : (l : Vl) (o : Option Entry) → Brings f way m b l → kindOf (l .kind) ≡ votes → Listing f l (forLogging f (decisionOf (l .decision)))
+      → Prior x.table b o → logIn o ≡ unsettled → Move f x way m b (logAct b (decisionOf (l .decision)) o)
   -- a first decision
-  decides : (l : Vl) (o : Option Entry) → Arrives f m b l → Prior x.table b o → Move f x m b (decideAct b (decisionOf (l .decision)) o)
+  decides : (l : Vl) (o : Option Entry) → Arrives f way m b l → Prior x.table b o → Move f x way m b (decideAct b (decisionOf (l .decision)) o)
   -- a committed body in the place of another
-  replaces : (l : Vl) (e : Entry) → Arrives f m b l → Rival x.table b e → decisionOf (l .decision) ≡ commit → Move f x m b (decideAct b commit none)
+  replaces : (l : Vl) (e : Entry) → Arrives f way m b l → Rival x.table b e → decisionOf (l .decision) ≡ commit → Move f x way m b (decideAct b commit none)

@@ -10,15 +10,16 @@ use lib.Dec.{T}
 use Rattle.records.specs.declared.Read.{Read}
 use Rattle.records.specs.Tx.{readKey, readVersion}
 use Rattle.records.specs.Vl.{Vl}
-use Rattle.rules.specs.Answers.{Decision, commit, Vote, unvoted, waiting, voteCommit, voteAbort}
+use Rattle.rules.specs.Answers.{Decision, commit, Vote, unvoted, waiting, voteCommit, voteAbort, settled}
 use Rattle.rules.specs.Bodies.{Body, stampOf, readsOf, writesKey}
 use Rattle.rules.specs.Lists.{decisionOf}
 use Rattle.rules.specs.Table.{Entry, empty, find}
 use Rattle.rules.specs.Calls.{Act}
-use Rattle.rules.specs.Act.{bodyOf, answerIn}
-use Rattle.rules.specs.System.{Event, boxAt, vote, log, cast, gave, Sound, Backed, Honest, Fair, Proof}
+use Rattle.records.specs.Cutting.{txPart}
+use Rattle.rules.specs.Act.{EntryPoint}
+use Rattle.rules.specs.System.{Event, boxAt, vote, log, cast, gave, Sound, Backed, Honest, Fair, Proof, HonestBy}
 use Rattle.rules.proofs.Laws.{find-stamp, find-in}
-use Rattle.rules.proofs.Moves.{none-some, abort-commit, Names, start, here-held, Ready, Brings, Move}
+use Rattle.rules.proofs.Moves.{none-some, un-settled, abort-commit, Names, start, here-held, Ready, Brings, Move}
 use Rattle.rules.proofs.Said.{Said, repeats, by-tests, by-list, said}
 use Rattle.rules.proofs.Fresh.{Fresh, after-cases}
 use Rattle.rules.proofs.Trace.{table, New, Idle, Moved, Step, still, arrives, step}
@@ -27,9 +28,9 @@ use Rattle.rules.proofs.Backing.{LogBehind, logged-later, proof-later}
 
 module _ (f : ℕ) (faulty : ℕ → Bool) where
   -- a list that a message brings is backed
-  brought : (es : List Event) (m : List ℕ) (b : Body) (l : Vl) → Brings f m b l → Honest f faulty es m → Backed f faulty es b l
-  unfolding Honest
-  brought es m b l w h = rw (← w .body, ← w .list) (h (w .read) (w .carries))
+  brought : (es : List Event) (way : EntryPoint) (m : List ℕ) (b : Body) (l : Vl) → Brings f way m b l → Honest f faulty es way m → Backed f faulty es b l
+  unfolding HonestBy
+  brought es way m b l w h = rw (← w .body, ← w .list) (h (w .mark) (w .marked) (w .read) (w .carries))
 
   -- a committed writer of a key at a version
   pub record Writer (es : List Event) (k v : ℕ) : Type 0 where
@@ -52,7 +53,7 @@ module _ (f : ℕ) (faulty : ℕ → Bool) where
 
   -- of a sound box: what it decided has a proof, what it logged a list of votes, and what it voted to commit reads committed versions
   pub record Rests (i : ℕ) (es : List Event) : Type 0 where
-    pub decided : (e : Entry) (d : Decision) → In e (table f i es) → e.decided ≡ some d → Proof f faulty es e.body d
+    pub decided : (e : Entry) (d : Decision) → In e (table f i es) → e.decided ≡ settled d → Proof f faulty es e.body d
     pub logged : (b : Body) (d : Decision) → T (gave f i b (log d) es) → LogBehind f faulty es b d
     pub reads : (b : Body) → T (gave f i b (vote commit) es) → (r : Read) → In r (readsOf b) → ReadOk es b r
 
@@ -60,14 +61,14 @@ module _ (f : ℕ) (faulty : ℕ → Bool) where
   unfolding table boxAt empty gave find
   rests-empty i = record { decided = λ e d p q. elim p [ ]; logged = λ b d h. absurd h; reads = λ b h r m. absurd h }
 
-  cast-commit : (v : Vote) → cast v ≡ some commit → v ≡ voteCommit
+  cast-commit : (v : Vote) → cast v ≡ settled commit → v ≡ voteCommit
   unfolding cast
-  cast-commit unvoted h = absurd (none-some refl h)
-  cast-commit waiting h = absurd (none-some refl h)
+  cast-commit unvoted h = absurd (un-settled refl h)
+  cast-commit waiting h = absurd (un-settled refl h)
   cast-commit voteCommit h = refl
   cast-commit (voteAbort r) h = absurd (abort-commit refl h)
 
-  ready-read : (i : ℕ) (es : List Event) → Rests i es → (b : Body) (v : Vote) → cast v ≡ some commit → Ready (boxAt f i es) b v → (r : Read)
+  ready-read : (i : ℕ) (es : List Event) → Rests i es → (b : Body) (v : Vote) → cast v ≡ settled commit → Ready (boxAt f i es) b v → (r : Read)
       → In r (readsOf b) → ReadOk es b r
   unfolding table
   ready-read i es R b v q w r k = record { below = w .below r k; names = go (w .settled (cast-commit v q) r k) }
@@ -82,22 +83,22 @@ module _ (f : ℕ) (faulty : ℕ → Bool) where
             proof = R .decided (y .entry) commit (find-in (readVersion r) (table f i es) (y .entry) (y .at)) (y .committed);
           })
 
-  reads-said : (i : ℕ) (es : List Event) → Rests i es → (m : List ℕ) (b : Body) → Said f (boxAt f i es) m b (vote commit) → (r : Read)
+  reads-said : (i : ℕ) (es : List Event) → Rests i es → (way : EntryPoint) (m : List ℕ) (b : Body) → Said f (boxAt f i es) way m b (vote commit) → (r : Read)
       → In r (readsOf b) → ReadOk es b r
   unfolding table
-  reads-said i es R m b (repeats e p h) = R .reads b (carried-gave f i es (local f i es) b (vote commit) (record { entry = e; prior = p; holds = h }))
-  reads-said i es R m b (by-tests d v o q p n k w) = let a : d ≡ commit = cc in ready-read i es R b v (rw a at k) w
-  reads-said i es R m b (by-list l o q k y w p n) = let z : _≡_ {A = ℕ} 0 1 = cc in absurd (omega arith)
+  reads-said i es R way m b (repeats e p h) = R .reads b (carried-gave f i es (local f i es) b (vote commit) (record { entry = e; prior = p; holds = h }))
+  reads-said i es R way m b (by-tests d v o q p n k w) = let a : d ≡ commit = cc in ready-read i es R b v (rw a at k) w
+  reads-said i es R way m b (by-list l o q k y w p n) = let z : _≡_ {A = ℕ} 0 1 = cc in absurd (omega arith)
 
-  logged-said : (i : ℕ) (es : List Event) → Rests i es → (m : List ℕ) (b : Body) (d : Decision) → Honest f faulty es m
-      → Said f (boxAt f i es) m b (log d) → LogBehind f faulty es b d
-  unfolding Honest table
-  logged-said i es R m b d H (repeats e p h) =
+  logged-said : (i : ℕ) (es : List Event) → Rests i es → (way : EntryPoint) (m : List ℕ) (b : Body) (d : Decision) → Honest f faulty es way m
+      → Said f (boxAt f i es) way m b (log d) → LogBehind f faulty es b d
+  unfolding HonestBy table
+  logged-said i es R way m b d H (repeats e p h) =
       R .logged b d (carried-gave f i es (local f i es) b (log d) (record { entry = e; prior = p; holds = h }))
-  logged-said i es R m b d H (by-tests d′ v o q p n k r) = let z : _≡_ {A = ℕ} 0 1 = cc in absurd (omega arith)
-  logged-said i es R m b d H (by-list l o q j k y p n) =
+  logged-said i es R way m b d H (by-tests d′ v o q p n k r) = let z : _≡_ {A = ℕ} 0 1 = cc in absurd (omega arith)
+  logged-said i es R way m b d H (by-list l o q j k y p n) =
       let a : decisionOf (l .decision) ≡ d = cc in
-      record { list = l; kind = k; names = a; listing = y; backed = brought es m b l j H }
+      record { list = l; kind = k; names = a; listing = y; backed = brought es way m b l j H }
 
   rests-still : (i : ℕ) (e : Event) (es : List Event) → Idle f i e es → Rests i es → Rests i (e ∷ es)
   rests-still i e es s R = record {
@@ -106,7 +107,7 @@ module _ (f : ℕ) (faulty : ℕ → Bool) where
     reads = λ b h r m. read-later e es b r (R .reads b (s .unsaid b (vote commit) h) r m);
   }
 
-  rests-moved : (i : ℕ) (e : Event) (es : List Event) → Moved f i e es → Honest f faulty es e.message → Rests i es → Rests i (e ∷ es)
+  rests-moved : (i : ℕ) (e : Event) (es : List Event) → Moved f i e es → Honest f faulty es e.entry e.message → Rests i es → Rests i (e ∷ es)
   unfolding table
   rests-moved i e es s hon R = record {
     decided = λ x d p q. proof-later f faulty e es x.body d (decided-by x d q (after-cases a m x (rw (s .table-now) at p)));
@@ -115,15 +116,15 @@ module _ (f : ℕ) (faulty : ℕ → Bool) where
   }
     where
       b₀ : Body
-      b₀ = bodyOf e.message
+      b₀ = txPart e.message
 
       a : Act
       a = s .act
 
-      m : Move f (boxAt f i es) e.message b₀ a
+      m : Move f (boxAt f i es) e.entry e.message b₀ a
       m = s .move
 
-      decided-by : (x : Entry) (d : Decision) → x.decided ≡ some d → In x (table f i es) ⊎ Fresh f (boxAt f i es) e.message b₀ x (answerIn a)
+      decided-by : (x : Entry) (d : Decision) → x.decided ≡ settled d → In x (table f i es) ⊎ Fresh f (boxAt f i es) e.entry e.message b₀ x (a .answer)
           → Proof f faulty es x.body d
       decided-by x d q (inl o) = R .decided x d o q
       decided-by x d q (inr w) =
@@ -134,16 +135,16 @@ module _ (f : ℕ) (faulty : ℕ → Bool) where
             names = y .2;
             formed = y .1 .listing .formed;
             enough = y .1 .listing .enough;
-            backed = brought es e.message b₀ (y .0) (y .1 .brings) hon;
+            backed = brought es e.entry e.message b₀ (y .0) (y .1 .brings) hon;
           })
 
       logged-by : (b : Body) (d : Decision) → New f i e es a b (log d) → LogBehind f faulty es b d
       logged-by b d (inr u) = R .logged b d u
-      logged-by b d (inl u) = rw (← u .0) (logged-said i es R e.message b₀ d hon (said m (log d) (u .1)))
+      logged-by b d (inl u) = rw (← u .0) (logged-said i es R e.entry e.message b₀ d hon (said m (log d) (u .1)))
 
       reads-by : (b : Body) → New f i e es a b (vote commit) → (r : Read) → In r (readsOf b) → ReadOk es b r
       reads-by b (inr u) = R .reads b u
-      reads-by b (inl u) = rw (← u .0) (reads-said i es R e.message b₀ (said m (vote commit) (u .1)))
+      reads-by b (inl u) = rw (← u .0) (reads-said i es R e.entry e.message b₀ (said m (vote commit) (u .1)))
 
   pub rests : (i : ℕ) → Sound f faulty i → (es : List Event) → Fair f faulty es → Rests i es
   unfolding Fair

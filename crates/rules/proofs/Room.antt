@@ -8,90 +8,135 @@ use mathlib.Core.List.{List, [], _∷_}
 use native.Mathlib.Omega.{arith}
 use lib.Dec.{T, eqb, nleb→lt}
 use lib.ListN.{length}
+use Rattle.terms.proofs.Checks.{first-none, rest-none, not-less}
 use Rattle.records.specs.Vl.{Vl}
-use Rattle.records.specs.Cutting.{markPR, markLG, markDC, markRD}
-use Rattle.records.specs.Messages.{byMark, isMark}
-use Rattle.rules.specs.Answers.{Decision, commit, abort, Vote, unvoted, waiting, voteCommit, voteAbort}
+use Rattle.records.specs.Contents.{largestKey, rdWrong}
+use Rattle.records.specs.declared.Mark.{Mark}
+use Rattle.records.specs.declared.Mark.the-variants.{PR, LG, DC, RD}
+use Rattle.records.specs.declared.Marked.{Marked}
+use Rattle.records.specs.declared.Marked.the-variants.{Is, Refused as Unmarked}
+use Rattle.records.specs.Messages.{contentsWrong, dueRefusal, rdKey, rdStamp}
+use Rattle.rules.specs.Answers.{Decision, commit, abort, Settled, settled, unsettled, Vote, unvoted, waiting, voteCommit, voteAbort}
 use Rattle.rules.specs.Bodies.{Body, stampOf, sameBody}
 use Rattle.rules.specs.Lists.{kindOf, decisionOf, forLogging, forProof, meets}
-use Rattle.rules.specs.Table.{Entry, Box, Config, find, put}
-use Rattle.rules.specs.Calls.{Act, keep, store, isFull, roomFor, sameDecision, castAct, prByVote, prByDecision, prByEntry, prRule, logAct}
-use Rattle.rules.specs.Calls.{lgByLog, lgByDecision, lgByEntry, lgRule, decideAct, dcSame, dcOther, dcByEntry, dcRule, rdRule}
-use Rattle.rules.specs.Act.{bodyOf, listOf, rule, act, tableAfter, boxAfter, after}
+use Rattle.rules.specs.Table.{Entry, Box, Told, find, put}
+use Rattle.rules.specs.Calls.{Act, Change, nothing, puts, raises, isFull, roomFor, sameDecision, castAct, prByVote, prByDecision, prByEntry, prRule, logAct}
+use Rattle.rules.specs.Calls.{lgByLog, lgByDecision, lgByEntry, lgRule, decideAct, dcSame, dcOther, dcByEntry, dcRule, guarded, lookAct, rdRule}
+use Rattle.records.specs.Cutting.{txPart}
+use Rattle.records.specs.Messages.{listBehind}
+use Rattle.rules.specs.Act.{EntryPoint, rule, dueAct, markedAct, markBy, act, tableAfter, marksAfter, boxAfter, after}
 use Rattle.rules.proofs.Laws.{pick-elim, pick-true, pick-false, decideT}
 use Rattle.rules.proofs.Moves.{none-some}
 use Rattle.rules.proofs.Deeds.{guarded-elim}
 use Rattle.rules.proofs.Kept.{put-cases}
 
--- an entry that is stored takes the place of one with its stamp, or there is room
-unfoldable pub Fits : Config → Box → Act → Type 0
-Fits cf x (keep a) = Unit {0}
-Fits cf x (store e a) = find (stampOf e.body) x.table ≡ none → length x.table < cf.capacity
+-- what is put is this body, and it takes the place of an entry with its stamp, or there is room; a mark that is raised is a key's
+unfoldable pub FitsBy : (ℕ → Type 0) → Told → Box → Body → Change → Type 0
+FitsBy K told x b nothing = Unit {0}
+FitsBy K told x b (raises k s) = K k
+FitsBy K told x b (puts e) = (e.body ≡ b) × (find (stampOf b) x.table ≡ none → length x.table < told.capacity)
 
-module _ (cf : Config) (x : Box) (b : Body) where
-  room-fits : (a : Act) → ((length x.table < cf.capacity) → Fits cf x a) → Fits cf x (roomFor cf x a)
-  unfolding roomFor isFull Fits
-  room-fits a h = pick-elim (Fits cf x) (isFull cf x) (λ _. tt) (λ n. h (nleb→lt cf.capacity (length x.table) n))
+abbrev pub FitsIn : Told → Box → Body → Change → Type 0
+FitsIn told x b c = FitsBy (λ k. k ≤ largestKey) told x b c
 
-  pr-fits : (o : Option Entry) → find (stampOf b) x.table ≡ o → Fits cf x (prByEntry cf x b o)
-  unfolding prByEntry prByDecision prByVote castAct Fits
-  pr-fits none p = room-fits _ (λ n _. n)
-  pr-fits (some e) p = pick-elim (Fits cf x) (sameBody e.body b) (λ _. by-decision e.decided) (λ _. tt)
+unfoldable pub Fit : (ℕ → Type 0) → Told → Box → Body → Act → Type 0
+Fit K told x b a = FitsBy K told x b (a .change)
+
+abbrev pub Fits : Told → Box → Body → Act → Type 0
+Fits told x b a = Fit (λ k. k ≤ largestKey) told x b a
+
+module _ (K : ℕ → Type 0) (told : Told) (x : Box) (b : Body) where
+  room-fits : (a : Act) → ((length x.table < told.capacity) → Fit K told x b a) → Fit K told x b (roomFor told x a)
+  unfolding roomFor isFull Fit FitsBy
+  room-fits a h = pick-elim (Fit K told x b) (isFull told x) (λ _. tt) (λ n. h (nleb→lt told.capacity (length x.table) n))
+
+  pub guarded-fits : (n : ℕ) (a : Act) → (n ≡ 0 → Fit K told x b a) → Fit K told x b (guarded n a)
+  unfolding Fit FitsBy
+  guarded-fits n a h = guarded-elim (Fit K told x b) n a h (λ _. tt)
+
+  pr-by : (o : Option Entry) → find (stampOf b) x.table ≡ o → Fit K told x b (prByEntry told x b o)
+  unfolding prByEntry prByDecision prByVote castAct Fit FitsBy
+  pr-by none p = room-fits _ (λ n. (refl, λ _. n))
+  pr-by (some e) p = pick-elim (Fit K told x b) (sameBody e.body b) (λ _. by-decision e.decided) (λ _. tt)
     where
-      by-vote : (v : Vote) → Fits cf x (prByVote cf x b e v)
+      by-vote : (v : Vote) → Fit K told x b (prByVote told x b e v)
       by-vote voteCommit = tt
       by-vote (voteAbort r) = tt
-      by-vote waiting = λ q. absurd (none-some q p)
-      by-vote unvoted = λ q. absurd (none-some q p)
+      by-vote waiting = (refl, λ q. absurd (none-some q p))
+      by-vote unvoted = (refl, λ q. absurd (none-some q p))
 
-      by-decision : (d : Option Decision) → Fits cf x (prByDecision cf x b e d)
-      by-decision none = by-vote e.vote
-      by-decision (some d) = tt
+      by-decision : (d : Settled) → Fit K told x b (prByDecision told x b e d)
+      by-decision unsettled = by-vote e.vote
+      by-decision (settled d) = tt
 
-  lg-fits : (l : Vl) (o : Option Entry) → find (stampOf b) x.table ≡ o → Fits cf x (lgByEntry cf b l o)
-  unfolding lgByEntry lgByDecision lgByLog logAct Fits
-  lg-fits l none p = tt
-  lg-fits l (some e) p = pick-elim (Fits cf x) (sameBody e.body b) (λ _. by-decision e.decided) (λ _. tt)
+  pub pr-fits : Fit K told x b (prRule told x b)
+  unfolding prRule
+  pr-fits = pr-by (find (stampOf b) x.table) refl
+
+  lg-by : (l : Vl) (o : Option Entry) → find (stampOf b) x.table ≡ o → Fit K told x b (lgByEntry told b l o)
+  unfolding lgByEntry lgByDecision lgByLog logAct Fit FitsBy
+  lg-by l none p = tt
+  lg-by l (some e) p = pick-elim (Fit K told x b) (sameBody e.body b) (λ _. by-decision e.decided) (λ _. tt)
     where
-      by-log : (d : Option Decision) → Fits cf x (lgByLog cf b l e d)
-      by-log (some d) = tt
-      by-log none =
-          pick-elim (Fits cf x) (meets (forLogging cf.f (decisionOf (l .decision))) l) (λ _ q. absurd (none-some q p)) (λ _. tt)
+      by-log : (d : Settled) → Fit K told x b (lgByLog told b l e d)
+      by-log (settled d) = tt
+      by-log unsettled =
+          pick-elim (Fit K told x b) (meets (forLogging told.f (decisionOf (l .decision))) l) (λ _. (refl, λ q. absurd (none-some q p))) (λ _. tt)
 
-      by-decision : (d : Option Decision) → Fits cf x (lgByDecision cf b l e d)
-      by-decision none = by-log e.log
-      by-decision (some d) = tt
+      by-decision : (d : Settled) → Fit K told x b (lgByDecision told b l e d)
+      by-decision unsettled = by-log e.log
+      by-decision (settled d) = tt
 
-  dc-fits : (d : Decision) (o : Option Entry) → find (stampOf b) x.table ≡ o → Fits cf x (dcByEntry cf x b d o)
-  unfolding dcByEntry dcSame dcOther decideAct Fits
-  dc-fits d none p = room-fits _ (λ n _. n)
-  dc-fits d (some e) p = pick-elim (Fits cf x) (sameBody e.body b) (λ _. same e.decided) (λ _. other d e.decided)
+  pub lg-fits : (l : Vl) → Fit K told x b (lgRule told x b l)
+  unfolding lgRule
+  lg-fits l = lg-by l (find (stampOf b) x.table) refl
+
+  dc-by : (d : Decision) (o : Option Entry) → find (stampOf b) x.table ≡ o → Fit K told x b (dcByEntry told x b d o)
+  unfolding dcByEntry dcSame dcOther decideAct Fit FitsBy
+  dc-by d none p = room-fits _ (λ n. (refl, λ _. n))
+  dc-by d (some e) p = pick-elim (Fit K told x b) (sameBody e.body b) (λ _. same e.decided) (λ _. other d e.decided)
     where
-      same : (o : Option Decision) → Fits cf x (dcSame b d e o)
-      same none = λ q. absurd (none-some q p)
-      same (some held) = pick-elim (Fits cf x) (sameDecision held d) (λ _. tt) (λ _. tt)
+      same : (o : Settled) → Fit K told x b (dcSame b d e o)
+      same unsettled = (refl, λ q. absurd (none-some q p))
+      same (settled held) = pick-elim (Fit K told x b) (sameDecision held d) (λ _. tt) (λ _. tt)
 
-      other : (d : Decision) (o : Option Decision) → Fits cf x (dcOther b d o)
+      other : (d : Decision) (o : Settled) → Fit K told x b (dcOther b d o)
       other abort o = tt
-      other commit (some commit) = tt
-      other commit (some abort) = λ q. absurd (none-some q p)
-      other commit none = λ q. absurd (none-some q p)
+      other commit (settled commit) = tt
+      other commit (settled abort) = (refl, λ q. absurd (none-some q p))
+      other commit unsettled = (refl, λ q. absurd (none-some q p))
 
-module _ (cf : Config) (x : Box) (m : List ℕ) where
-  rule-fits : Fits cf x (rule cf x m)
-  unfolding rule prRule lgRule dcRule rdRule byMark Fits
-  rule-fits =
-      pick-elim (Fits cf x) (isMark markPR m) (λ _. pr-fits cf x (bodyOf m) (find (stampOf (bodyOf m)) x.table) refl)
-      (λ _. pick-elim (Fits cf x) (isMark markLG m) (λ _. lg-fits cf x (bodyOf m) (listOf m) (find (stampOf (bodyOf m)) x.table) refl)
-      (λ _. pick-elim (Fits cf x) (isMark markDC m)
-      (λ _. pick-elim (Fits cf x) (meets (forProof cf.f (kindOf (listOf m .kind)) (decisionOf (listOf m .decision))) (listOf m))
-      (λ _. dc-fits cf x (bodyOf m) (decisionOf (listOf m .decision)) (find (stampOf (bodyOf m)) x.table) refl)
-      (λ _. tt))
-      (λ _. pick-elim (Fits cf x) (isMark markRD m) (λ _. guarded-elim (Fits cf x) _ _ (λ _. tt) (λ _. tt)) (λ _. tt))))
+  pub dc-fits : (l : Vl) → Fit K told x b (dcRule told x b l)
+  unfolding dcRule Fit FitsBy
+  dc-fits l =
+      pick-elim (Fit K told x b) (meets (forProof told.f (kindOf (l .kind)) (decisionOf (l .decision))) l)
+      (λ _. dc-by (decisionOf (l .decision)) (find (stampOf b) x.table) refl)
+      (λ _. tt)
 
-  pub act-fits : Fits cf x (act cf x m)
-  unfolding act Fits
-  act-fits = guarded-elim (Fits cf x) _ _ (λ _. guarded-elim (Fits cf x) _ _ (λ _. rule-fits) (λ _. tt)) (λ _. tt)
+  pub rd-fits : (k s : ℕ) → K k → Fit K told x b (rdRule told x k s)
+  unfolding rdRule lookAct Fit FitsBy
+  rd-fits k s h = guarded-fits _ _ (λ _. h)
+
+pub rd-key : (f : ℕ) (m : List ℕ) → dueRefusal RD f m ≡ 0 → rdKey m ≤ largestKey
+unfolding dueRefusal contentsWrong rdWrong
+rd-key f m e = not-less _ _ _ (first-none _ _ (rest-none _ _ (rest-none _ _ (rest-none _ _ e))))
+
+module _ (told : Told) (x : Box) (m : List ℕ) where
+  pub rule-fits : (k : Mark) → dueRefusal k told.f m ≡ 0 → Fits told x (txPart m) (rule k told x m)
+  unfolding rule
+  rule-fits PR h = pr-fits _ told x (txPart m)
+  rule-fits LG h = lg-fits _ told x (txPart m) (listBehind m)
+  rule-fits DC h = dc-fits _ told x (txPart m) (listBehind m)
+  rule-fits RD h = rd-fits _ told x (txPart m) (rdKey m) (rdStamp m) (rd-key told.f m h)
+
+  marked-fits : (k : Marked) → Fits told x (txPart m) (markedAct k told x m)
+  unfolding markedAct dueAct Fit FitsBy
+  marked-fits (Is k) = guarded-fits _ told x (txPart m) _ _ (rule-fits k)
+  marked-fits (Unmarked n) = tt
+
+  pub act-fits : (way : EntryPoint) → Fits told x (txPart m) (act way told x m)
+  unfolding act
+  act-fits way = guarded-fits _ told x (txPart m) _ _ (λ _. marked-fits (markBy way m))
 
 -- a put takes a place, or adds one
 put-new : (e : Entry) (t : List Entry) → length (put e t) ≤ length t + 1
@@ -114,31 +159,57 @@ put-old e o (x ∷ xs) h = go (decideT (eqb (stampOf x.body) (stampOf e.body))) 
         let q : find (stampOf e.body) xs ≡ some o = sym (pick-false (eqb (stampOf x.body) (stampOf e.body)) (some x) _ k) ∙ h in
         rw (pick-false (eqb (stampOf x.body) (stampOf e.body)) (e ∷ xs) (x ∷ put e xs) k) (omega (arith, r q))
 
-fits-table : (cf : Config) (x : Box) (a : Act) → Fits cf x a → length x.table ≤ cf.capacity → length (tableAfter x.table a) ≤ cf.capacity
-unfolding Fits tableAfter
-fits-table cf x (keep a) h n = n
-fits-table cf x (store e a) h n = go (find (stampOf e.body) x.table) refl
+fits-table : (told : Told) (x : Box) (b : Body) (c : Change) → FitsIn told x b c → length x.table ≤ told.capacity → length (tableAfter x.table c) ≤ told.capacity
+unfolding FitsBy tableAfter
+fits-table told x b nothing h n = n
+fits-table told x b (raises k s) h n = n
+fits-table told x b (puts e) h n = go (find (stampOf e.body) x.table) refl
   where
-    go : (o : Option Entry) → find (stampOf e.body) x.table ≡ o → length (put e x.table) ≤ cf.capacity
-    go none q = omega (arith, h q, put-new e x.table)
+    go : (o : Option Entry) → find (stampOf e.body) x.table ≡ o → length (put e x.table) ≤ told.capacity
+    go none q = omega (arith, h .1 (rw (h .0) at q), put-new e x.table)
     go (some o) q = omega (arith, put-old e o x.table q)
 
 -- "full": whatever arrives, a table within its capacity stays within it
-pub never-overfull : (cf : Config) (x : Box) (m : List ℕ) → length x.table ≤ cf.capacity → length (after cf x m .table) ≤ cf.capacity
-unfolding after boxAfter
-never-overfull cf x m n = fits-table cf x (act cf x m) (act-fits cf x m) n
+pub never-overfull : (told : Told) (x : Box) (way : EntryPoint) (m : List ℕ) → length x.table ≤ told.capacity → length (after way told x m .table) ≤ told.capacity
+unfolding after boxAfter Fit
+never-overfull told x way m n = fits-table told x (txPart m) (act way told x m .change) (act-fits told x m way) n
 
 -- "never dropped": whatever arrives, a stamp that is held stays held
-pub never-dropped : (cf : Config) (x : Box) (m : List ℕ) (s : ℕ) (e : Entry) → find s x.table ≡ some e
-    → (o : Entry) × (find s (after cf x m .table) ≡ some o)
+pub never-dropped : (told : Told) (x : Box) (way : EntryPoint) (m : List ℕ) (s : ℕ) (e : Entry) → find s x.table ≡ some e
+    → (o : Entry) × (find s (after way told x m .table) ≡ some o)
 unfolding after boxAfter tableAfter
-never-dropped cf x m s e h = go (act cf x m)
+never-dropped told x way m s e h = go (act way told x m .change)
   where
-    go : (a : Act) → (o : Entry) × (find s (tableAfter x.table a) ≡ some o)
-    go (keep a) = (e, h)
-    go (store y a) = by (put-cases s y x.table)
+    go : (c : Change) → (o : Entry) × (find s (tableAfter x.table c) ≡ some o)
+    go nothing = (e, h)
+    go (raises k n) = (e, h)
+    go (puts y) = by (put-cases s y x.table)
       where
         by : ((stampOf y.body ≡ s) × (find s (put y x.table) ≡ some y)) ⊎ (find s (put y x.table) ≡ find s x.table)
             → (o : Entry) × (find s (put y x.table) ≡ some o)
         by (inl u) = (y, u .1)
         by (inr u) = (e, u ∙ h)
+
+-- ---- PR, LG and DC raise no mark, RD puts no entry
+still : (told : Told) (x : Box) (b : Body) (c : Change) → FitsBy (λ _. ⊥) told x b c → (marks : List ℕ) → marksAfter marks c ≡ marks
+unfolding FitsBy marksAfter
+still told x b nothing h marks = refl
+still told x b (raises k s) h marks = absurd h
+still told x b (puts e) h marks = refl
+
+module _ (told : Told) (x : Box) (b : Body) (marks : List ℕ) where
+  pub pr-still : marksAfter marks (prRule told x b .change) ≡ marks
+  unfolding Fit
+  pr-still = still told x b _ (pr-fits (λ _. ⊥) told x b) marks
+
+  pub lg-still : (l : Vl) → marksAfter marks (lgRule told x b l .change) ≡ marks
+  unfolding Fit
+  lg-still l = still told x b _ (lg-fits (λ _. ⊥) told x b l) marks
+
+  pub dc-still : (l : Vl) → marksAfter marks (dcRule told x b l .change) ≡ marks
+  unfolding Fit
+  dc-still l = still told x b _ (dc-fits (λ _. ⊥) told x b l) marks
+
+pub rd-still : (told : Told) (x : Box) (k s : ℕ) (t : List Entry) → tableAfter t (rdRule told x k s .change) ≡ t
+unfolding rdRule lookAct tableAfter
+rd-still told x k s t = guarded-elim (λ (a : Act). tableAfter t (a .change) ≡ t) _ _ (λ _. refl) (λ _. refl)

@@ -7,28 +7,28 @@ use Rattle.records.specs.Numbers.{numAt}
 use Rattle.records.specs.Tx.{txOf, txBytes, readAt, writeAt}
 use Rattle.records.specs.Vl.{vlOf, vlBytes, pairAt}
 use Rattle.records.specs.Contents.{txWrong, listWrong, logListWrong, codeWrong, rdWrong, countsWrong, countWrong}
-use Rattle.records.specs.Cutting.{txPart, vlPart, txCut, vlCut, prCut, listedCut, listedLen, rdCut, behindWrong, prLen, markWrong}
-use Rattle.records.specs.Messages.{prRefusal, lgRefusal, dcRefusal, rdRefusal, messageRefusal, byMark, isMark}
-use Rattle.records.specs.Writing.{prBytes, lgBytes, dcBytes, rdBytes}
+use Rattle.records.specs.Cutting.{txPart, vlPart, txCut, vlCut, listedCut, listedLen, restCut, messageCut, messageLen, behindWrong, markWrong}
+use Rattle.records.specs.Messages.{listBehind, contentsWrong, dueRefusal, isMark, markOf}
+use Rattle.records.specs.Writing.{prBytes, listedBytes, rdBytes}
 use Rattle.rules.specs.Bodies.{stampOf, readsOf, writesOf, sameBody, writesKey}
 use Rattle.rules.specs.Lists.{kindOf, decisionOf, bit, tally, meets}
 use Rattle.rules.specs.Table.{empty, find, put, liveBy, live}
 use Rattle.rules.specs.Tests.{test1, liveWriter, test2, undercut, test3, test4, test5, statusBy, statusOf, status, waitingRule, firstVote}
 use Rattle.rules.specs.Calls.{guarded, isFull, roomFor, sameDecision, castAct, prByVote, prByDecision, prByEntry, prRule, logAct, lgByLog}
 use Rattle.rules.specs.Calls.{lgByDecision, lgByEntry, lgRule, decideAct, dcSame, dcOther, dcByEntry, dcRule, better, newest, valueAt}
-use Rattle.rules.specs.Calls.{versionOf, valueOf, isCommitted, isUndecided, rdFound, rdAnswer, rdRule}
-use Rattle.rules.specs.Act.{configWrong, rule, act, answerIn, tableAfter, raise, marksBy, boxAfter, after}
-use Rattle.rules.specs.System.{boxAt, answerTo, word, cast, voteWord, wordIn, sameWord, isWord, givesNow, gave, count, carriesList}
+use Rattle.rules.specs.Calls.{versionOf, isCommitted, isUndecided, rdAnswer, lookAct, rdRule}
+use Rattle.rules.specs.Act.{toldWrong, rule, dueAct, markedAct, markBy, act, tableAfter, raise, marksAfter, boxAfter, after}
+use Rattle.rules.specs.System.{boxAt, answerTo, word, cast, voteWord, wordIn, sameWord, isWord, givesNow, gave, howMany, carriesList}
 use Rattle.rules.specs.Cases.{replay, given, due, line, case, read, write, tx, writes, reads, pairs, list, PR, LG, DC, RD, commits, waits}
-use Rattle.rules.specs.Cases.{aborts}
-use Rattle.rules.specs.Vectors.{told, box, lent, entry, zeros, stores, run, held, wanted}
+use Rattle.rules.specs.Cases.{aborts, lg, dc, found}
+use Rattle.rules.specs.Vectors.{group, marked, lent, entry, zeros, stores, run, held, wanted}
 
 unfoldable checks : ℕ
 unfolding orElse when ifLess ifSame ifOther refusalOf groupWrong
 checks = 0
 
 unfoldable bytes : ℕ
-unfolding numAt readAt writeAt txOf txBytes pairAt vlOf vlBytes prBytes lgBytes dcBytes rdBytes
+unfolding numAt readAt writeAt txOf txBytes pairAt vlOf vlBytes prBytes listedBytes rdBytes
 bytes = 0
 
 unfoldable reading : ℕ
@@ -36,7 +36,7 @@ unfolding countsWrong countWrong txWrong codeWrong listWrong logListWrong rdWron
 reading = 0
 
 unfoldable messages : ℕ
-unfolding prCut prLen listedCut listedLen rdCut prRefusal lgRefusal dcRefusal rdRefusal isMark byMark messageRefusal
+unfolding listedCut listedLen restCut messageCut messageLen listBehind contentsWrong dueRefusal isMark markOf
 messages = 0
 
 unfoldable tables : ℕ
@@ -52,19 +52,19 @@ unfolding guarded isFull roomFor sameDecision castAct prByVote prByDecision prBy
 calling = 0
 
 unfoldable deciding : ℕ
-unfolding decideAct dcSame dcOther dcByEntry dcRule better newest valueAt versionOf valueOf isCommitted isUndecided rdFound rdAnswer rdRule
+unfolding decideAct dcSame dcOther dcByEntry dcRule better newest valueAt versionOf isCommitted isUndecided rdAnswer lookAct rdRule
 deciding = 0
 
 unfoldable acting : ℕ
-unfolding configWrong rule act answerIn tableAfter raise marksBy boxAfter after
+unfolding toldWrong rule dueAct markedAct markBy act tableAfter raise marksAfter boxAfter after
 acting = 0
 
 unfoldable sending : ℕ
-unfolding replay given due line case read write tx writes reads pairs list PR LG DC RD commits waits aborts
+unfolding replay given due line case read write tx writes reads pairs list PR LG DC RD lg dc found commits waits aborts
 sending = 0
 
 unfoldable lending : ℕ
-unfolding told box lent entry zeros run held wanted stores
+unfolding group marked lent entry zeros run held wanted stores
 lending = 0
 
 unfoldable pub running : ℕ
@@ -72,5 +72,5 @@ unfolding checks bytes reading messages tables testing calling deciding acting s
 running = 0
 
 unfoldable pub tracing : ℕ
-unfolding running boxAt answerTo word cast voteWord wordIn sameWord isWord givesNow gave count carriesList
+unfolding running boxAt answerTo word cast voteWord wordIn sameWord isWord givesNow gave howMany carriesList
 tracing = 0

@@ -12,14 +12,14 @@ use Rattle.terms.proofs.Checks.{rest-none, when-none}
 use Rattle.records.specs.declared.Read.{Read}
 use Rattle.records.specs.Tx.{txOf, readKey, readVersion}
 use Rattle.records.specs.Contents.{txWrong, tooNew}
-use Rattle.rules.specs.Answers.{Decision, commit, abort, Reason, Ahead, NoVersion, Overwritten, Undercuts, ReadMark, Dependency, Vote, waiting}
+use Rattle.rules.specs.Answers.{Decision, commit, abort, Reason, Ahead, NoVersion, Overwritten, Undercuts, ReadMark, Dependency, Vote, waiting, Settled, settled, unsettled}
 use Rattle.rules.specs.Answers.{voteCommit, voteAbort}
 use Rattle.rules.specs.Bodies.{Body, stampOf, readsOf, writesKey}
-use Rattle.rules.specs.Table.{Entry, Box, Config, find, live}
+use Rattle.rules.specs.Table.{Entry, Box, Told, find, live}
 use Rattle.rules.specs.Tests.{test1, test2, undercut, test3, test4, test5, Status, statusBy, statusOf, status, isBad, isPending, waitingRule}
 use Rattle.rules.specs.Tests.{firstVote}
 use Rattle.rules.proofs.Laws.{pick-elim, both, decideT, no-both, any-of, not-any}
-use Rattle.rules.proofs.Moves.{stands, Settled, Names, start, here-held, Ready, Clear}
+use Rattle.rules.proofs.Moves.{stands, Committed, Names, start, here-held, Ready, Clear}
 
 not-commit : (r : Reason) {A : Type 0} → _≡_ {A = Vote} (voteAbort r) voteCommit → A
 not-commit r p = let z : _≡_ {A = ℕ} 0 1 = cc in absurd (omega arith)
@@ -41,17 +41,17 @@ below-of b h r m =
 
 -- the waiting rule
 settled-by : (x : Box) (r : Read) (o : Option Entry) → find (readVersion r) x.table ≡ o → (T (isBad (statusOf (readKey r) o)) → ⊥)
-    → (T (isPending (statusOf (readKey r) o)) → ⊥) → Settled x r
+    → (T (isPending (statusOf (readKey r) o)) → ⊥) → Committed x r
 unfolding statusOf statusBy
 settled-by x r none e nb np = absurd (nb tt)
 settled-by x r (some y) e nb np = go y.decided refl nb np
   where
-    go : (o : Option Decision) → y.decided ≡ o → (T (isBad (statusBy (writesKey y.body (readKey r)) o)) → ⊥)
-        → (T (isPending (statusBy (writesKey y.body (readKey r)) o)) → ⊥) → Settled x r
-    go none q u v = absurd (v tt)
-    go (some abort) q u v = absurd (u tt)
-    go (some commit) q u v =
-        pick-elim (λ (s : Status). (T (isBad s) → ⊥) → Settled x r) (writesKey y.body (readKey r))
+    go : (o : Settled) → y.decided ≡ o → (T (isBad (statusBy (writesKey y.body (readKey r)) o)) → ⊥)
+        → (T (isPending (statusBy (writesKey y.body (readKey r)) o)) → ⊥) → Committed x r
+    go unsettled q u v = absurd (v tt)
+    go (settled abort) q u v = absurd (u tt)
+    go (settled commit) q u v =
+        pick-elim (λ (s : Status). (T (isBad s) → ⊥) → Committed x r) (writesKey y.body (readKey r))
         (λ w u′. record { entry = y; at = e; committed = q; writes = w })
         (λ w u′. absurd (u′ tt))
         u
@@ -98,10 +98,10 @@ clear-of x b h k n = record {
   unread = λ u. no-both (test5 x b) u n;
 }
 
-pub first-of : (cf : Config) (x : Box) (b : Body) → txWrong (txOf b) ≡ 0 → First x b (firstVote cf x b)
+pub first-of : (told : Told) (x : Box) (b : Body) → txWrong (txOf b) ≡ 0 → First x b (firstVote told x b)
 unfolding firstVote
-first-of cf x b h =
-    pick-elim P (test1 cf b) (λ _. first-abort x b Ahead h)
+first-of told x b h =
+    pick-elim P (test1 told b) (λ _. first-abort x b Ahead h)
     (λ _. pick-elim P (test2 x b) (λ _. first-abort x b NoVersion h)
     (λ _. pick-elim P (test3 x b) (λ _. first-abort x b Overwritten h)
     (λ u. pick-elim P (test4 x b) (λ _. first-abort x b Undercuts h)

@@ -13,17 +13,26 @@ use Rattle.terms.specs.declared.Refusal.the-variants.{OtherBody, Unknown, TooFe
 use Rattle.records.specs.declared.Write.{Write}
 use Rattle.records.specs.Tx.{writeKey, writeValue}
 use Rattle.records.specs.Vl.{Vl}
-use Rattle.rules.specs.Answers.{Answer, Decided, Decision, Done, Found, Logged, Refused, Voted, abort, commit}
+use Rattle.rules.specs.Answers.{Answer, Decided, Decision, Done, Found, Logged, Refused, Settled, Version, Voted, abort, commit, settled, unsettled}
 use Rattle.rules.specs.Answers.{Vote, unvoted, voteAbort, voteCommit, waiting}
 use Rattle.rules.specs.Bodies.{Body, sameBody, stampOf, writesKey, writesOf}
 use Rattle.rules.specs.Lists.{decisionOf, forLogging, forProof, kindOf, meets}
-use Rattle.rules.specs.Table.{Box, Config, Entry, find, limit, live, logIn, voteIn}
+use Rattle.rules.specs.Table.{Box, Told, Entry, find, limit, live, logIn, voteIn}
 use Rattle.rules.specs.Tests.{firstVote, waitingRule}
 
--- what a call does: it answers and the table stays, or it puts one entry into the table and answers
-pub data Act : Type 0 where
-  keep : Answer → Act
-  store : Entry → Answer → Act
+-- what a call changes: nothing, an entry that is put into the table, or a key's read mark that is raised to a stamp
+pub data Change : Type 0 where
+  nothing : Change
+  puts : Entry → Change
+  raises : ℕ → ℕ → Change
+
+-- what a call does: it answers, and makes one change
+pub record Act : Type 0 where
+  pub answer : Answer
+  pub change : Change
+
+abbrev pub keep : Answer → Act
+keep a = record { answer = a; change = nothing }
 
 -- "A refusal returns its number only. Table, read marks, .. stay unchanged."
 abbrev pub refuse : Refusal → Act
@@ -35,11 +44,11 @@ guarded zero a = a
 guarded (suc n) a = refuse (refusalOf (suc n))
 
 -- 13: "a new entry is needed and the table is at capacity"; "Capacity counts every entry"
-unfoldable pub isFull : Config → Box → Bool
-isFull cf x = leb (cf .capacity) (length (x .table))
+unfoldable pub isFull : Told → Box → Bool
+isFull told x = leb (told .capacity) (length (x .table))
 
-unfoldable pub roomFor : Config → Box → Act → Act
-roomFor cf x a = pick (isFull cf x) (refuse Full) a
+unfoldable pub roomFor : Told → Box → Act → Act
+roomFor told x a = pick (isFull told x) (refuse Full) a
 
 -- "commit", "abort": one decision or two
 unfoldable pub sameDecision : Decision → Decision → Bool
@@ -51,80 +60,80 @@ sameDecision abort abort = true
 -- ---- PR
 -- "An abort vote carries one of six reasons, and it is stored"; "the entry is stored"
 unfoldable pub castAct : Body → Option Entry → Vote → Act
-castAct b o v = store (record { body = b; vote = v; log = logIn o; decided = none }) (Voted v)
+castAct b o v = record { answer = Voted v; change = puts (record { body = b; vote = v; log = logIn o; decided = unsettled }) }
 
 -- "vote cast, the same vote again; waiting, the waiting rule; undecided with vote none (only in a lent table), the tests as if new, in its place"
-unfoldable pub prByVote : Config → Box → Body → Entry → Vote → Act
-prByVote cf x b e voteCommit = keep (Voted voteCommit)
-prByVote cf x b e (voteAbort r) = keep (Voted (voteAbort r))
-prByVote cf x b e waiting = castAct b (some e) (waitingRule x b)
-prByVote cf x b e unvoted = castAct b (some e) (firstVote cf x b)
+unfoldable pub prByVote : Told → Box → Body → Entry → Vote → Act
+prByVote told x b e voteCommit = keep (Voted voteCommit)
+prByVote told x b e (voteAbort r) = keep (Voted (voteAbort r))
+prByVote told x b e waiting = castAct b (some e) (waitingRule x b)
+prByVote told x b e unvoted = castAct b (some e) (firstVote told x b)
 
 -- "Held with this body: decided, answer Decided"
-unfoldable pub prByDecision : Config → Box → Body → Entry → Option Decision → Act
-prByDecision cf x b e (some d) = keep (Decided d)
-prByDecision cf x b e none = prByVote cf x b e (e .vote)
+unfoldable pub prByDecision : Told → Box → Body → Entry → Settled → Act
+prByDecision told x b e (settled d) = keep (Decided d)
+prByDecision told x b e unsettled = prByVote told x b e (e .vote)
 
 -- "Held with another body: 9. Not held: 13, else the first failing test gives an abort vote."
-unfoldable pub prByEntry : Config → Box → Body → Option Entry → Act
-prByEntry cf x b none = roomFor cf x (castAct b none (firstVote cf x b))
-prByEntry cf x b (some e) = pick (sameBody (e .body) b) (prByDecision cf x b e (e .decided)) (refuse OtherBody)
+unfoldable pub prByEntry : Told → Box → Body → Option Entry → Act
+prByEntry told x b none = roomFor told x (castAct b none (firstVote told x b))
+prByEntry told x b (some e) = pick (sameBody (e .body) b) (prByDecision told x b e (e .decided)) (refuse OtherBody)
 
-unfoldable pub prRule : Config → Box → Body → Act
-prRule cf x b = prByEntry cf x b (find (stampOf b) (x .table))
+unfoldable pub prRule : Told → Box → Body → Act
+prRule told x b = prByEntry told x b (find (stampOf b) (x .table))
 
 -- ---- LG
 -- "else log it. The box's own vote does not matter."
 unfoldable pub logAct : Body → Decision → Option Entry → Act
-logAct b d o = store (record { body = b; vote = voteIn o; log = some d; decided = none }) (Logged d)
+logAct b d o = record { answer = Logged d; change = puts (record { body = b; vote = voteIn o; log = settled d; decided = unsettled }) }
 
 -- "Already logged: that same log. Then 11"
-unfoldable pub lgByLog : Config → Body → Vl → Entry → Option Decision → Act
-lgByLog cf b l e (some d) = keep (Logged d)
-lgByLog cf b l e none =
-    pick (meets (forLogging (cf .f) (decisionOf (l .decision))) l) (logAct b (decisionOf (l .decision)) (some e)) (refuse TooFew)
+unfoldable pub lgByLog : Told → Body → Vl → Entry → Settled → Act
+lgByLog told b l e (settled d) = keep (Logged d)
+lgByLog told b l e unsettled =
+    pick (meets (forLogging (told .f) (decisionOf (l .decision))) l) (logAct b (decisionOf (l .decision)) (some e)) (refuse TooFew)
 
 -- "Decided: Decided."
-unfoldable pub lgByDecision : Config → Body → Vl → Entry → Option Decision → Act
-lgByDecision cf b l e (some d) = keep (Decided d)
-lgByDecision cf b l e none = lgByLog cf b l e (e .log)
+unfoldable pub lgByDecision : Told → Body → Vl → Entry → Settled → Act
+lgByDecision told b l e (settled d) = keep (Decided d)
+lgByDecision told b l e unsettled = lgByLog told b l e (e .log)
 
 -- "Not held: 10. Other body: 9."
-unfoldable pub lgByEntry : Config → Body → Vl → Option Entry → Act
-lgByEntry cf b l none = refuse Unknown
-lgByEntry cf b l (some e) = pick (sameBody (e .body) b) (lgByDecision cf b l e (e .decided)) (refuse OtherBody)
+unfoldable pub lgByEntry : Told → Body → Vl → Option Entry → Act
+lgByEntry told b l none = refuse Unknown
+lgByEntry told b l (some e) = pick (sameBody (e .body) b) (lgByDecision told b l e (e .decided)) (refuse OtherBody)
 
-unfoldable pub lgRule : Config → Box → Body → Vl → Act
-lgRule cf x b l = lgByEntry cf b l (find (stampOf b) (x .table))
+unfoldable pub lgRule : Told → Box → Body → Vl → Act
+lgRule told x b l = lgByEntry told b l (find (stampOf b) (x .table))
 
 -- ---- DC
 -- "a new entry with vote none and this decision"; "undecided takes it"; "Accepted answers Done."
 unfoldable pub decideAct : Body → Decision → Option Entry → Act
-decideAct b d o = store (record { body = b; vote = voteIn o; log = logIn o; decided = some d }) Done
+decideAct b d o = record { answer = Done; change = puts (record { body = b; vote = voteIn o; log = logIn o; decided = settled d }) }
 
 -- "Held, same body: undecided takes it; equal decision changes nothing; opposite, 12."
-unfoldable pub dcSame : Body → Decision → Entry → Option Decision → Act
-dcSame b d e none = decideAct b d (some e)
-dcSame b d e (some held) = pick (sameDecision held d) (keep Done) (refuse Contradiction)
+unfoldable pub dcSame : Body → Decision → Entry → Settled → Act
+dcSame b d e unsettled = decideAct b d (some e)
+dcSame b d e (settled held) = pick (sameDecision held d) (keep Done) (refuse Contradiction)
 
 -- "Held, other body: abort gives 9; commit gives 12 if the held one is committed, else the new body replaces it, vote and log become none,
 -- decision commit."
-unfoldable pub dcOther : Body → Decision → Option Decision → Act
+unfoldable pub dcOther : Body → Decision → Settled → Act
 dcOther b abort o = refuse OtherBody
-dcOther b commit (some commit) = refuse Contradiction
-dcOther b commit (some abort) = decideAct b commit none
-dcOther b commit none = decideAct b commit none
+dcOther b commit (settled commit) = refuse Contradiction
+dcOther b commit (settled abort) = decideAct b commit none
+dcOther b commit unsettled = decideAct b commit none
 
 -- "Not held: 13, else a new entry .. Held, same body: .. Held, other body: .."
-unfoldable pub dcByEntry : Config → Box → Body → Decision → Option Entry → Act
-dcByEntry cf x b d none = roomFor cf x (decideAct b d none)
-dcByEntry cf x b d (some e) = pick (sameBody (e .body) b) (dcSame b d e (e .decided)) (dcOther b d (e .decided))
+unfoldable pub dcByEntry : Told → Box → Body → Decision → Option Entry → Act
+dcByEntry told x b d none = roomFor told x (decideAct b d none)
+dcByEntry told x b d (some e) = pick (sameBody (e .body) b) (dcSame b d e (e .decided)) (dcOther b d (e .decided))
 
 -- "11 first."
-unfoldable pub dcRule : Config → Box → Body → Vl → Act
-dcRule cf x b l =
-    pick (meets (forProof (cf .f) (kindOf (l .kind)) (decisionOf (l .decision))) l)
-    (dcByEntry cf x b (decisionOf (l .decision)) (find (stampOf b) (x .table)))
+unfoldable pub dcRule : Told → Box → Body → Vl → Act
+dcRule told x b l =
+    pick (meets (forProof (told .f) (kindOf (l .kind)) (decisionOf (l .decision))) l)
+    (dcByEntry told x b (decisionOf (l .decision)) (find (stampOf b) (x .table)))
     (refuse TooFew)
 
 -- ---- RD
@@ -145,32 +154,30 @@ valueAt k [] = 0
 valueAt k (w ∷ ws) = pick (eqb (writeKey w) k) (writeValue w) (valueAt k ws)
 
 -- "version and value"; "0 0 where there is none"
-unfoldable pub versionOf : Option Entry → ℕ
-versionOf none = 0
-versionOf (some e) = stampOf (e .body)
-
-unfoldable pub valueOf : ℕ → Option Entry → ℕ
-valueOf k none = 0
-valueOf k (some e) = valueAt k (writesOf (e .body))
+unfoldable pub versionOf : ℕ → Option Entry → Version
+versionOf k none = record { stamp = record { 0 = 0 }; value = 0 }
+versionOf k (some e) = record { stamp = record { 0 = stampOf (e .body) }; value = valueAt k (writesOf (e .body)) }
 
 -- "committed"; "undecided"
-unfoldable pub isCommitted : Option Decision → Bool
-isCommitted none = false
-isCommitted (some commit) = true
-isCommitted (some abort) = false
+unfoldable pub isCommitted : Settled → Bool
+isCommitted unsettled = false
+isCommitted (settled commit) = true
+isCommitted (settled abort) = false
 
-unfoldable pub isUndecided : Option Decision → Bool
-isUndecided none = true
-isUndecided (some d) = false
+unfoldable pub isUndecided : Settled → Bool
+isUndecided unsettled = true
+isUndecided (settled d) = false
 
 -- "Returns version and value of the committed writer with the highest stamp strictly below, and likewise of the live undecided one"
-unfoldable pub rdFound : ℕ → Option Entry → Option Entry → Answer
-rdFound k c u = Found (versionOf c) (valueOf k c) (versionOf u) (valueOf k u)
-
 unfoldable pub rdAnswer : Box → ℕ → ℕ → Answer
 rdAnswer x k s =
-    rdFound k (newest (λ e. isCommitted (e .decided)) k s (x .table)) (newest (λ e. isUndecided (e .decided) && live e) k s (x .table))
+    Found (versionOf k (newest (λ e. isCommitted (e .decided)) k s (x .table)))
+    (versionOf k (newest (λ e. isUndecided (e .decided) && live e) k s (x .table)))
+
+-- "Raises the key's read mark to the stamp if it is lower."
+unfoldable pub lookAct : Box → ℕ → ℕ → Act
+lookAct x k s = record { answer = rdAnswer x k s; change = raises k s }
 
 -- 15: "RD stamp above clock + δ"; "RD has 5, then 15."
-unfoldable pub rdRule : Config → Box → ℕ → ℕ → Act
-rdRule cf x k s = guarded (ifLess (limit cf) s ahead) (keep (rdAnswer x k s))
+unfoldable pub rdRule : Told → Box → ℕ → ℕ → Act
+rdRule told x k s = guarded (ifLess (limit told) s ahead) (lookAct x k s)

@@ -8,35 +8,36 @@ use Rattle.records.specs.declared.Write.{Write}
 use Rattle.records.specs.declared.Pair.{Pair}
 use Rattle.records.specs.Tx.{Tx}
 use Rattle.records.specs.Vl.{Vl}
-use Rattle.records.specs.Writing.{prBytes, lgBytes, dcBytes, rdBytes}
+use Rattle.records.specs.declared.Mark.the-variants.{LG as markedLG, DC as markedDC}
+use Rattle.records.specs.Writing.{prBytes, listedBytes, rdBytes}
 use Rattle.rules.specs.Answers.{Answer, Decision, Done, Found, Kind, Logged, Refused, Voted, abort, commit, logs, voteAbort, voteCommit, votes}
 use Rattle.rules.specs.Answers.{Reason, Ahead, Dependency, NoVersion, Overwritten, ReadMark, Undercuts, decisionNumber, kindNumber, waiting}
-use Rattle.rules.specs.Table.{Box, Config, empty}
-use Rattle.rules.specs.Act.{act, after, answerIn}
+use Rattle.rules.specs.Table.{Box, Told, empty}
+use Rattle.rules.specs.Act.{act, after, receive}
 
 -- ---- a case: messages that one box gets, one after another, and the answers that are due
 pub record Case : Type 0 where
-  pub config : Config
+  pub told : Told
   pub start : Box
   pub sent : List (List ℕ)
   pub due : List Answer
 
-unfoldable pub replay : Config → Box → List (List ℕ) → List Answer
-replay cf x [] = []
-replay cf x (m ∷ ms) = answerIn (act cf x m) ∷ replay cf (after cf x m) ms
+unfoldable pub replay : Told → Box → List (List ℕ) → List Answer
+replay told x [] = []
+replay told x (m ∷ ms) = act receive told x m .answer ∷ replay told (after receive told x m) ms
 
 unfoldable pub given : Case → List Answer
-given c = replay (c .config) (c .start) (c .sent)
+given c = replay (c .told) (c .start) (c .sent)
 
 unfoldable pub due : Case → List Answer
 due c = c .due
 
 -- "f = 1, δ = 10, clock 100, capacity 8; each starts empty"
-unfoldable pub line : Config
+unfoldable pub line : Told
 line = record { f = 1; capacity = 8; clock = 100; delta = 10 }
 
 unfoldable pub case : List (List ℕ) → List Answer → Case
-case sent due = record { config = line; start = empty; sent = sent; due = due }
+case sent due = record { told = line; start = empty; sent = sent; due = due }
 
 -- ---- the messages, as bytes
 unfoldable pub read : ℕ → ℕ → Read
@@ -66,12 +67,18 @@ list k d ps = record { kind = kindNumber k; decision = decisionNumber d; pairs =
 unfoldable pub PR : Tx → List ℕ
 PR t = prBytes t
 
+unfoldable pub lg : Tx → Vl → List ℕ
+lg t l = listedBytes markedLG t l
+
+unfoldable pub dc : Tx → Vl → List ℕ
+dc t l = listedBytes markedDC t l
+
 -- with n votes, or n logs, of the boxes 0 to n − 1
 unfoldable pub LG : Tx → Decision → ℕ → List ℕ
-LG t d n = lgBytes t (list votes d (pairs 0 n d))
+LG t d n = lg t (list votes d (pairs 0 n d))
 
 unfoldable pub DC : Tx → Kind → Decision → ℕ → List ℕ
-DC t k d n = dcBytes t (list k d (pairs 0 n d))
+DC t k d n = dc t (list k d (pairs 0 n d))
 
 unfoldable pub RD : ℕ → ℕ → List ℕ
 RD k s = rdBytes k s
@@ -85,6 +92,10 @@ waits = Voted waiting
 
 unfoldable pub aborts : Reason → Answer
 aborts r = Voted (voteAbort r)
+
+-- of an RD: version and value of what is committed, and of what is live and undecided
+unfoldable pub found : ℕ → ℕ → ℕ → ℕ → Answer
+found v x u y = Found (record { stamp = record { 0 = v }; value = x }) (record { stamp = record { 0 = u }; value = y })
 
 -- ---- the twelve
 unfoldable pub cases : List Case
@@ -106,10 +117,10 @@ cases =
     (commits ∷ aborts Undercuts ∷ [])
     -- "6. RD key 3 at 70; 60 writes it: abort 5."
     ∷ case (RD 3 70 ∷ PR (writes 60 3) ∷ [])
-    (Found 0 0 0 0 ∷ aborts ReadMark ∷ [])
+    (found 0 0 0 0 ∷ aborts ReadMark ∷ [])
     -- "7. As 6, but 70 writes it: commit."
     ∷ case (RD 3 70 ∷ PR (writes 70 3) ∷ [])
-    (Found 0 0 0 0 ∷ commits ∷ [])
+    (found 0 0 0 0 ∷ commits ∷ [])
     -- "8. Stamp 110 writing key 3: commit. Stamp 111: abort 1."
     ∷ case (PR (writes 110 3) ∷ PR (writes 111 3) ∷ [])
     (commits ∷ aborts Ahead ∷ [])

@@ -6,35 +6,33 @@ use mathlib.Core.Option.{Option, some, none}
 use lib.Dec.{eqb}
 use lib.ListN.{replicate}
 use Rattle.terms.specs.Choice.{pick}
-use Rattle.rules.specs.Answers.{Decision, Vote, abort, commit, unvoted, voteAbort, voteCommit, waiting}
+pub use Rattle.rules.specs.declared.Told.{Told}
+use Rattle.rules.specs.Answers.{Settled, Vote, abort, commit, settled, unsettled, unvoted, voteAbort, voteCommit, waiting}
 use Rattle.rules.specs.Bodies.{Body, stampOf}
 
 -- "An entry holds body, vote (waiting, commit, abort with reason, or none), logged decision or none, decision or none"
 pub record Entry : Type 0 where
   pub body : Body
   pub vote : Vote
-  pub log : Option Decision
-  pub decided : Option Decision
+  pub log : Settled
+  pub decided : Settled
 
 -- a box: its entries in their places, and the read mark of each of the 512 keys
 pub record Box : Type 0 where
   pub table : List Entry
   pub marks : List ℕ
 
+abbrev pub boxWith : List Entry → List ℕ → Box
+boxWith es marks = record { table = es; marks = marks }
+
 -- a box before its first message
 unfoldable pub empty : Box
 empty = record { table = []; marks = replicate 512 0 }
 
--- what a box is told beside a message: f, capacity, clock and δ. All are told anew each time: "The clock may go back."
-pub record Config : Type 0 where
-  pub f : ℕ
-  pub capacity : ℕ
-  pub clock : ℕ
-  pub delta : ℕ
-
+-- A box is told f, capacity, clock and δ beside each message (`Told`), anew each time: "The clock may go back."
 -- "Clock + δ is a sum of whole numbers and never wraps"
-abbrev pub limit : Config → ℕ
-limit cf = cf .clock + cf .delta
+abbrev pub limit : Told → ℕ
+limit told = told .clock + told .delta
 
 -- "If it holds one stamp twice, a look-up by stamp takes the first such entry"
 unfoldable pub find : ℕ → List Entry → Option Entry
@@ -51,18 +49,18 @@ abbrev pub voteIn : Option Entry → Vote
 voteIn none = unvoted
 voteIn (some e) = e .vote
 
-abbrev pub logIn : Option Entry → Option Decision
-logIn none = none
+abbrev pub logIn : Option Entry → Settled
+logIn none = unsettled
 logIn (some e) = e .log
 
 -- "An entry is live if it is decided commit, or undecided with vote commit or waiting"
-unfoldable pub liveBy : Option Decision → Vote → Bool
-liveBy (some commit) v = true
-liveBy (some abort) v = false
-liveBy none unvoted = false
-liveBy none waiting = true
-liveBy none voteCommit = true
-liveBy none (voteAbort r) = false
+unfoldable pub liveBy : Settled → Vote → Bool
+liveBy (settled commit) v = true
+liveBy (settled abort) v = false
+liveBy unsettled unvoted = false
+liveBy unsettled waiting = true
+liveBy unsettled voteCommit = true
+liveBy unsettled (voteAbort r) = false
 
 unfoldable pub live : Entry → Bool
 live e = liveBy (e .decided) (e .vote)

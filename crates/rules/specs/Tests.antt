@@ -9,13 +9,13 @@ use Rattle.terms.specs.Choice.{any, pick}
 use Rattle.records.specs.declared.Read.{Read}
 use Rattle.records.specs.Tx.{readKey, readVersion, writeKey}
 use Rattle.rules.specs.Answers.{Ahead, Dependency, NoVersion, Overwritten, ReadMark, Undercuts}
-use Rattle.rules.specs.Answers.{Decision, Vote, abort, commit, voteAbort, voteCommit, waiting}
+use Rattle.rules.specs.Answers.{Settled, Vote, abort, commit, settled, unsettled, voteAbort, voteCommit, waiting}
 use Rattle.rules.specs.Bodies.{Body, readsOf, stampOf, writesKey, writesOf}
-use Rattle.rules.specs.Table.{Box, Config, Entry, find, limit, live}
+use Rattle.rules.specs.Table.{Box, Told, Entry, find, limit, live}
 
 -- "1. stamp above clock + δ."
-unfoldable pub test1 : Config → Body → Bool
-test1 cf b = ltb (limit cf) (stampOf b)
+unfoldable pub test1 : Told → Body → Bool
+test1 told b = ltb (limit told) (stampOf b)
 
 -- "a live entry writing that key"
 unfoldable pub liveWriter : ℕ → Option Entry → Bool
@@ -47,10 +47,10 @@ pub data Status : Type 0 where
   bad pending fine : Status
 
 -- "any decided abort, or committed by a body that lacks the key"; "any undecided"
-unfoldable pub statusBy : Bool → Option Decision → Status
-statusBy w none = pending
-statusBy w (some abort) = bad
-statusBy w (some commit) = pick w fine bad
+unfoldable pub statusBy : Bool → Settled → Status
+statusBy w unsettled = pending
+statusBy w (settled abort) = bad
+statusBy w (settled commit) = pick w fine bad
 
 -- "or not held (only in a lent table)"
 unfoldable pub statusOf : ℕ → Option Entry → Status
@@ -78,9 +78,9 @@ waitingRule x b =
     (pick (any (λ r. isPending (status x r)) (readsOf b)) waiting voteCommit)
 
 -- "the first failing test gives an abort vote"; "Each test runs over all its keys before the next. If none fails .. the waiting rule runs."
-unfoldable pub firstVote : Config → Box → Body → Vote
-firstVote cf x b =
-    pick (test1 cf b) (voteAbort Ahead)
+unfoldable pub firstVote : Told → Box → Body → Vote
+firstVote told x b =
+    pick (test1 told b) (voteAbort Ahead)
     (pick (test2 x b) (voteAbort NoVersion)
     (pick (test3 x b) (voteAbort Overwritten)
     (pick (test4 x b) (voteAbort Undercuts)

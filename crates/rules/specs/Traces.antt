@@ -5,50 +5,60 @@ use mathlib.Core.Path.{_≡_}
 use mathlib.Core.List.{List, [], _∷_, _++_, List·Memᴰ as In}
 use lib.Dec.{T, eqb}
 use Rattle.terms.specs.Group.{abortProof}
-use Rattle.terms.specs.declared.Refusal.the-variants.{Order}
+use Rattle.terms.specs.declared.Refusal.the-variants.{Mark as OtherMark, Order}
+use Rattle.records.specs.declared.Marked.the-variants.{Is}
+use Rattle.records.specs.declared.Mark.the-variants.{PR as markedPR, LG as markedLG, DC as markedDC, RD as markedRD}
 use Rattle.records.specs.declared.Pair.{Pair}
 use Rattle.records.specs.Tx.{Tx, txBytes}
 use Rattle.records.specs.Vl.{Vl}
 use Rattle.records.specs.Contents.{listWrong}
-use Rattle.records.specs.Writing.{dcBytes, lgBytes}
 use Rattle.rules.specs.Answers.{Decision, Kind, Refused, abort, commit, logs, votes}
 use Rattle.rules.specs.Bodies.{Body}
 use Rattle.rules.specs.Lists.{kindOf, meets}
+use Rattle.rules.specs.Act.{EntryPoint, receive, due}
 use Rattle.rules.specs.System.{Backed, Event, Fair, Proof, Safe, answerTo}
-use Rattle.rules.specs.Cases.{DC, PR, RD, list, pairs, read, reads, tx, write, writes}
+use Rattle.rules.specs.Cases.{DC, PR, RD, dc, lg, list, pairs, read, reads, tx, write, writes}
 
 -- f = 1, and box 5 of the six lies
 unfoldable pub liar : ℕ → Bool
 liar i = eqb i 5
 
--- a message for one box; the same for n boxes from i on
-unfoldable pub at : ℕ → List ℕ → Event
-at i m = record { box = i; capacity = 8; clock = 100; delta = 10; message = m }
+-- a message for one box, by an entry point; the same for n boxes from i on
+unfoldable pub at : EntryPoint → ℕ → List ℕ → Event
+at way i m = record { box = i; entry = way; capacity = 8; clock = 100; delta = 10; message = m }
 
-unfoldable pub each : ℕ → ℕ → List ℕ → List Event → List Event
-each i zero m es = es
-each i (suc n) m es = at (i + n) m ∷ each i n m es
+unfoldable pub each : EntryPoint → ℕ → ℕ → List ℕ → List Event → List Event
+each way i zero m es = es
+each way i (suc n) m es = at way (i + n) m ∷ each way i n m es
 
 -- n answers from box i on, and the liar's
 unfoldable pub withLiar : ℕ → ℕ → Decision → List Pair
 withLiar i n d = pairs i n d ++ pairs 5 1 d
 
 -- ---- a busy trace. 50 writes key 3 and commits; 60, which reads it there, commits; 55, which would write under that read, aborts by votes;
--- box 4 has key 4 read at 80 and votes abort on 70, so that 70 commits by logs only. The liar stands on both sides of 70, and in every list
+-- box 4 has key 4 read at 80 and votes abort on 70, so that 70 commits by logs only. The liar stands on both sides of 70, and in every list.
+-- Every entry point is called; where box 0 is due an LG it gets a PR and refuses it
+unfoldable pub busyFirst : List Event
+busyFirst = at (due (Is markedLG)) 0 (PR (writes 50 3)) ∷ each (due (Is markedPR)) 0 4 (PR (writes 50 3)) []
+
+unfoldable pub busyThen : List Event → List Event
+busyThen before =
+    each (due (Is markedDC)) 0 5 (dc (writes 70 4) (list logs commit (withLiar 0 4 commit)))
+    (each receive 4 1 (lg (writes 70 4) (list votes abort (withLiar 4 1 abort)))
+    (each (due (Is markedLG)) 0 4 (lg (writes 70 4) (list votes commit (withLiar 0 4 commit)))
+    (each receive 0 5 (PR (writes 70 4))
+    (each (due (Is markedRD)) 4 1 (RD 4 80)
+    (each (due (Is markedPR)) 0 5 (PR (writes 55 3))
+    (each receive 0 5 (PR (reads 60 3 50))
+    (each receive 0 5 (dc (writes 50 3) (list votes commit (withLiar 0 5 commit)))
+    (each receive 4 1 (PR (writes 50 3)) before))))))))
+
 unfoldable pub busy : List Event
-busy =
-    each 0 5 (dcBytes (writes 70 4) (list logs commit (withLiar 0 4 commit)))
-    (each 4 1 (lgBytes (writes 70 4) (list votes abort (withLiar 4 1 abort)))
-    (each 0 4 (lgBytes (writes 70 4) (list votes commit (withLiar 0 4 commit)))
-    (each 0 5 (PR (writes 70 4))
-    (each 4 1 (RD 4 80)
-    (each 0 5 (PR (writes 55 3))
-    (each 0 5 (PR (reads 60 3 50))
-    (each 0 5 (dcBytes (writes 50 3) (list votes commit (withLiar 0 5 commit)))
-    (each 0 5 (PR (writes 50 3)) []))))))))
+busy = busyThen busyFirst
 
 pub record Busy : Type 0 where
   pub fair : Fair 1 liar busy
+  pub other-mark : answerTo 1 (at (due (Is markedLG)) 0 (PR (writes 50 3))) (each (due (Is markedPR)) 0 4 (PR (writes 50 3)) []) ≡ Refused OtherMark
   pub writer-commits : Proof 1 liar busy (txBytes (writes 50 3)) commit
   pub reader-commits : Proof 1 liar busy (txBytes (reads 60 3 50)) commit
   pub other-aborts : Proof 1 liar busy (txBytes (writes 55 3)) abort
@@ -72,11 +82,11 @@ doubled = list votes abort (pairs 3 3 abort ++ pairs 5 1 abort)
 -- all five log commit, on the votes of 0, 1, 2 and the liar
 unfoldable pub incident : List Event
 incident =
-    each 0 5 (lgBytes correction (list votes commit (withLiar 0 3 commit)))
-    (each 0 5 (PR correction)
-    (each 3 2 (RD 1 70)
-    (each 0 5 (DC passage votes commit 6)
-    (each 0 5 (PR passage) []))))
+    each receive 0 5 (lg correction (list votes commit (withLiar 0 3 commit)))
+    (each receive 0 5 (PR correction)
+    (each receive 3 2 (RD 1 70)
+    (each receive 0 5 (DC passage votes commit 6)
+    (each receive 0 5 (PR passage) []))))
 
 pub record Incident : Type 0 where
   pub fair : Fair 1 liar incident
@@ -85,7 +95,7 @@ pub record Incident : Type 0 where
   pub backed : Backed 1 liar incident (txBytes correction) doubled
   -- but it names a box twice, and a box that gets it refuses it
   pub unformed : listWrong 1 doubled ≡ 6
-  pub refused : answerTo 1 (at 0 (dcBytes correction doubled)) incident ≡ Refused Order
+  pub refused : answerTo 1 (at receive 0 (dc correction doubled)) incident ≡ Refused Order
   -- so the correction has a commit proof and no abort proof
   pub commits : Proof 1 liar incident (txBytes correction) commit
   pub never-both : Proof 1 liar incident (txBytes correction) abort → ⊥

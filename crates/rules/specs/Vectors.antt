@@ -2,31 +2,29 @@
 use Prim.Native.Nat.{ℕ}
 use mathlib.Core.Path.{_≡_}
 use mathlib.Core.List.{List, [], _∷_, _++_, map}
-use mathlib.Core.Option.{Option, some, none}
 use lib.ListN.{replicate}
 use Rattle.terms.specs.declared.Refusal.the-variants.{Ahead as AheadOfClock, Code, Contradiction, Full, Group, Mark, Order, OtherBody}
 use Rattle.terms.specs.declared.Refusal.the-variants.{Short, TooFew, Trailing, Unknown}
 use Rattle.records.specs.Tx.{Tx, txBytes}
-use Rattle.records.specs.Writing.{lgBytes, dcBytes}
-use Rattle.rules.specs.Answers.{Answer, Decided, Decision, Done, Found, Logged, Refused, Vote, abort, commit, logs, unvoted, votes, waiting}
+use Rattle.rules.specs.Answers.{Answer, Decided, Done, Logged, Refused, Settled, Vote, abort, commit, logs, settled, unsettled, unvoted, votes, waiting}
 use Rattle.rules.specs.Answers.{Ahead, Dependency, NoVersion, Overwritten, ReadMark, Undercuts, voteAbort, voteCommit}
-use Rattle.rules.specs.Table.{Box, Config, Entry, empty}
-use Rattle.rules.specs.Act.{after}
-use Rattle.rules.specs.Cases.{Case, DC, LG, PR, RD, aborts, case, commits, due, given, line, list, pairs, read, reads, tx, waits, write, writes}
+use Rattle.rules.specs.Table.{Box, Told, Entry, empty}
+use Rattle.rules.specs.Act.{after, receive}
+use Rattle.rules.specs.Cases.{Case, DC, LG, PR, RD, aborts, case, commits, dc, due, found, given, lg, line, list, pairs, read, reads, tx, waits, write, writes}
 
 -- with another f or capacity; from a table that is lent
-unfoldable pub told : ℕ → ℕ → List (List ℕ) → List Answer → Case
-told f capacity sent due =
-    record { config = record { f = f; capacity = capacity; clock = 100; delta = 10 }; start = empty; sent = sent; due = due }
+unfoldable pub group : ℕ → ℕ → List (List ℕ) → List Answer → Case
+group f capacity sent due =
+    record { told = record { f = f; capacity = capacity; clock = 100; delta = 10 }; start = empty; sent = sent; due = due }
 
 -- entries, and the read mark of key 0
-unfoldable pub box : List Entry → ℕ → Box
-box table mark = record { table = table; marks = mark ∷ replicate 511 0 }
+unfoldable pub marked : List Entry → ℕ → Box
+marked table mark = record { table = table; marks = mark ∷ replicate 511 0 }
 
 unfoldable pub lent : List Entry → List (List ℕ) → List Answer → Case
-lent table sent due = record { config = line; start = box table 0; sent = sent; due = due }
+lent table sent due = record { told = line; start = marked table 0; sent = sent; due = due }
 
-unfoldable pub entry : Tx → Vote → Option Decision → Option Decision → Entry
+unfoldable pub entry : Tx → Vote → Settled → Settled → Entry
 entry t v log decided = record { body = txBytes t; vote = v; log = log; decided = decided }
 
 unfoldable pub zeros : ℕ → List ℕ
@@ -40,7 +38,7 @@ inHex =
     ∷ (80 ∷ 82 ∷ 84 ∷ 88 ∷ 1 ∷ 0 ∷ 60 ∷ (zeros 7 ++ (3 ∷ 0 ∷ 50 ∷ zeros 7)))
     ∷ (82 ∷ 68 ∷ 3 ∷ 0 ∷ 60 ∷ zeros 7)
     ∷ [])
-    (commits ∷ waits ∷ Found 0 0 50 7 ∷ [])
+    (commits ∷ waits ∷ found 0 0 50 7 ∷ [])
     ∷ []
 
 -- the five thresholds, each from both sides, with f = 1 and with f = 5
@@ -52,23 +50,23 @@ thresholds =
     ∷ case (DC (writes 50 3) votes abort 3 ∷ DC (writes 50 3) votes abort 4 ∷ []) (Refused TooFew ∷ Done ∷ [])
     ∷ case (DC (writes 50 3) logs commit 4 ∷ DC (writes 50 3) logs commit 5 ∷ []) (Refused TooFew ∷ Done ∷ [])
     ∷ case (DC (writes 50 3) logs abort 4 ∷ DC (writes 50 3) logs abort 5 ∷ []) (Refused TooFew ∷ Done ∷ [])
-    ∷ told 5 8 (PR (writes 50 3) ∷ LG (writes 50 3) commit 15 ∷ LG (writes 50 3) commit 16 ∷ []) (commits ∷ Refused TooFew ∷ Logged commit ∷ [])
-    ∷ told 5 8 (PR (writes 50 3) ∷ LG (writes 50 3) abort 5 ∷ LG (writes 50 3) abort 6 ∷ []) (commits ∷ Refused TooFew ∷ Logged abort ∷ [])
-    ∷ told 5 8 (DC (writes 50 3) votes commit 25 ∷ DC (writes 50 3) votes commit 26 ∷ []) (Refused TooFew ∷ Done ∷ [])
-    ∷ told 5 8 (DC (writes 50 3) votes abort 15 ∷ DC (writes 50 3) votes abort 16 ∷ []) (Refused TooFew ∷ Done ∷ [])
-    ∷ told 5 8 (DC (writes 50 3) logs commit 20 ∷ DC (writes 50 3) logs commit 21 ∷ []) (Refused TooFew ∷ Done ∷ [])
-    ∷ told 5 8 (DC (writes 50 3) logs abort 20 ∷ DC (writes 50 3) logs abort 21 ∷ []) (Refused TooFew ∷ Done ∷ [])
+    ∷ group 5 8 (PR (writes 50 3) ∷ LG (writes 50 3) commit 15 ∷ LG (writes 50 3) commit 16 ∷ []) (commits ∷ Refused TooFew ∷ Logged commit ∷ [])
+    ∷ group 5 8 (PR (writes 50 3) ∷ LG (writes 50 3) abort 5 ∷ LG (writes 50 3) abort 6 ∷ []) (commits ∷ Refused TooFew ∷ Logged abort ∷ [])
+    ∷ group 5 8 (DC (writes 50 3) votes commit 25 ∷ DC (writes 50 3) votes commit 26 ∷ []) (Refused TooFew ∷ Done ∷ [])
+    ∷ group 5 8 (DC (writes 50 3) votes abort 15 ∷ DC (writes 50 3) votes abort 16 ∷ []) (Refused TooFew ∷ Done ∷ [])
+    ∷ group 5 8 (DC (writes 50 3) logs commit 20 ∷ DC (writes 50 3) logs commit 21 ∷ []) (Refused TooFew ∷ Done ∷ [])
+    ∷ group 5 8 (DC (writes 50 3) logs abort 20 ∷ DC (writes 50 3) logs abort 21 ∷ []) (Refused TooFew ∷ Done ∷ [])
     ∷ []
 
 -- a list
 unfoldable pub lists : List Case
 lists =
     -- "only entries with that answer are counted"
-    case (dcBytes (writes 50 3) (list votes commit (pairs 0 5 commit ++ pairs 5 1 abort)) ∷ []) (Refused TooFew ∷ [])
+    case (dc (writes 50 3) (list votes commit (pairs 0 5 commit ++ pairs 5 1 abort)) ∷ []) (Refused TooFew ∷ [])
     -- "13. A list naming box 2 twice: 6."
-    ∷ case (dcBytes (writes 50 3) (list votes abort (pairs 0 3 abort ++ pairs 2 1 abort)) ∷ []) (Refused Order ∷ [])
+    ∷ case (dc (writes 50 3) (list votes abort (pairs 0 3 abort ++ pairs 2 1 abort)) ∷ []) (Refused Order ∷ [])
     -- "kind 2 in an LG"
-    ∷ case (PR (writes 50 3) ∷ lgBytes (writes 50 3) (list logs commit (pairs 0 5 commit)) ∷ []) (commits ∷ Refused Code ∷ [])
+    ∷ case (PR (writes 50 3) ∷ lg (writes 50 3) (list logs commit (pairs 0 5 commit)) ∷ []) (commits ∷ Refused Code ∷ [])
     ∷ []
 
 -- "Each test runs over all its keys before the next.": of two that fail the first gives the reason, whatever the order of the keys
@@ -79,7 +77,7 @@ orders =
     ∷ case (PR (writes 50 3) ∷ PR (tx 60 (read 3 0 ∷ read 4 40 ∷ []) []) ∷ []) (commits ∷ aborts NoVersion ∷ [])
     ∷ case (PR (writes 50 4) ∷ PR (tx 60 (read 3 40 ∷ read 4 0 ∷ []) []) ∷ []) (commits ∷ aborts NoVersion ∷ [])
     ∷ case (PR (writes 50 3) ∷ PR (reads 70 4 0) ∷ PR (tx 60 (read 3 0 ∷ []) (write 4 7 ∷ [])) ∷ []) (commits ∷ commits ∷ aborts Overwritten ∷ [])
-    ∷ case (PR (reads 70 4 0) ∷ RD 3 80 ∷ PR (tx 60 [] (write 3 7 ∷ write 4 7 ∷ [])) ∷ []) (commits ∷ Found 0 0 0 0 ∷ aborts Undercuts ∷ [])
+    ∷ case (PR (reads 70 4 0) ∷ RD 3 80 ∷ PR (tx 60 [] (write 3 7 ∷ write 4 7 ∷ [])) ∷ []) (commits ∷ found 0 0 0 0 ∷ aborts Undercuts ∷ [])
     ∷ []
 
 -- 60 reads key 3 at 50 and key 4 at 51
@@ -101,7 +99,7 @@ waitings =
     ∷ case
     (PR (writes 50 3) ∷ PR (tx 60 (read 3 50 ∷ []) (write 4 7 ∷ [])) ∷ RD 4 70 ∷ DC (writes 50 3) votes commit 6
     ∷ PR (tx 60 (read 3 50 ∷ []) (write 4 7 ∷ [])) ∷ [])
-    (commits ∷ waits ∷ Found 0 0 60 7 ∷ Done ∷ commits ∷ [])
+    (commits ∷ waits ∷ found 0 0 60 7 ∷ Done ∷ commits ∷ [])
     -- "Deciding a wait by stamp alone after the body under it was replaced."
     ∷ case (PR (writes 50 3) ∷ PR (reads 60 3 50) ∷ DC (writes 50 4) votes commit 6 ∷ PR (reads 60 3 50) ∷ [])
     (commits ∷ waits ∷ Done ∷ aborts Dependency ∷ [])
@@ -115,7 +113,7 @@ unfoldable pub helds : List Case
 helds =
     -- "vote cast, the same vote again", though the tests would say otherwise now
     case (PR (reads 60 3 40) ∷ PR (writes 40 3) ∷ PR (reads 60 3 40) ∷ []) (aborts NoVersion ∷ commits ∷ aborts NoVersion ∷ [])
-    ∷ case (PR (writes 60 3) ∷ RD 3 70 ∷ PR (writes 60 3) ∷ []) (commits ∷ Found 0 0 60 7 ∷ commits ∷ [])
+    ∷ case (PR (writes 60 3) ∷ RD 3 70 ∷ PR (writes 60 3) ∷ []) (commits ∷ found 0 0 60 7 ∷ commits ∷ [])
     -- another body, undecided: 9 of PR, LG and an abort DC
     ∷ case (PR (writes 50 3) ∷ PR (writes 50 3) ∷ PR (writes 50 4) ∷ LG (writes 50 4) commit 4 ∷ DC (writes 50 4) votes abort 4 ∷ PR (writes 50 3) ∷ [])
     (commits ∷ commits ∷ Refused OtherBody ∷ Refused OtherBody ∷ Refused OtherBody ∷ commits ∷ [])
@@ -136,7 +134,7 @@ helds =
     ∷ case (LG (writes 50 3) commit 4 ∷ []) (Refused Unknown ∷ [])
     ∷ case (PR (reads 60 3 40) ∷ LG (reads 60 3 40) commit 4 ∷ PR (reads 60 3 40) ∷ []) (aborts NoVersion ∷ Logged commit ∷ aborts NoVersion ∷ [])
     -- 13, before the tests; a body that replaces another needs no room
-    ∷ told 1 1 (PR (writes 50 3) ∷ PR (writes 111 3) ∷ DC (writes 60 3) votes commit 6 ∷ DC (writes 50 4) votes commit 6 ∷ [])
+    ∷ group 1 1 (PR (writes 50 3) ∷ PR (writes 111 3) ∷ DC (writes 60 3) votes commit 6 ∷ DC (writes 50 4) votes commit 6 ∷ [])
     (commits ∷ Refused Full ∷ Refused Full ∷ Done ∷ [])
     ∷ []
 
@@ -146,21 +144,21 @@ lookings =
     -- "highest stamp strictly below", each half by itself; an aborted one is in neither
     case
     (DC (tx 50 [] (write 3 8 ∷ [])) votes commit 6 ∷ PR (writes 60 3) ∷ DC (writes 55 3) votes abort 4 ∷ RD 3 50 ∷ RD 3 51 ∷ RD 3 61 ∷ RD 4 61 ∷ [])
-    (Done ∷ commits ∷ Done ∷ Found 0 0 0 0 ∷ Found 50 8 0 0 ∷ Found 50 8 60 7 ∷ Found 0 0 0 0 ∷ [])
+    (Done ∷ commits ∷ Done ∷ found 0 0 0 0 ∷ found 50 8 0 0 ∷ found 50 8 60 7 ∷ found 0 0 0 0 ∷ [])
     -- 15 raises no mark; a mark never falls
     ∷ case (RD 3 111 ∷ PR (writes 105 3) ∷ RD 3 110 ∷ PR (writes 106 3) ∷ [])
-    (Refused AheadOfClock ∷ commits ∷ Found 0 0 105 7 ∷ aborts ReadMark ∷ [])
-    ∷ case (RD 3 70 ∷ RD 3 60 ∷ PR (writes 65 3) ∷ []) (Found 0 0 0 0 ∷ Found 0 0 0 0 ∷ aborts ReadMark ∷ [])
+    (Refused AheadOfClock ∷ commits ∷ found 0 0 105 7 ∷ aborts ReadMark ∷ [])
+    ∷ case (RD 3 70 ∷ RD 3 60 ∷ PR (writes 65 3) ∷ []) (found 0 0 0 0 ∷ found 0 0 0 0 ∷ aborts ReadMark ∷ [])
     ∷ []
 
 -- 14 before any byte of the message; then 1, 2 and 4
 unfoldable pub refusals : List Case
 refusals =
-    told 0 8 ([] ∷ []) (Refused Group ∷ [])
-    ∷ told 6 8 ([] ∷ []) (Refused Group ∷ [])
-    ∷ told 1 0 ([] ∷ []) (Refused Group ∷ [])
-    ∷ told 1 256 ([] ∷ []) (Refused Group ∷ [])
-    ∷ told 5 255 ([] ∷ (80 ∷ []) ∷ txBytes (writes 50 3) ∷ (PR (writes 50 3) ++ (0 ∷ [])) ∷ [])
+    group 0 8 ([] ∷ []) (Refused Group ∷ [])
+    ∷ group 6 8 ([] ∷ []) (Refused Group ∷ [])
+    ∷ group 1 0 ([] ∷ []) (Refused Group ∷ [])
+    ∷ group 1 256 ([] ∷ []) (Refused Group ∷ [])
+    ∷ group 5 255 ([] ∷ (80 ∷ []) ∷ txBytes (writes 50 3) ∷ (PR (writes 50 3) ++ (0 ∷ [])) ∷ [])
     (Refused Short ∷ Refused Short ∷ Refused Mark ∷ Refused Trailing ∷ [])
     ∷ []
 
@@ -168,28 +166,28 @@ refusals =
 unfoldable pub lents : List Case
 lents =
     -- "If it holds one stamp twice, a look-up by stamp takes the first such entry, tests 3 and 4 look at every entry"
-    lent (entry (writes 50 4) voteCommit none none ∷ entry (writes 50 3) voteCommit none none ∷ []) (PR (writes 50 3) ∷ PR (reads 60 3 0) ∷ [])
+    lent (entry (writes 50 4) voteCommit unsettled unsettled ∷ entry (writes 50 3) voteCommit unsettled unsettled ∷ []) (PR (writes 50 3) ∷ PR (reads 60 3 0) ∷ [])
     (Refused OtherBody ∷ aborts Overwritten ∷ [])
-    ∷ lent (entry (reads 60 4 0) voteCommit none none ∷ entry (reads 60 3 0) voteCommit none none ∷ []) (PR (writes 50 3) ∷ [])
+    ∷ lent (entry (reads 60 4 0) voteCommit unsettled unsettled ∷ entry (reads 60 3 0) voteCommit unsettled unsettled ∷ []) (PR (writes 50 3) ∷ [])
     (aborts Undercuts ∷ [])
     -- "undecided with vote none (only in a lent table), the tests as if new, in its place": its log stays
-    ∷ lent (entry (writes 50 3) unvoted (some commit) none ∷ []) (PR (writes 50 3) ∷ LG (writes 50 3) abort 1 ∷ []) (commits ∷ Logged commit ∷ [])
+    ∷ lent (entry (writes 50 3) unvoted (settled commit) unsettled ∷ []) (PR (writes 50 3) ∷ LG (writes 50 3) abort 1 ∷ []) (commits ∷ Logged commit ∷ [])
     -- "or not held (only in a lent table)"
-    ∷ lent (entry (reads 60 3 50) waiting none none ∷ []) (PR (reads 60 3 50) ∷ []) (aborts Dependency ∷ [])
+    ∷ lent (entry (reads 60 3 50) waiting unsettled unsettled ∷ []) (PR (reads 60 3 50) ∷ []) (aborts Dependency ∷ [])
     -- "committed by a body that lacks the key"; "any undecided: wait", whether it lacks the key or not
-    ∷ lent (entry (writes 50 4) unvoted none (some commit) ∷ entry (reads 60 3 50) waiting none none ∷ []) (PR (reads 60 3 50) ∷ [])
+    ∷ lent (entry (writes 50 4) unvoted unsettled (settled commit) ∷ entry (reads 60 3 50) waiting unsettled unsettled ∷ []) (PR (reads 60 3 50) ∷ [])
     (aborts Dependency ∷ [])
-    ∷ lent (entry (writes 50 4) voteCommit none none ∷ entry (reads 60 3 50) waiting none none ∷ []) (PR (reads 60 3 50) ∷ []) (waits ∷ [])
+    ∷ lent (entry (writes 50 4) voteCommit unsettled unsettled ∷ entry (reads 60 3 50) waiting unsettled unsettled ∷ []) (PR (reads 60 3 50) ∷ []) (waits ∷ [])
     -- "A version on which this box itself voted abort but which is undecided is still waited for."; a new reader of it fails test 2
-    ∷ lent (entry (writes 50 3) (voteAbort ReadMark) none none ∷ entry (reads 60 3 50) waiting none none ∷ [])
+    ∷ lent (entry (writes 50 3) (voteAbort ReadMark) unsettled unsettled ∷ entry (reads 60 3 50) waiting unsettled unsettled ∷ [])
     (PR (reads 60 3 50) ∷ PR (reads 70 3 50) ∷ [])
     (waits ∷ aborts NoVersion ∷ [])
     -- test 4: "at a version below this stamp", so not at this stamp
-    ∷ lent (entry (reads 60 3 50) voteCommit none none ∷ []) (PR (writes 50 3) ∷ []) (commits ∷ [])
+    ∷ lent (entry (reads 60 3 50) voteCommit unsettled unsettled ∷ []) (PR (writes 50 3) ∷ []) (commits ∷ [])
     -- "RD takes the first among equals, in an entry the first write of the key"
-    ∷ lent (entry (tx 50 [] (write 3 8 ∷ write 3 9 ∷ [])) unvoted none (some commit) ∷ entry (writes 50 3) unvoted none (some commit) ∷ [])
+    ∷ lent (entry (tx 50 [] (write 3 8 ∷ write 3 9 ∷ [])) unvoted unsettled (settled commit) ∷ entry (writes 50 3) unvoted unsettled (settled commit) ∷ [])
     (RD 3 60 ∷ [])
-    (Found 50 8 0 0 ∷ [])
+    (found 50 8 0 0 ∷ [])
     ∷ []
 
 unfoldable pub further : List Case
@@ -208,42 +206,42 @@ pub record Storing : Type 0 where
 unfoldable pub stores : List Entry → List (List ℕ) → List Entry → ℕ → Storing
 stores start sent table mark = record { start = start; sent = sent; table = table; mark = mark }
 
-unfoldable pub run : Config → Box → List (List ℕ) → Box
-run cf x [] = x
-run cf x (m ∷ ms) = run cf (after cf x m) ms
+unfoldable pub run : Told → Box → List (List ℕ) → Box
+run told x [] = x
+run told x (m ∷ ms) = run told (after receive told x m) ms
 
 unfoldable pub held : Storing → Box
-held c = run line (box (c .start) 0) (c .sent)
+held c = run line (marked (c .start) 0) (c .sent)
 
 unfoldable pub wanted : Storing → Box
-wanted c = box (c .table) (c .mark)
+wanted c = marked (c .table) (c .mark)
 
 unfoldable pub storings : List Storing
 storings =
     -- a vote is stored behind the others, and changed in its place
     stores []
     (PR (writes 50 3) ∷ PR (reads 60 3 50) ∷ PR (writes 70 3) ∷ DC (writes 50 3) votes commit 6 ∷ PR (reads 60 3 50) ∷ [])
-    (entry (writes 50 3) voteCommit none (some commit) ∷ entry (reads 60 3 50) voteCommit none none ∷ entry (writes 70 3) voteCommit none none ∷ [])
+    (entry (writes 50 3) voteCommit unsettled (settled commit) ∷ entry (reads 60 3 50) voteCommit unsettled unsettled ∷ entry (writes 70 3) voteCommit unsettled unsettled ∷ [])
     0
     -- "An abort vote carries one of six reasons, and it is stored."; a log stands beside it
-    ∷ stores [] (PR (reads 60 3 40) ∷ LG (reads 60 3 40) abort 2 ∷ []) (entry (reads 60 3 40) (voteAbort NoVersion) (some abort) none ∷ []) 0
+    ∷ stores [] (PR (reads 60 3 40) ∷ LG (reads 60 3 40) abort 2 ∷ []) (entry (reads 60 3 40) (voteAbort NoVersion) (settled abort) unsettled ∷ []) 0
     -- "a new entry with vote none and this decision"
-    ∷ stores [] (DC (writes 50 3) votes abort 4 ∷ []) (entry (writes 50 3) unvoted none (some abort) ∷ []) 0
+    ∷ stores [] (DC (writes 50 3) votes abort 4 ∷ []) (entry (writes 50 3) unvoted unsettled (settled abort) ∷ []) 0
     -- "the new body replaces it, vote and log become none, decision commit"
     ∷ stores [] (PR (writes 50 3) ∷ LG (writes 50 3) commit 4 ∷ PR (writes 60 3) ∷ DC (writes 50 4) votes commit 6 ∷ [])
-    (entry (writes 50 4) unvoted none (some commit) ∷ entry (writes 60 3) voteCommit none none ∷ [])
+    (entry (writes 50 4) unvoted unsettled (settled commit) ∷ entry (writes 60 3) voteCommit unsettled unsettled ∷ [])
     0
     -- "undecided takes it", with its vote and its log; "equal decision changes nothing"; nor does a refusal
     ∷ stores []
     (PR (writes 50 3) ∷ LG (writes 50 3) commit 4 ∷ DC (writes 50 3) votes abort 4 ∷ DC (writes 50 3) logs abort 5
     ∷ DC (writes 50 3) votes commit 6 ∷ [])
-    (entry (writes 50 3) voteCommit (some commit) (some abort) ∷ [])
+    (entry (writes 50 3) voteCommit (settled commit) (settled abort) ∷ [])
     0
     -- "Raises the key's read mark to the stamp if it is lower."
     ∷ stores [] (RD 0 60 ∷ RD 0 50 ∷ RD 0 111 ∷ []) [] 60
     -- "in its place": only the vote changes
-    ∷ stores (entry (writes 50 3) unvoted (some commit) none ∷ entry (writes 60 4) unvoted none none ∷ []) (PR (writes 50 3) ∷ [])
-    (entry (writes 50 3) voteCommit (some commit) none ∷ entry (writes 60 4) unvoted none none ∷ [])
+    ∷ stores (entry (writes 50 3) unvoted (settled commit) unsettled ∷ entry (writes 60 4) unvoted unsettled unsettled ∷ []) (PR (writes 50 3) ∷ [])
+    (entry (writes 50 3) voteCommit (settled commit) unsettled ∷ entry (writes 60 4) unvoted unsettled unsettled ∷ [])
     0
     ∷ []
 

@@ -1,5 +1,5 @@
 pub mod Outcomes
 pub mod Waiting
-pub mod Newer
+pub mod Written
 pub mod Naming
 pub mod Skipping

@@ -10,16 +10,17 @@ use borrow.Author.Tests.{eq-eqb, ne-eqb}
 use lib.Dec.{eqb}
 use lib.ListN.{getD}
 use Rattle.terms.specs.Choice.{pick, tab, any}
-use Rattle.terms.specs.declared.Decision.{Decision}
 use Rattle.terms.specs.declared.Decision.the-variants.{Commit as commit, Abort as abort}
 use Rattle.records.specs.declared.Read.{Read}
 use Rattle.records.specs.Tx.{readKey, readVersion}
 use Rattle.rules.specs.declared.Vote.{Vote}
 use Rattle.rules.specs.declared.Vote.the-variants.{Waiting as waiting, Commit as voteCommit}
+use Rattle.rules.specs.declared.Settled.{Settled}
+use Rattle.rules.specs.declared.Settled.the-variants.{None as unsettled, Is as settled}
 use Rattle.rules.specs.Bodies.{Body, readsOf, writesKey}
 use Rattle.rules.specs.Table.{Entry, find, live, liveBy}
 use Rattle.rules.specs.Tests.{Status, bad, pending, fine, isBad, isPending, liveWriter, statusBy, statusOf, status, test2, waitingRule}
-use Rattle.table.specs.Table.{entryOf, decidedAt}
+use Rattle.table.specs.Table.{rowTx, entryOf, decidedAt}
 use Rattle.table.proofs.Bodies.{body-writes-key}
 use Rattle.scans.specs.Scans.{over, unnamed, namedBy, named, namedAll}
 use Rattle.scans.proofs.Outcomes.{any-clear}
@@ -36,11 +37,11 @@ module _ (k : ℕ) (r : List ℕ) where
   writer-dead d = rw d
 
   module _ (l : live (entryOf r) ≡ true) where
-    pub writer-lacks : writesKey r k ≡ false → 2 ≡ namedBy k (some (entryOf r))
+    pub writer-lacks : writesKey (rowTx r) k ≡ false → 2 ≡ namedBy k (some (entryOf r))
     unfolding namedBy liveWriter
     writer-lacks p = rw (l, body-writes-key r k, p)
 
-    module _ (p : writesKey r k ≡ true) where
+    module _ (p : writesKey (rowTx r) k ≡ true) where
       pub writer-committed : getD r decidedAt 0 ≡ 1 → 0 ≡ namedBy k (some (entryOf r))
       unfolding namedBy liveWriter statusOf statusBy
       writer-committed e = rw (l, body-writes-key r k, p, decided-as k r 1 e)
@@ -156,11 +157,11 @@ unfolding liveWriter statusOf statusBy live liveBy
 held-right k none q = absurd (false≢true q)
 held-right k (some e) q = by (e .decided) (e .vote) (writesKey (e .body) k) q
   where
-    by : (d : Option Decision) (v : Vote) (w : Bool) → (liveBy d v && w) ≡ true → isBad (statusBy w d) ≡ false
-    by none v w q = refl
-    by (some abort) v w q = absurd (false≢true q)
-    by (some commit) v true q = refl
-    by (some commit) v false q = absurd (false≢true q)
+    by : (d : Settled) (v : Vote) (w : Bool) → (liveBy d v && w) ≡ true → isBad (statusBy w d) ≡ false
+    by unsettled v w q = refl
+    by (settled abort) v w q = absurd (false≢true q)
+    by (settled commit) v true q = refl
+    by (settled commit) v false q = absurd (false≢true q)
 
 never-bad : (es : List Entry) (r : Read) → unnamed es r ≡ false → isBad (status (over es) r) ≡ false
 unfolding unnamed status

@@ -15,13 +15,14 @@ use Rattle.records.specs.Tx.{readKey, readVersion, writeKey}
 use Rattle.rules.specs.declared.Reason.the-variants.{Ahead, NoVersion, Overwritten, Undercuts, ReadMark}
 use Rattle.rules.specs.declared.Vote.the-variants.{Abort as voteAbort}
 use Rattle.rules.specs.Bodies.{Body, stampOf, readsOf, writesKey}
-use Rattle.rules.specs.Table.{Box, Config, Entry, find, live}
+use Rattle.rules.specs.declared.Told.{Told}
+use Rattle.rules.specs.Table.{Box, Entry, boxWith, find, limit, live}
 use Rattle.rules.specs.Tests.{test1, test2, test3, test4, test5, undercut, waitingRule, firstVote, status}
 use Rattle.rules.specs.Calls.{rdAnswer}
-use Rattle.table.specs.Table.{entryOf, entries, rowAt, place}
+use Rattle.table.specs.Table.{rowTx, entryOf, entries, rowAt, place}
 use Rattle.table.proofs.Bodies.{body-stamp, body-reads, body-writes-key}
 use Rattle.table.proofs.Looking.{find-some}
-use Rattle.scans.specs.Scans.{told, over, boxOf, older, below, hit3, hit4, marked}
+use Rattle.scans.specs.Scans.{over, older, below, hit3, hit4, marked}
 
 -- ---- whether some element passes
 module _ {A : Type 0} (p q : A → Bool) where
@@ -89,7 +90,7 @@ module _ (x : Box) (b : Body) where
   unfolding test4
   marks-4 = refl
 
-  pub marks-5 : test5 (boxOf [] (x .marks)) b ≡ test5 x b
+  pub marks-5 : test5 (boxWith [] (x .marks)) b ≡ test5 x b
   unfolding test5
   marks-5 = refl
 
@@ -97,32 +98,20 @@ module _ (x : Box) (b : Body) where
   unfolding waitingRule status
   marks-wait = refl
 
-  pub told-first : (cf : Config) → firstVote (told (cf .clock) (cf .delta)) x b ≡ firstVote cf x b
-  unfolding firstVote test1
-  told-first cf = refl
-
-pub told-1 : (b : Body) (cf : Config) → test1 (told (cf .clock) (cf .delta)) b ≡ test1 cf b
-unfolding test1
-told-1 b cf = refl
-
 pub marks-found : (x : Box) (k s : ℕ) → rdAnswer (over (x .table)) k s ≡ rdAnswer x k s
 unfolding rdAnswer
 marks-found x k s = refl
 
 -- ---- test 1
-module _ (s clock delta : ℕ) where
-  pub ahead-clock : s ≤ clock → false ≡ ltb (clock + delta) s
-  ahead-clock h = sym (le-ltb (clock + delta) s (omega arith))
+module _ (s : ℕ) (told : Told) where
+  pub ahead-clock : s ≤ told .clock → false ≡ ltb (limit told) s
+  ahead-clock h = sym (le-ltb (limit told) s (omega arith))
 
-  pub ahead-yes : delta < s - clock → true ≡ ltb (clock + delta) s
-  ahead-yes h = sym (lt-ltb (clock + delta) s (omega arith))
+  pub ahead-yes : told .delta < s - told .clock → true ≡ ltb (limit told) s
+  ahead-yes h = sym (lt-ltb (limit told) s (omega arith))
 
-  pub ahead-no : s - clock ≤ delta → false ≡ ltb (clock + delta) s
-  ahead-no h = sym (le-ltb (clock + delta) s (omega arith))
-
-pub test1-is : (b : Body) (clock delta : ℕ) {s : ℕ} {x : Bool} → s ≡ stampOf b → x ≡ ltb (clock + delta) s → x ≡ test1 (told clock delta) b
-unfolding test1
-test1-is b clock delta e p = p ∙ (rw e)
+  pub ahead-no : s - told .clock ≤ told .delta → false ≡ ltb (limit told) s
+  ahead-no h = sym (le-ltb (limit told) s (omega arith))
 
 -- ---- tests 3 and 4
 module _ (b : Body) (r : Read) where
@@ -167,33 +156,33 @@ module _ (a b : Body) where
       (λ r d. and-less (writesKey b (readKey r)) (ltb (readVersion r) (stampOf b)) (ltb (stampOf b) (stampOf a)) d) (readsOf a) e
 
 module _ (b : Body) (r : List ℕ) where
-  under-row : undercut b (entryOf r .body) ≡ undercut b r
+  under-row : undercut b (entryOf r .body) ≡ undercut b (rowTx r)
   unfolding undercut
   under-row =
-      any-same (λ p. asked b (entryOf r .body) (ltb (stampOf (entryOf r .body)) (stampOf b)) p) (λ p. asked b r (ltb (stampOf r) (stampOf b)) p)
+      any-same (λ p. asked b (entryOf r .body) (ltb (stampOf (entryOf r .body)) (stampOf b)) p) (λ p. asked b (rowTx r) (ltb (stampOf (rowTx r)) (stampOf b)) p)
       (λ p. rw (body-writes-key r (readKey p), body-stamp r)) (readsOf b)
 
-  row-under : undercut (entryOf r .body) b ≡ undercut r b
+  row-under : undercut (entryOf r .body) b ≡ undercut (rowTx r) b
   unfolding undercut
   row-under = rw (body-reads r, body-stamp r)
 
   module _ {w : Bool} (l : w ≡ live (entryOf r)) where
-    pub hit3-under : undercut b r ≡ true → w ≡ hit3 b (entryOf r)
+    pub hit3-under : undercut b (rowTx r) ≡ true → w ≡ hit3 b (entryOf r)
     unfolding hit3
     hit3-under d = rw (under-row, d, l) (and-yes (live (entryOf r)))
 
-    pub hit4-under : undercut r b ≡ true → w ≡ hit4 b (entryOf r)
+    pub hit4-under : undercut (rowTx r) b ≡ true → w ≡ hit4 b (entryOf r)
     unfolding hit4
     hit4-under d = rw (row-under, d, l) (and-yes (live (entryOf r)))
 
-  pub hit3-clear : undercut b r ≡ false → false ≡ hit3 b (entryOf r)
+  pub hit3-clear : undercut b (rowTx r) ≡ false → false ≡ hit3 b (entryOf r)
   unfolding hit3
   hit3-clear d = rw (under-row, d) (and-no (live (entryOf r)))
 
-  pub hit3-old : (low : ℕ) → any (older low) (readsOf b) ≡ false → stampOf r ≤ low → false ≡ hit3 b (entryOf r)
-  hit3-old low e h = hit3-clear (under-none b r (below-none b r low e h))
+  pub hit3-old : (low : ℕ) → any (older low) (readsOf b) ≡ false → stampOf (rowTx r) ≤ low → false ≡ hit3 b (entryOf r)
+  hit3-old low e h = hit3-clear (under-none b (rowTx r) (below-none b (rowTx r) low e h))
 
-  pub hit4-clear : undercut r b ≡ false → false ≡ hit4 b (entryOf r)
+  pub hit4-clear : undercut (rowTx r) b ≡ false → false ≡ hit4 b (entryOf r)
   unfolding hit4
   hit4-clear d = rw (row-under, d) (and-no (live (entryOf r)))
 
@@ -208,35 +197,35 @@ module _ (ms : List ℕ) (s : ℕ) (w : Write) {x : ℕ} (e : x ≡ getD ms (wri
   marked-no h = le-ltb s (getD ms (writeKey w) 0) (omega arith)
 
 -- ---- the first vote
-module _ (cf : Config) (es : List Entry) (ms : List ℕ) (b : Body) where
+module _ (told : Told) (es : List Entry) (ms : List ℕ) (b : Body) where
   abbrev box : Box
-  box = boxOf es ms
+  box = boxWith es ms
 
-  pub first-1 : test1 cf b ≡ true → voteAbort Ahead ≡ firstVote cf box b
+  pub first-1 : test1 told b ≡ true → voteAbort Ahead ≡ firstVote told box b
   unfolding firstVote
   first-1 a = rw a
 
-  module _ (a : test1 cf b ≡ false) where
-    pub first-2 : test2 (over es) b ≡ true → voteAbort NoVersion ≡ firstVote cf box b
+  module _ (a : test1 told b ≡ false) where
+    pub first-2 : test2 (over es) b ≡ true → voteAbort NoVersion ≡ firstVote told box b
     unfolding firstVote
     first-2 d = rw (a, sym (marks-2 box b) ∙ d)
 
     module _ (d : test2 (over es) b ≡ false) where
-      pub first-3 : test3 (over es) b ≡ true → voteAbort Overwritten ≡ firstVote cf box b
+      pub first-3 : test3 (over es) b ≡ true → voteAbort Overwritten ≡ firstVote told box b
       unfolding firstVote
       first-3 e = rw (a, sym (marks-2 box b) ∙ d, sym (marks-3 box b) ∙ e)
 
       module _ (e : test3 (over es) b ≡ false) where
-        pub first-4 : test4 (over es) b ≡ true → voteAbort Undercuts ≡ firstVote cf box b
+        pub first-4 : test4 (over es) b ≡ true → voteAbort Undercuts ≡ firstVote told box b
         unfolding firstVote
         first-4 f = rw (a, sym (marks-2 box b) ∙ d, sym (marks-3 box b) ∙ e, sym (marks-4 box b) ∙ f)
 
         module _ (f : test4 (over es) b ≡ false) where
-          pub first-5 : test5 (boxOf [] ms) b ≡ true → voteAbort ReadMark ≡ firstVote cf box b
+          pub first-5 : test5 (boxWith [] ms) b ≡ true → voteAbort ReadMark ≡ firstVote told box b
           unfolding firstVote
           first-5 g = rw (a, sym (marks-2 box b) ∙ d, sym (marks-3 box b) ∙ e, sym (marks-4 box b) ∙ f, sym (marks-5 box b) ∙ g)
 
-          pub first-6 : test5 (boxOf [] ms) b ≡ false → waitingRule (over es) b ≡ firstVote cf box b
+          pub first-6 : test5 (boxWith [] ms) b ≡ false → waitingRule (over es) b ≡ firstVote told box b
           unfolding firstVote
           first-6 g =
               rw (a, sym (marks-2 box b) ∙ d, sym (marks-3 box b) ∙ e, sym (marks-4 box b) ∙ f, sym (marks-5 box b) ∙ g)

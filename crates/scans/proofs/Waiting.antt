@@ -5,55 +5,56 @@ use native.Mathlib.Nat.{sub-zero}
 use mathlib.Core.Path.{_≡_, refl, sym, _∙_}
 use mathlib.Core.List.{List, _∷_}
 use mathlib.Core.Bool.{Bool, true, false, _||_}
-use mathlib.Core.Option.{Option, some, none}
+use mathlib.Core.Option.{some, none}
 use borrow.Author.Tests.{eq-eqb, ne-eqb}
 use lib.Dec.{eqb}
 use lib.ListN.{getD}
 use Rattle.terms.specs.Choice.{pick, tab, any}
-use Rattle.terms.specs.declared.Decision.{Decision}
 use Rattle.terms.specs.declared.Decision.the-variants.{Commit as commit, Abort as abort}
 use Rattle.records.specs.declared.Read.{Read}
 use Rattle.records.specs.Tx.{readKey, readVersion}
 use Rattle.rules.specs.declared.Reason.the-variants.{Dependency}
 use Rattle.rules.specs.declared.Vote.{Vote}
 use Rattle.rules.specs.declared.Vote.the-variants.{Waiting as waiting, Commit as voteCommit, Abort as voteAbort}
+use Rattle.rules.specs.declared.Settled.{Settled}
+use Rattle.rules.specs.declared.Settled.the-variants.{None as unsettled, Is as settled}
 use Rattle.rules.specs.Bodies.{writesKey}
 use Rattle.rules.specs.Table.{Entry, find}
 use Rattle.rules.specs.Tests.{Status, bad, pending, fine, isBad, isPending, statusBy, statusOf, status}
-use Rattle.table.specs.Table.{entryOf, decidedAt, settledOf}
+use Rattle.table.specs.Table.{rowTx, stateAt, entryWith, entryOf, decidedAt, settledOf}
 use Rattle.table.proofs.Bodies.{body-writes-key}
 use Rattle.scans.specs.Scans.{over, statusNumber, waitBy}
 
 -- ---- one version read
 module _ (k : ℕ) (r : List ℕ) where
-  by-codes : (w : Bool) (d : Option Decision) → entryOf r .decided ≡ d → writesKey r k ≡ w → statusNumber (statusBy w d) ≡ statusNumber (statusOf k (some (entryOf r)))
+  by-codes : (w : Bool) (d : Settled) → entryOf r .decided ≡ d → writesKey (rowTx r) k ≡ w → statusNumber (statusBy w d) ≡ statusNumber (statusOf k (some (entryOf r)))
   unfolding statusOf
   by-codes w d e p = rw (body-writes-key r k, e, p)
 
   pub decided-as : (d : ℕ) → getD r decidedAt 0 ≡ d → entryOf r .decided ≡ settledOf d
-  unfolding entryOf
+  unfolding entryOf entryWith stateAt
   decided-as d e = rw e
 
-  pub undecided-as : (getD r decidedAt 0 ≡ 1 → ⊥) → (getD r decidedAt 0 ≡ 2 → ⊥) → entryOf r .decided ≡ none
-  unfolding entryOf
+  pub undecided-as : (getD r decidedAt 0 ≡ 1 → ⊥) → (getD r decidedAt 0 ≡ 2 → ⊥) → entryOf r .decided ≡ unsettled
+  unfolding entryOf entryWith stateAt
   undecided-as p q = rw (ne-eqb (getD r decidedAt 0) 1 p, ne-eqb (getD r decidedAt 0) 2 q)
 
   module _ (e : getD r decidedAt 0 ≡ 1) where
-    pub status-commit : writesKey r k ≡ true → 0 ≡ statusNumber (statusOf k (some (entryOf r)))
+    pub status-commit : writesKey (rowTx r) k ≡ true → 0 ≡ statusNumber (statusOf k (some (entryOf r)))
     unfolding statusBy
-    status-commit p = by-codes true (some commit) (decided-as 1 e) p
+    status-commit p = by-codes true (settled commit) (decided-as 1 e) p
 
-    pub status-lacks : writesKey r k ≡ false → 2 ≡ statusNumber (statusOf k (some (entryOf r)))
+    pub status-lacks : writesKey (rowTx r) k ≡ false → 2 ≡ statusNumber (statusOf k (some (entryOf r)))
     unfolding statusBy
-    status-lacks p = by-codes false (some commit) (decided-as 1 e) p
+    status-lacks p = by-codes false (settled commit) (decided-as 1 e) p
 
   pub status-abort : getD r decidedAt 0 ≡ 2 → 2 ≡ statusNumber (statusOf k (some (entryOf r)))
   unfolding statusBy
-  status-abort e = by-codes (writesKey r k) (some abort) (decided-as 2 e) refl
+  status-abort e = by-codes (writesKey (rowTx r) k) (settled abort) (decided-as 2 e) refl
 
   pub status-open : (getD r decidedAt 0 ≡ 1 → ⊥) → (getD r decidedAt 0 ≡ 2 → ⊥) → 1 ≡ statusNumber (statusOf k (some (entryOf r)))
   unfolding statusBy
-  status-open p q = by-codes (writesKey r k) none (undecided-as p q) refl
+  status-open p q = by-codes (writesKey (rowTx r) k) unsettled (undecided-as p q) refl
 
 module _ (es : List Entry) (r : Read) where
   pub status-zero : readVersion r ≡ 0 → 0 ≡ statusNumber (status (over es) r)

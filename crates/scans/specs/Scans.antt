@@ -1,4 +1,4 @@
--- What the scans say: the tests at one read and at one entry, and the newest writers as numbers.
+-- What the scans say: the tests at one read and at one entry, and what the newest writers wrote.
 use Prim.Native.Nat.{ℕ}
 use mathlib.Core.Bool.{Bool, not, _&&_, _||_}
 use mathlib.Core.List.{List, []}
@@ -13,23 +13,15 @@ use Rattle.rules.specs.declared.Reason.the-variants.{Dependency}
 use Rattle.rules.specs.declared.Vote.{Vote}
 use Rattle.rules.specs.declared.Vote.the-variants.{Waiting as waiting, Commit as voteCommit, Abort as voteAbort}
 use Rattle.rules.specs.Bodies.{Body, stampOf, writesKey}
-use Rattle.rules.specs.Table.{Box, Config, Entry, find, live}
+use Rattle.rules.specs.declared.Version.{Version}
+use Rattle.rules.specs.Table.{Box, Entry, boxWith, find, live}
 use Rattle.rules.specs.Tests.{Status, bad, pending, fine, isBad, isPending, liveWriter, undercut, statusOf, status}
-use Rattle.rules.specs.Calls.{newest, versionOf, valueOf, isCommitted, isUndecided}
-use Rattle.scans.specs.declared.Best.{Best}
+use Rattle.rules.specs.Calls.{newest, versionOf, isCommitted, isUndecided}
 use Rattle.scans.specs.declared.Writers.{Writers}
-
--- ---- boxes
-abbrev pub boxOf : List Entry → List ℕ → Box
-boxOf es ms = record { table = es; marks = ms }
 
 -- tests 2, 3 and 4, the waiting rule and RD do not look at the read marks
 abbrev pub over : List Entry → Box
-over es = boxOf es []
-
--- the tests look at clock and δ only
-abbrev pub told : ℕ → ℕ → Config
-told clock delta = record { f = 0; capacity = 0; clock = clock; delta = delta }
+over es = boxWith es []
 
 -- ---- tests
 -- test 2 at one read
@@ -86,24 +78,20 @@ committed e = isCommitted (e .decided)
 abbrev pub undecided : Entry → Bool
 undecided e = isUndecided (e .decided) && live e
 
--- "version and value"; "0 0 where there is none"
-unfoldable pub bestOf : ℕ → Option Entry → Best
-bestOf k o = record { version = versionOf o; value = valueOf k o }
-
--- the better of an entry and of what was best behind it
-unfoldable pub bestBy : ℕ → ℕ → Entry → Best → Best
-bestBy k s e x =
+-- the newer of what an entry wrote and of what was newest behind it
+unfoldable pub newerBy : ℕ → ℕ → Entry → Version → Version
+newerBy k s e x =
     pick (writesKey (e .body) k && ltb (stampOf (e .body)) s)
-    (pick (ltb (stampOf (e .body)) (x .version)) x (bestOf k (some e))) x
+    (pick (ltb (stampOf (e .body)) (x .stamp .0)) x (versionOf k (some e))) x
 
 -- both halves, one entry more in front
-unfoldable pub nextPair : ℕ → ℕ → Entry → Writers → Writers
-nextPair k s e x =
+unfoldable pub nextWriters : ℕ → ℕ → Entry → Writers → Writers
+nextWriters k s e x =
     record {
-      committed = pick (committed e) (bestBy k s e (x .committed)) (x .committed);
-      undecided = pick (undecided e) (bestBy k s e (x .undecided)) (x .undecided);
+      committed = pick (committed e) (newerBy k s e (x .committed)) (x .committed);
+      undecided = pick (undecided e) (newerBy k s e (x .undecided)) (x .undecided);
     }
 
 -- "of the committed writer with the highest stamp strictly below, and likewise of the live undecided one"
-unfoldable pub bestPair : ℕ → ℕ → List Entry → Writers
-bestPair k s es = record { committed = bestOf k (newest committed k s es); undecided = bestOf k (newest undecided k s es) }
+unfoldable pub newestWriters : ℕ → ℕ → List Entry → Writers
+newestWriters k s es = record { committed = versionOf k (newest committed k s es); undecided = versionOf k (newest undecided k s es) }

@@ -2,20 +2,23 @@
 ghost use mathlib.Core.Path.{_≡_};
 ghost use mathlib.Core.Bool.{_||_, false};
 ghost use mathlib.Core.Option.{some};
-ghost use Prim.Native.Nat.{_+_, _≤_};
+ghost use Prim.Native.Nat.{_≤_};
 ghost use lib.Dec.{ltb, eqb};
 ghost use lib.ListN.{getD};
 ghost use mathlib.Core.List.{[]};
 ghost use Rattle.terms.specs.Choice.{any};
 ghost use Rattle.records.specs.Tx.{TxThere};
 ghost use Rattle.rules.specs.Bodies.{readsOf, writesOf};
+ghost use Rattle.rules.specs.Table.{boxWith, limit};
 ghost use Rattle.rules.specs.Tests.{test1, test3, test4, test5, undercut, statusOf, status, waitingRule, firstVote};
 ghost use Rattle.rules.specs.Calls.{valueAt, rdAnswer};
 ghost use Rattle.table.specs.Table.{WfRow, Wf, entryOf, entries};
-ghost use Rattle.scans.specs.Scans.{told, over, boxOf, namedBy, named, namedAll, below, older, hit3, hit4, statusNumber, bestBy, bestPair, nextPair};
+ghost use Rattle.scans.specs.Scans.{over, namedBy, named, namedAll, below, older, hit3, hit4, statusNumber, newerBy, nextWriters, newestWriters};
 use records::Read;
 use rules::Answer;
 use rules::Reason;
+use rules::Told;
+use rules::Version;
 use rules::Vote;
 use terms::Key;
 use terms::Stamp;
@@ -27,37 +30,31 @@ const PENDING: u8 = 1;
 
 const BAD: u8 = 2;
 
-// Version and value of a writer, 0 and 0 where there is none.
-pub struct Best {
-    pub version: u64,
-    pub value: u64,
-}
-
-// The newest committed writer, and the newest live undecided one.
+// What the newest committed writer wrote, and the newest live undecided one.
 pub struct Writers {
-    pub committed: Best,
-    pub undecided: Best,
+    pub committed: Version,
+    pub undecided: Version,
 }
 
 // Whether a stamp is above clock + δ, a sum that never wraps.
-pub fn ahead(s: u64, clock: u64, delta: u64) -> bool
-    ensures { λ r. ⌜ r ≡ ltb (clock + delta) s ⌝ }
+pub fn ahead(s: Stamp, told: Told) -> bool
+    ensures { λ r. ⌜ r ≡ ltb (limit told) (s .0) ⌝ }
 {
-    if s <= clock {
+    if s.0 <= told.clock {
         return false;
     }
-    if delta < s - clock {
+    if told.delta < s.0 - told.clock {
         return true;
     }
     false
 }
 
 // Test 1: stamp above clock + δ.
-pub fn test_1(b: &[u8], clock: u64, delta: u64) -> bool
+pub fn test_1(b: &[u8], told: Told) -> bool
     requires { ⌜ TxThere (now b) ⌝ }
-    ensures { λ r. ⌜ r ≡ test1 (told clock delta) (now (b .entry)) ⌝ }
+    ensures { λ r. ⌜ r ≡ test1 told (now (b .entry)) ⌝ }
 {
-    ahead(table::stamp_of(b), clock, delta)
+    ahead(table::stamp_of(b), told)
 }
 
 // A version held, to test 2 and to the waiting rule that follows it.
@@ -66,7 +63,7 @@ fn named_by(e: &[u8], k: Key) -> u8
     ensures { λ r. ⌜ r ≡ namedBy (k .0) (some (entryOf (now (e .entry)))) ⌝ }
 {
     if table::live(e) {
-        if table::writes_key(e, k) {
+        if table::writes_key(table::tx_of(e), k) {
             if e[table::DECIDED_AT] == 1 {
                 return FINE;
             }
@@ -125,7 +122,7 @@ fn below(b: &[u8], p: Read) -> bool
 {
     let v = p.version;
     let k = p.key;
-    if v.0 < table::stamp_of(b) {
+    if v.0 < table::stamp_of(b).0 {
         return table::writes_key(b, k);
     }
     false
@@ -153,47 +150,48 @@ fn undercut(a: &[u8], b: &[u8]) -> bool
     requires { ⌜ TxThere (now a) × TxThere (now b) ⌝ }
     ensures { λ r. ⌜ r ≡ undercut (now (a .entry)) (now (b .entry)) ⌝ }
 {
-    if table::stamp_of(b) < table::stamp_of(a) {
+    if table::stamp_of(b).0 < table::stamp_of(a).0 {
         return any_below(a, b);
     }
     false
 }
 
-// The lower of two numbers.
-fn lower(a: u64, b: u64) -> u64
-    ensures { λ r. ⌜ (r ≤ a) × (r ≤ b) ⌝ }
+// The lower of two stamps.
+fn lower(a: Stamp, b: Stamp) -> Stamp
+    ensures { λ r. ⌜ (r .0 ≤ a .0) × (r .0 ≤ b .0) ⌝ }
 {
-    if a < b {
+    if a.0 < b.0 {
         return a;
     }
     b
 }
 
 // The lowest version read, or the stamp: no read is older. A bound is all that test 3 needs: a lower one costs time, not an answer.
-fn lowest_read(b: &[u8]) -> u64
+fn lowest_read(b: &[u8]) -> Stamp
     requires { ⌜ TxThere (now b) ⌝ }
-    ensures { λ r. ⌜ any (older r) (readsOf (now (b .entry))) ≡ false ⌝ }
+    ensures { λ r. ⌜ any (older (r .0)) (readsOf (now (b .entry))) ≡ false ⌝ }
 {
     let m = table::read_count(b);
     let mut low = table::stamp_of(b);
     let mut j = 0;
     while j < m {
         let p = table::read_at(b, j);
-        low = lower(low, p.version.0);
+        low = lower(low, p.version);
         j += 1;
     }
     low
 }
 
 // Test 3 at one row: the stamps first, which settle most rows, as one not above the lowest version read.
-fn hit_3(e: &[u8], b: &[u8], low: u64) -> bool
-    requires { ⌜ WfRow (now e) × TxThere (now b) × (any (older low) (readsOf (now b)) ≡ false) ⌝ }
+fn hit_3(e: &[u8], b: &[u8], low: Stamp) -> bool
+    requires { ⌜ WfRow (now e) × TxThere (now b) × (any (older (low .0)) (readsOf (now b)) ≡ false) ⌝ }
     ensures { λ r. ⌜ r ≡ hit3 (now (b .entry)) (entryOf (now (e .entry))) ⌝ }
 {
-    if table::stamp_of(e) <= low {
+    let a = table::tx_of(e);
+    if table::stamp_of(a).0 <= low.0 {
         return false;
     }
-    if undercut(b, e) {
+    if undercut(b, a) {
         return table::live(e);
     }
     false
@@ -221,7 +219,7 @@ fn hit_4(e: &[u8], b: &[u8]) -> bool
     requires { ⌜ WfRow (now e) × TxThere (now b) ⌝ }
     ensures { λ r. ⌜ r ≡ hit4 (now (b .entry)) (entryOf (now (e .entry))) ⌝ }
 {
-    if undercut(e, b) {
+    if undercut(table::tx_of(e), b) {
         return table::live(e);
     }
     false
@@ -257,14 +255,14 @@ fn mark_at(marks: &[u64], k: Key) -> u64
 // Test 5: a written key's read mark is above this stamp.
 pub fn test_5(marks: &[u64], b: &[u8]) -> bool
     requires { ⌜ TxThere (now b) ⌝ }
-    ensures { λ r. ⌜ r ≡ test5 (boxOf [] (now (marks .entry))) (now (b .entry)) ⌝ }
+    ensures { λ r. ⌜ r ≡ test5 (boxWith [] (now (marks .entry))) (now (b .entry)) ⌝ }
 {
     let s = table::stamp_of(b);
     let m = table::write_count(b);
     let mut j = 0;
     while j < m {
         let w = table::write_at(b, j);
-        if s < mark_at(marks, w.key) {
+        if s.0 < mark_at(marks, w.key) {
             return true;
         }
         j += 1;
@@ -279,7 +277,7 @@ fn status_of(e: &[u8], k: Key) -> u8
 {
     let d = e[table::DECIDED_AT];
     if d == 1 {
-        if table::writes_key(e, k) {
+        if table::writes_key(table::tx_of(e), k) {
             return FINE;
         }
         return BAD;
@@ -345,11 +343,11 @@ pub fn waiting_rule(t: &[u8], n: usize, b: &[u8]) -> Vote
 }
 
 // The vote of a PR not held: the first failing test aborts, else the waiting rule; what test 2 passed is never bad to that.
-pub fn first_vote(t: &[u8], n: usize, marks: &[u64], b: &[u8], clock: u64, delta: u64) -> Vote
+pub fn first_vote(t: &[u8], n: usize, marks: &[u64], b: &[u8], told: Told) -> Vote
     requires { ⌜ Wf (now t) n × TxThere (now b) ⌝ }
-    ensures { λ v. ⌜ v ≡ firstVote (told clock delta) (boxOf (entries (now (t .entry)) n) (now (marks .entry))) (now (b .entry)) ⌝ }
+    ensures { λ v. ⌜ v ≡ firstVote told (boxWith (entries (now (t .entry)) n) (now (marks .entry))) (now (b .entry)) ⌝ }
 {
-    if test_1(b, clock, delta) {
+    if test_1(b, told) {
         return Vote::Abort(Reason::Ahead);
     }
     let read = versions(t, n, b);
@@ -372,14 +370,14 @@ pub fn first_vote(t: &[u8], n: usize, marks: &[u64], b: &[u8], clock: u64, delta
 }
 
 // The value of the first write of a key, 0 where there is none.
-fn value_of(e: &[u8], k: Key) -> u64
-    requires { ⌜ TxThere (now e) ⌝ }
-    ensures { λ r. ⌜ r ≡ valueAt (k .0) (writesOf (now (e .entry))) ⌝ }
+fn value_of(b: &[u8], k: Key) -> u64
+    requires { ⌜ TxThere (now b) ⌝ }
+    ensures { λ r. ⌜ r ≡ valueAt (k .0) (writesOf (now (b .entry))) ⌝ }
 {
-    let m = table::write_count(e);
+    let m = table::write_count(b);
     let mut j = 0;
     while j < m {
-        let w = table::write_at(e, j);
+        let w = table::write_at(b, j);
         if w.key.0 == k.0 {
             return w.value;
         }
@@ -388,22 +386,23 @@ fn value_of(e: &[u8], k: Key) -> u64
     0
 }
 
-// The better of a row and of what was best behind it: the stamps first, then the key.
-fn better(e: &[u8], k: Key, s: Stamp, x: Best) -> Best
-    requires { ⌜ TxThere (now e) ⌝ }
-    ensures { λ r. ⌜ r ≡ bestBy (k .0) (s .0) (entryOf (now (e .entry))) x ⌝ }
+// The newer of what a row's entry wrote and of what was newest behind it: the stamps first, then the key.
+fn newer(e: &[u8], k: Key, s: Stamp, x: Version) -> Version
+    requires { ⌜ WfRow (now e) ⌝ }
+    ensures { λ r. ⌜ r ≡ newerBy (k .0) (s .0) (entryOf (now (e .entry))) x ⌝ }
 {
-    let v = table::stamp_of(e);
-    if s.0 <= v {
+    let b = table::tx_of(e);
+    let v = table::stamp_of(b);
+    if s.0 <= v.0 {
         return x;
     }
-    if v < x.version {
+    if v.0 < x.stamp.0 {
         return x;
     }
-    if table::writes_key(e, k) {
-        return Best {
-            version: v,
-            value: value_of(e, k),
+    if table::writes_key(b, k) {
+        return Version {
+            stamp: v,
+            value: value_of(b, k),
         };
     }
     x
@@ -412,32 +411,32 @@ fn better(e: &[u8], k: Key, s: Stamp, x: Best) -> Best
 // One row more, in front.
 fn next(e: &[u8], k: Key, s: Stamp, x: Writers) -> Writers
     requires { ⌜ WfRow (now e) ⌝ }
-    ensures { λ r. ⌜ r ≡ nextPair (k .0) (s .0) (entryOf (now (e .entry))) x ⌝ }
+    ensures { λ r. ⌜ r ≡ nextWriters (k .0) (s .0) (entryOf (now (e .entry))) x ⌝ }
 {
     let committed = x.committed;
     let undecided = x.undecided;
     if e[table::DECIDED_AT] == 1 {
         return Writers {
-            committed: better(e, k, s, committed),
+            committed: newer(e, k, s, committed),
             undecided,
         };
     }
     if table::live(e) {
         return Writers {
             committed,
-            undecided: better(e, k, s, undecided),
+            undecided: newer(e, k, s, undecided),
         };
     }
     x
 }
 
-// The committed writer of a key with the highest stamp strictly below, and likewise the live undecided one.
+// What the committed writer of a key with the highest stamp strictly below wrote, and likewise the live undecided one.
 pub fn newest(t: &[u8], n: usize, k: Key, s: Stamp) -> Writers
     requires { ⌜ Wf (now t) n ⌝ }
-    ensures { λ r. ⌜ r ≡ bestPair (k .0) (s .0) (entries (now (t .entry)) n) ⌝ }
+    ensures { λ r. ⌜ r ≡ newestWriters (k .0) (s .0) (entries (now (t .entry)) n) ⌝ }
 {
-    let none = Best {
-        version: 0,
+    let none = Version {
+        stamp: Stamp(0),
         value: 0,
     };
     let mut x = Writers {
@@ -459,10 +458,7 @@ pub fn found(t: &[u8], n: usize, k: Key, s: Stamp) -> Answer
     ensures { λ r. ⌜ r ≡ rdAnswer (over (entries (now (t .entry)) n)) (k .0) (s .0) ⌝ }
 {
     let x = newest(t, n, k, s);
-    Answer::Found(
-        x.committed.version,
-        x.committed.value,
-        x.undecided.version,
-        x.undecided.value,
-    )
+    let committed = x.committed;
+    let undecided = x.undecided;
+    Answer::Found(committed, undecided)
 }

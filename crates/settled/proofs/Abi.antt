@@ -5,7 +5,7 @@ use prog.Wp.{Heap}
 use Rattle.settled.specs.Settled.{Settled}
 use Rattle.settled.proofs.Lemma.{settled, one, _&_}
 use Rattle.abi.specs.Left.{Left}
-use Rattle.lent.specs.Lent.{Fields}
+use Rattle.arrays.specs.Arrays.{Fields}
 use Rattle.abi.proofs as abi
 
 module _ {M : Type 1} (𝓤 : URA M) (H : Heap 𝓤) where
@@ -15,17 +15,8 @@ module _ {M : Type 1} (𝓤 : URA M) (H : Heap 𝓤) where
   pub stobbarel-receive : Settled 𝓤 H abi.stobbarel_receive.ended (abi.stobbarel_receive.spec 𝓤 H) (abi.stobbarel_receive.clauses 𝓤 H)
   stobbarel-receive A mem run = (refl, λ k o o′. settled 𝓤 (λ p q. refl & one (p .1) (q .1) & one (p .2) (q .2) & refl & refl & refl & refl & refl & one (p .0) (q .0) & refl))
 
-  pub stobbarel-prepare : Settled 𝓤 H abi.stobbarel_prepare.ended (abi.stobbarel_prepare.spec 𝓤 H) (abi.stobbarel_prepare.clauses 𝓤 H)
-  stobbarel-prepare A mem run = (refl, λ k o o′. settled 𝓤 (λ p q. refl & one (p .1) (q .1) & refl & refl & refl & refl & refl & refl & one (p .0) (q .0) & refl))
-
-  pub stobbarel-log : Settled 𝓤 H abi.stobbarel_log.ended (abi.stobbarel_log.spec 𝓤 H) (abi.stobbarel_log.clauses 𝓤 H)
-  stobbarel-log A mem run = (refl, λ k o o′. settled 𝓤 (λ p q. refl & one (p .1) (q .1) & refl & refl & refl & refl & refl & one (p .0) (q .0) & refl))
-
-  pub stobbarel-decide : Settled 𝓤 H abi.stobbarel_decide.ended (abi.stobbarel_decide.spec 𝓤 H) (abi.stobbarel_decide.clauses 𝓤 H)
-  stobbarel-decide A mem run = (refl, λ k o o′. settled 𝓤 (λ p q. refl & one (p .1) (q .1) & refl & refl & refl & refl & refl & one (p .0) (q .0) & refl))
-
-  pub stobbarel-read : Settled 𝓤 H abi.stobbarel_read.ended (abi.stobbarel_read.spec 𝓤 H) (abi.stobbarel_read.clauses 𝓤 H)
-  stobbarel-read A mem run = (refl, λ k o o′. settled 𝓤 (λ p q. refl & refl & one (p .1) (q .1) & refl & refl & refl & refl & refl & one (p .0) (q .0) & refl))
+  pub stobbarel-due : Settled 𝓤 H abi.stobbarel_due.ended (abi.stobbarel_due.spec 𝓤 H) (abi.stobbarel_due.clauses 𝓤 H)
+  stobbarel-due A mem run = (refl, λ k o o′. settled 𝓤 (λ p q. refl & refl & one (p .1) (q .1) & one (p .2) (q .2) & refl & refl & refl & refl & refl & one (p .0) (q .0) & refl))
 
   pub stobbarel-reading : Settled 𝓤 H abi.stobbarel_reading.ended (abi.stobbarel_reading.spec 𝓤 H) (abi.stobbarel_reading.clauses 𝓤 H)
   stobbarel-reading A mem run = (refl, λ k o o′. settled 𝓤 (λ p q. one p q & refl))
@@ -57,11 +48,8 @@ module _ {M : Type 1} (𝓤 : URA M) (H : Heap 𝓤) where
   pub stobbarel-write-pr : Settled 𝓤 H abi.stobbarel_write_pr.ended (abi.stobbarel_write_pr.spec 𝓤 H) (abi.stobbarel_write_pr.clauses 𝓤 H)
   stobbarel-write-pr A mem run = (refl, λ k o o′. settled 𝓤 (λ p q. ap (λ (x : Left). x .number) (one p q) & refl & refl & refl & refl & refl & refl & refl & ap (λ (x : Left). x .buffer) (one p q) & ap (λ (x : Left). x .length) (one p q) & refl))
 
-  pub stobbarel-write-lg : Settled 𝓤 H abi.stobbarel_write_lg.ended (abi.stobbarel_write_lg.spec 𝓤 H) (abi.stobbarel_write_lg.clauses 𝓤 H)
-  stobbarel-write-lg A mem run = (refl, λ k o o′. settled 𝓤 (λ p q. ap (λ (x : Left). x .number) (one p q) & refl & refl & refl & refl & refl & refl & refl & refl & refl & refl & refl & refl & refl & ap (λ (x : Left). x .buffer) (one p q) & ap (λ (x : Left). x .length) (one p q) & refl))
-
-  pub stobbarel-write-dc : Settled 𝓤 H abi.stobbarel_write_dc.ended (abi.stobbarel_write_dc.spec 𝓤 H) (abi.stobbarel_write_dc.clauses 𝓤 H)
-  stobbarel-write-dc A mem run = (refl, λ k o o′. settled 𝓤 (λ p q. ap (λ (x : Left). x .number) (one p q) & refl & refl & refl & refl & refl & refl & refl & refl & refl & refl & refl & refl & refl & ap (λ (x : Left). x .buffer) (one p q) & ap (λ (x : Left). x .length) (one p q) & refl))
+  pub stobbarel-write-listed : Settled 𝓤 H abi.stobbarel_write_listed.ended (abi.stobbarel_write_listed.spec 𝓤 H) (abi.stobbarel_write_listed.clauses 𝓤 H)
+  stobbarel-write-listed A mem run = (refl, λ k o o′. settled 𝓤 (λ p q. ap (λ (x : Left). x .number) (one p q) & refl & refl & refl & refl & refl & refl & refl & refl & refl & refl & refl & refl & refl & refl & ap (λ (x : Left). x .buffer) (one p q) & ap (λ (x : Left). x .length) (one p q) & refl))
 
   pub stobbarel-write-rd : Settled 𝓤 H abi.stobbarel_write_rd.ended (abi.stobbarel_write_rd.spec 𝓤 H) (abi.stobbarel_write_rd.clauses 𝓤 H)
   stobbarel-write-rd A mem run = (refl, λ k o o′. settled 𝓤 (λ p q. ap (λ (x : Left). x .number) (one p q) & refl & refl & ap (λ (x : Left). x .buffer) (one p q) & ap (λ (x : Left). x .length) (one p q) & refl))

@@ -3,7 +3,6 @@ pub mod Open
 pub mod Terms
 pub mod Records
 pub mod Contents
-pub mod Answer
 pub mod Reading
 pub mod Writing
 pub mod Rules
@@ -14,5 +13,5 @@ pub mod Engine
 pub mod Sheet
 pub mod Lines
 pub mod Replay
-pub mod Lent
+pub mod Arrays
 pub mod Abi

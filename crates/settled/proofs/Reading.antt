@@ -23,14 +23,8 @@ module _ {M : Type 1} (𝓤 : URA M) (H : Heap 𝓤) where
   pub behind : SettledPart 𝓤 H reading.behind.ended (λ κs r. now r) (reading.behind.spec 𝓤 H) (reading.behind.clauses 𝓤 H)
   behind A mem run = (refl, λ k o o′. settled 𝓤 (λ p q. one p q & refl))
 
-  pub pr-cut : Settled 𝓤 H reading.pr_cut.ended (reading.pr_cut.spec 𝓤 H) (reading.pr_cut.clauses 𝓤 H)
-  pr-cut A mem run = (refl, λ k o o′. settled 𝓤 (λ p q. one p q & refl))
-
-  pub listed-cut : Settled 𝓤 H reading.listed_cut.ended (reading.listed_cut.spec 𝓤 H) (reading.listed_cut.clauses 𝓤 H)
-  listed-cut A mem run = (refl, λ k o o′. settled 𝓤 (λ p q. one p q & refl))
-
-  pub rd-cut : Settled 𝓤 H reading.rd_cut.ended (reading.rd_cut.spec 𝓤 H) (reading.rd_cut.clauses 𝓤 H)
-  rd-cut A mem run = (refl, λ k o o′. settled 𝓤 (λ p q. one p q & refl))
+  pub message-cut : Settled 𝓤 H reading.message_cut.ended (reading.message_cut.spec 𝓤 H) (reading.message_cut.clauses 𝓤 H)
+  message-cut A mem run = (refl, λ k o o′. settled 𝓤 (λ p q. one p q & refl))
 
   pub tx-part-of : SettledPart 𝓤 H reading.tx_part_of.ended (λ κs r. now r) (reading.tx_part_of.spec 𝓤 H) (reading.tx_part_of.clauses 𝓤 H)
   tx-part-of A mem run = (refl, λ k o o′. settled 𝓤 (λ p q. one (p .0) (q .0) & refl))
@@ -38,11 +32,11 @@ module _ {M : Type 1} (𝓤 : URA M) (H : Heap 𝓤) where
   pub vl-part-of : SettledPart 𝓤 H reading.vl_part_of.ended (λ κs r. now r) (reading.vl_part_of.spec 𝓤 H) (reading.vl_part_of.clauses 𝓤 H)
   vl-part-of A mem run = (refl, λ k o o′. settled 𝓤 (λ p q. one p q & refl))
 
-  pub pr-len : Settled 𝓤 H reading.pr_len.ended (reading.pr_len.spec 𝓤 H) (reading.pr_len.clauses 𝓤 H)
-  pr-len A mem run = (refl, λ k o o′. settled 𝓤 (λ p q. one p q & refl))
+  pub message-len : Settled 𝓤 H reading.message_len.ended (reading.message_len.spec 𝓤 H) (reading.message_len.clauses 𝓤 H)
+  message-len A mem run = (refl, λ k o o′. settled 𝓤 (λ p q. one p q & refl))
 
-  pub listed-len : Settled 𝓤 H reading.listed_len.ended (reading.listed_len.spec 𝓤 H) (reading.listed_len.clauses 𝓤 H)
-  listed-len A mem run = (refl, λ k o o′. settled 𝓤 (λ p q. one p q & refl))
+  pub refused : Settled 𝓤 H reading.refused.ended (reading.refused.spec 𝓤 H) (reading.refused.clauses 𝓤 H)
+  refused A mem run = (refl, λ k o o′. settled 𝓤 (λ p q. one p q & refl))
 
   pub read-tx : Settled 𝓤 H reading.read_tx.ended (reading.read_tx.spec 𝓤 H) (reading.read_tx.clauses 𝓤 H)
   read-tx A mem run = (refl, λ k o o′. settled 𝓤 (λ p q. one p q & refl))
@@ -50,20 +44,17 @@ module _ {M : Type 1} (𝓤 : URA M) (H : Heap 𝓤) where
   pub read-vl : Settled 𝓤 H reading.read_vl.ended (reading.read_vl.spec 𝓤 H) (reading.read_vl.clauses 𝓤 H)
   read-vl A mem run = (refl, λ k o o′. settled 𝓤 (λ p q. one p q & refl))
 
-  pub read-pr : Settled 𝓤 H reading.read_pr.ended (reading.read_pr.spec 𝓤 H) (reading.read_pr.clauses 𝓤 H)
-  read-pr A mem run = (refl, λ k o o′. settled 𝓤 (λ p q. one p q & refl))
-
-  pub read-lg : Settled 𝓤 H reading.read_lg.ended (reading.read_lg.spec 𝓤 H) (reading.read_lg.clauses 𝓤 H)
-  read-lg A mem run = (refl, λ k o o′. settled 𝓤 (λ p q. one p q & refl))
-
-  pub read-dc : Settled 𝓤 H reading.read_dc.ended (reading.read_dc.spec 𝓤 H) (reading.read_dc.clauses 𝓤 H)
-  read-dc A mem run = (refl, λ k o o′. settled 𝓤 (λ p q. one p q & refl))
-
-  pub read-rd : Settled 𝓤 H reading.read_rd.ended (reading.read_rd.spec 𝓤 H) (reading.read_rd.clauses 𝓤 H)
-  read-rd A mem run = (refl, λ k o o′. settled 𝓤 (λ p q. one p q & refl))
+  pub read-due : Settled 𝓤 H reading.read_due.ended (reading.read_due.spec 𝓤 H) (reading.read_due.clauses 𝓤 H)
+  read-due A mem run = (refl, λ k o o′. settled 𝓤 (λ p q. one p q & refl))
 
   pub is-mark : Settled 𝓤 H reading.is_mark.ended (reading.is_mark.spec 𝓤 H) (reading.is_mark.clauses 𝓤 H)
   is-mark A mem run = (refl, λ k o o′. settled 𝓤 (λ p q. one p q & refl))
+
+  pub mark-of : Settled 𝓤 H reading.mark_of.ended (reading.mark_of.spec 𝓤 H) (reading.mark_of.clauses 𝓤 H)
+  mark-of A mem run = (refl, λ k o o′. settled 𝓤 (λ p q. one p q & refl))
+
+  pub read-marked : Settled 𝓤 H reading.read_marked.ended (reading.read_marked.spec 𝓤 H) (reading.read_marked.clauses 𝓤 H)
+  read-marked A mem run = (refl, λ k o o′. settled 𝓤 (λ p q. one p q & refl))
 
   pub read : Settled 𝓤 H reading.read.ended (reading.read.spec 𝓤 H) (reading.read.clauses 𝓤 H)
   read A mem run = (refl, λ k o o′. settled 𝓤 (λ p q. one p q & refl))

@@ -7,6 +7,9 @@ use Rattle.settled.proofs.Lemma.{settled, one, _&_}
 use Rattle.records.proofs as records
 
 module _ {M : Type 1} (𝓤 : URA M) (H : Heap 𝓤) where
+  pub mark-bytes : Settled 𝓤 H records.Mark.bytes.ended (records.Mark.bytes.spec 𝓤 H) (records.Mark.bytes.clauses 𝓤 H)
+  mark-bytes A mem run = (refl, λ k o o′. settled 𝓤 (λ p q. one p q & refl))
+
   pub wide : Settled 𝓤 H records.wide.ended (records.wide.spec 𝓤 H) (records.wide.clauses 𝓤 H)
   wide A mem run = (refl, λ k o o′. settled 𝓤 (λ p q. one (p .0) (q .0) & refl))
 

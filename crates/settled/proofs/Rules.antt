@@ -15,3 +15,6 @@ module _ {M : Type 1} (𝓤 : URA M) (H : Heap 𝓤) where
 
   pub vote-reason : Settled 𝓤 H rules.Vote.reason.ended (rules.Vote.reason.spec 𝓤 H) (rules.Vote.reason.clauses 𝓤 H)
   vote-reason A mem run = (refl, λ k o o′. settled 𝓤 (λ p q. one p q & refl))
+
+  pub settled-number : Settled 𝓤 H rules.Settled.number.ended (rules.Settled.number.spec 𝓤 H) (rules.Settled.number.clauses 𝓤 H)
+  settled-number A mem run = (refl, λ k o o′. settled 𝓤 (λ p q. one p q & refl))

@@ -7,6 +7,15 @@ use Rattle.settled.proofs.Lemma.{settled, one, _&_}
 use Rattle.terms.proofs as terms
 
 module _ {M : Type 1} (𝓤 : URA M) (H : Heap 𝓤) where
+  pub first : Settled 𝓤 H terms.first.ended (terms.first.spec 𝓤 H) (terms.first.clauses 𝓤 H)
+  first A mem run = (refl, λ k o o′. settled 𝓤 (λ p q. one p q & refl))
+
+  pub refuse-if : Settled 𝓤 H terms.refuse_if.ended (terms.refuse_if.spec 𝓤 H) (terms.refuse_if.clauses 𝓤 H)
+  refuse-if A mem run = (refl, λ k o o′. settled 𝓤 (λ p q. one p q & refl))
+
+  pub decision-number : Settled 𝓤 H terms.Decision.number.ended (terms.Decision.number.spec 𝓤 H) (terms.Decision.number.clauses 𝓤 H)
+  decision-number A mem run = (refl, λ k o o′. settled 𝓤 (λ p q. one p q & refl))
+
   pub refusal-number : Settled 𝓤 H terms.Refusal.number.ended (terms.Refusal.number.spec 𝓤 H) (terms.Refusal.number.clauses 𝓤 H)
   refusal-number A mem run = (refl, λ k o o′. settled 𝓤 (λ p q. one p q & refl))
 

@@ -16,11 +16,8 @@ module _ {M : Type 1} (𝓤 : URA M) (H : Heap 𝓤) where
   pub write-pr : Settled 𝓤 H writing.write_pr.ended (writing.write_pr.spec 𝓤 H) (writing.write_pr.clauses 𝓤 H)
   write-pr A mem run = (refl, λ k o o′. settled 𝓤 (λ p q. one (p .0) (q .0) & refl & one (p .1) (q .1) & refl))
 
-  pub write-lg : Settled 𝓤 H writing.write_lg.ended (writing.write_lg.spec 𝓤 H) (writing.write_lg.clauses 𝓤 H)
-  write-lg A mem run = (refl, λ k o o′. settled 𝓤 (λ p q. one (p .0) (q .0) & refl & refl & refl & one (p .1) (q .1) & refl))
-
-  pub write-dc : Settled 𝓤 H writing.write_dc.ended (writing.write_dc.spec 𝓤 H) (writing.write_dc.clauses 𝓤 H)
-  write-dc A mem run = (refl, λ k o o′. settled 𝓤 (λ p q. one (p .0) (q .0) & refl & refl & refl & one (p .1) (q .1) & refl))
+  pub write-listed : Settled 𝓤 H writing.write_listed.ended (writing.write_listed.spec 𝓤 H) (writing.write_listed.clauses 𝓤 H)
+  write-listed A mem run = (refl, λ k o o′. settled 𝓤 (λ p q. one (p .0) (q .0) & refl & refl & refl & refl & one (p .1) (q .1) & refl))
 
   pub write-rd : Settled 𝓤 H writing.write_rd.ended (writing.write_rd.spec 𝓤 H) (writing.write_rd.clauses 𝓤 H)
   write-rd A mem run = (refl, λ k o o′. settled 𝓤 (λ p q. one (p .0) (q .0) & refl & refl & one (p .1) (q .1) & refl))

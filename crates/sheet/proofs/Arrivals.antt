@@ -14,7 +14,7 @@ use Rattle.terms.specs.declared.Decision.the-variants.{Commit as commit, Abort 
 use Rattle.terms.specs.declared.Kind.{Kind}
 use Rattle.terms.specs.declared.Kind.the-variants.{Votes as votes, Logs as logs}
 use Rattle.terms.proofs.Checks.{pass, when-no}
-use Rattle.rules.specs.Answers.{decisionNumber}
+use Rattle.terms.specs.Codes.{decisionNumber}
 use Rattle.sheet.specs.declared.Sheet.{Sheet}
 use Rattle.sheet.specs.Masks.{has}
 use Rattle.sheet.specs.Sheets.{answerWrong, counted, emptySheet, givenWrong, on, sheetAfter, sheetDamaged, sheetWrong, twice, under}
@@ -45,12 +45,12 @@ module _ (s : Sheet) (f : ℕ) (a : Arrival) (sound : sheetWrong f s ≡ 0) wher
   after-sound = by (valid f a) refl (on s (a .number)) refl
     where
       by : (v : Bool) → valid f a ≡ v → (o : Bool) → on s (a .number) ≡ o → sheetWrong f after ≡ 0
-      by false v o h = rw (← after-refused s f _ _ _ refl (wrong-some v)) sound
-      by true v true h = rw (← after-repeat s f _ _ _ refl (wrong-none v) h) sound
+      by false v o h = rw (← after-refused s f _ _ (wrong-some v)) sound
+      by true v true h = rw (← after-repeat s f _ _ (wrong-none v) h) sound
       by true v false h =
           let z = wrong-none v in
-          rw (← after-joined s f _ _ _ refl z _ h refl)
-          (joins-sound s (a .number) (a .answer) h f sound (right-box s f _ _ _ refl z) (one-or-two _ (right-answer s f _ _ _ refl z)))
+          rw (← after-joined s f _ _ z _ h refl)
+          (joins-sound s (a .number) (a .answer) h f sound (right-box s f _ _ z) (one-or-two _ (right-answer s f _ _ z)))
 
   -- box b after this answer, where e stands for what is yet to come
   step : (d : Decision) (b e : ℕ)
@@ -62,22 +62,22 @@ module _ (s : Sheet) (f : ℕ) (a : Arrival) (sound : sheetWrong f s ≡ 0) wher
       Goal t v n = pick (on t b) (has (under d t) b) (eqb e (decisionNumber d)) ≡ pick (on s b) (has (under d s) b) (eqb (pick (v && n) (a .answer) e) (decisionNumber d))
 
       by : (v : Bool) → valid f a ≡ v → (o : Bool) → on s (a .number) ≡ o → (n : Bool) → eqb (a .number) b ≡ n → Goal after v n
-      by false v o h n q = rw (← after-refused s f _ _ _ refl (wrong-some v))
+      by false v o h n q = rw (← after-refused s f _ _ (wrong-some v))
       by true v true h true q =
           let same : a .number ≡ b = eqb→eq _ _ (rw q tt) in
           let here : on s b ≡ true = rw (← same) h in
-          rw (← after-repeat s f _ _ _ refl (wrong-none v) h, here)
-      by true v true h false q = rw (← after-repeat s f _ _ _ refl (wrong-none v) h)
+          rw (← after-repeat s f _ _ (wrong-none v) h, here)
+      by true v true h false q = rw (← after-repeat s f _ _ (wrong-none v) h)
       by true v false h true q =
           let z = wrong-none v in
-          let w = one-or-two _ (right-answer s f _ _ _ refl z) in
+          let w = one-or-two _ (right-answer s f _ _ z) in
           let same : a .number ≡ b = eqb→eq _ _ (rw q tt) in
           let gone : on s b ≡ false = rw (← same) h in
-          rw (← after-joined s f _ _ _ refl z _ h refl, joins-on s (a .number) (a .answer) h b w, joins-under s (a .number) (a .answer) h d b w, q, gone)
+          rw (← after-joined s f _ _ z _ h refl, joins-on s (a .number) (a .answer) h b w, joins-under s (a .number) (a .answer) h d b w, q, gone)
       by true v false h false q =
           let z = wrong-none v in
-          let w = one-or-two _ (right-answer s f _ _ _ refl z) in
-          rw (← after-joined s f _ _ _ refl z _ h refl, joins-on s (a .number) (a .answer) h b w, joins-under s (a .number) (a .answer) h d b w, q)
+          let w = one-or-two _ (right-answer s f _ _ z) in
+          rw (← after-joined s f _ _ z _ h refl, joins-on s (a .number) (a .answer) h b w, joins-under s (a .number) (a .answer) h d b w, q)
 
 -- a box that is on the sheet stays where it is; else its first valid answer puts it there
 pub box-counts : (f : ℕ) (d : Decision) (b : ℕ) (s : Sheet) (more : List Arrival) → sheetWrong f s ≡ 0
@@ -92,15 +92,9 @@ box-counts f d b s [] sound = by (on s b) refl d
 box-counts f d b s (a ∷ more) sound = box-counts f d b _ more (after-sound s f a sound) ∙ step s f a sound d b (firstOf f b more)
 
 -- a sheet with no box on it
-empty-under : (k : Kind) (d : Decision) → under d (emptySheet k) ≡ 0
-empty-under votes commit = refl
-empty-under votes abort = refl
-empty-under logs commit = refl
-empty-under logs abort = refl
-
 empty-on : (k : Kind) (b : ℕ) → on (emptySheet k) b ≡ false
 unfolding on
-empty-on k b = rw (empty-under k commit, empty-under k abort, has-none)
+empty-on k b = rw has-none
 
 empty-kind : (k : Kind) → (ifSame (emptySheet k .kind) 0 table ≡ 0) × (ifLess 2 (emptySheet k .kind) table ≡ 0)
 unfolding ifSame ifLess
@@ -110,16 +104,14 @@ empty-kind logs = (refl, refl)
 empty-sound : (f : ℕ) (k : Kind) → groupWrong f ≡ 0 → sheetWrong f (emptySheet k) ≡ 0
 unfolding sheetWrong sheetDamaged twice
 empty-sound f k g =
-    let c : emptySheet k .commits ≡ 0 = empty-under k commit in
-    let a : emptySheet k .aborts ≡ 0 = empty-under k abort in
     let low : 0 < 2 ^ boxes f = pow-pos (boxes f) in
     sym
     (pass g
     (pass (empty-kind k .0)
     (pass (empty-kind k .1)
-    (pass (when-no _ _ (rw c (lt-leb (2 ^ boxes f) 0 low)))
-    (pass (when-no _ _ (rw a (lt-leb (2 ^ boxes f) 0 low)))
-    (sym (when-no _ _ (none-any (twice (emptySheet k)) 0 (boxes f) (λ b l m. rw (c, has-none))))))))))
+    (pass (when-no _ _ (lt-leb (2 ^ boxes f) 0 low))
+    (pass (when-no _ _ (lt-leb (2 ^ boxes f) 0 low))
+    (sym (when-no _ _ (none-any (twice (emptySheet k)) 0 (boxes f) (λ b l m. rw has-none)))))))))
 
 pub counts-boxes : CountsBoxes
 unfolding counted

@@ -17,14 +17,14 @@ use Rattle.records.specs.declared.VoteList.{VoteList}
 use Rattle.records.specs.Vl.{heldList, listIn}
 use Rattle.records.specs.Contents.{answerOdd, codeWrong, countWrong, listWrong, logListWrong}
 use Rattle.records.proofs.Held.{list-in}
-use Rattle.rules.specs.Answers.{decisionNumber}
+use Rattle.terms.specs.Codes.{decisionNumber}
 use Rattle.rules.specs.Lists.{decisionOf, forLogging, forProof, kindOf, meets}
-use Rattle.rules.specs.System.{count}
+use Rattle.rules.specs.System.{howMany}
 use Rattle.sheet.specs.declared.Sheet.{Sheet}
 use Rattle.sheet.specs.Masks.{has}
 use Rattle.sheet.specs.Sheets.{answerWrong, counted, joined, on, reached, reachedBy, replyTo, sheetAfter, sheetDamaged, sheetWrong, under}
-use Rattle.sheet.specs.Listing.{judged, listBy, listFrom, listOf, loggingMet, proofMet}
-use Rattle.sheet.proofs.Listed.{listed-answers, listed-below, listed-length, listed-rises, listed-tally}
+use Rattle.sheet.specs.Listing.{judged, listFrom, listFor, loggingMet, proofMet}
+use Rattle.sheet.proofs.Listed.{list-is, listed-answers, listed-below, listed-length, listed-rises, listed-tally}
 use Rattle.sheet.proofs.Masks.{count-most}
 use Rattle.sheet.proofs.Sheets.{after-joined, reply-reached, right-answer, right-box, right-sheet, sheet-group}
 use Rattle.sheet.proofs.Sound.{joins-sound, one-or-two}
@@ -53,11 +53,6 @@ answer-even commit = refl
 answer-even abort = refl
 
 module _ (s : Sheet) (f : ℕ) (sound : sheetWrong f s ≡ 0) where
-  -- the list from a sheet without a refusal
-  pub list-is : (d : Decision) → listFrom s f d ≡ listOf (s .kind) (decisionNumber d) (under d s) (boxes f)
-  unfolding listFrom listBy
-  list-is d = rw sound
-
   kind-right : codeWrong (s .kind) ≡ 0
   unfolding codeWrong sheetWrong sheetDamaged
   kind-right =
@@ -68,26 +63,26 @@ module _ (s : Sheet) (f : ℕ) (sound : sheetWrong f s ≡ 0) where
 
   -- "only entries with that answer are counted": the list has as many of them as the sheet
   pub list-counts : (d : Decision) → length (listFrom s f d .pairs) ≡ counted f d s
-  unfolding listOf counted
-  list-counts d = rw (list-is d) (listed-length (has (under d s)) (decisionNumber d) (boxes f))
+  unfolding listFor counted
+  list-counts d = rw (list-is s f d sound) (listed-length (has (under d s)) (decisionNumber d) (boxes f))
 
   pub list-meets : (need : ℕ) (d : Decision) → meets need (listFrom s f d) ≡ leb need (counted f d s)
-  unfolding meets listOf counted
-  list-meets need d = rw (list-is d, listed-tally (has (under d s)) (decisionNumber d) (boxes f))
+  unfolding meets listFor counted
+  list-meets need d = rw (list-is s f d sound, listed-tally (has (under d s)) (decisionNumber d) (boxes f))
 
   -- a list of one box or more has no refusal 3
   pub list-count : (d : Decision) → 0 < counted f d s → countWrong (length (listFrom s f d .pairs)) ≡ 0
   unfolding countWrong counted
   list-count d h =
       let g = sheet-group f s _ refl sound in
-      let m : count (has (under d s)) (boxes f) ≤ boxes f = count-most (has (under d s)) (boxes f) in
+      let m : howMany (has (under d s)) (boxes f) ≤ boxes f = count-most (has (under d s)) (boxes f) in
       rw (list-counts d) (sym (pass (same-no _ 0 few (omega arith)) (sym (less-no 26 _ few (omega (arith, g .1))))))
 
   -- nor 8, 5 or 6
   pub list-right : (d : Decision) → listWrong f (listFrom s f d) ≡ 0
-  unfolding listWrong listOf
+  unfolding listWrong listFor
   list-right d =
-      rw (list-is d)
+      rw (list-is s f d sound)
       (sym
       (pass kind-right
       (pass (decision-right d)
@@ -97,16 +92,16 @@ module _ (s : Sheet) (f : ℕ) (sound : sheetWrong f s ≡ 0) where
 
   -- a list of votes may stand in an LG
   pub list-logs : (d : Decision) → s .kind ≡ 1 → logListWrong f (listFrom s f d) ≡ 0
-  unfolding logListWrong listOf ifSame
-  list-logs d k = sym (pass (rw (list-is d, k)) (sym (list-right d)))
+  unfolding logListWrong listFor ifSame
+  list-logs d k = sym (pass (rw (list-is s f d sound, k)) (sym (list-right d)))
 
   kind-listed : (d : Decision) → listFrom s f d .kind ≡ s .kind
-  unfolding listOf
-  kind-listed d = rw (list-is d)
+  unfolding listFor
+  kind-listed d = rw (list-is s f d sound)
 
   decision-listed : (d : Decision) → decisionOf (listFrom s f d .decision) ≡ d
-  unfolding listOf
-  decision-listed d = rw (list-is d) (decision-known d)
+  unfolding listFor
+  decision-listed d = rw (list-is s f d sound) (decision-known d)
 
   -- a box that gets the list in an LG, or in a DC, finds the threshold met just where the sheet has as many boxes
   pub logged-is : (d : Decision) → loggingMet f (listFrom s f d) ≡ leb (forLogging f d) (counted f d s)
@@ -153,10 +148,10 @@ module _ (s : Sheet) (f : ℕ) (sound : sheetWrong f s ≡ 0) where
 pub reply-judged : (s : Sheet) (f number answer : ℕ) → answerWrong s f number answer ≡ 0 → on s number ≡ false
     → replyTo s f number answer ≡ judged (kindOf (sheetAfter s f number answer .kind)) f (sheetAfter s f number answer)
 reply-judged s f number answer z off =
-    let e : joined s number answer ≡ sheetAfter s f number answer = after-joined s f number answer _ refl z _ off refl in
-    let r : reached f (joined s number answer) ≡ replyTo s f number answer = reply-reached s f number answer _ refl z _ _ off refl refl in
-    let w = one-or-two answer (right-answer s f number answer _ refl z) in
-    let t = joins-sound s number answer off f (right-sheet s f number answer _ refl z) (right-box s f number answer _ refl z) w in
+    let e : joined s number answer ≡ sheetAfter s f number answer = after-joined s f number answer z _ off refl in
+    let r : reached f (joined s number answer) ≡ replyTo s f number answer = reply-reached s f number answer z _ off refl in
+    let w = one-or-two answer (right-answer s f number answer z) in
+    let t = joins-sound s number answer off f (right-sheet s f number answer z) (right-box s f number answer z) w in
     rw (← e) (sym r ∙ reached-judged (joined s number answer) f t)
 
 -- the struct that `list_from` returns holds that list

@@ -13,16 +13,16 @@ use Rattle.terms.specs.Choice.{pick, any, falls}
 use Rattle.records.specs.declared.Pair.{Pair}
 use Rattle.records.specs.declared.VoteList.{VoteList}
 use Rattle.records.specs.Vl.{heldList, noList, zeroPair}
-use Rattle.records.specs.Contents.{answerOdd, boxOf}
+use Rattle.records.specs.Contents.{answerOdd, pairBox}
 use Rattle.rules.specs.Lists.{bit, tally}
-use Rattle.rules.specs.System.{count}
+use Rattle.rules.specs.System.{howMany}
 use Rattle.sheet.specs.Masks.{has}
 use Rattle.terms.specs.Group.{boxes}
 use Rattle.terms.specs.declared.Decision.{Decision}
-use Rattle.terms.specs.declared.Decision.the-variants.{Commit as commit, Abort as abort}
 use Rattle.sheet.specs.declared.Sheet.{Sheet}
-use Rattle.sheet.specs.Sheets.{sheetWrong}
-use Rattle.sheet.specs.Listing.{listed, listOf, listBy, listFrom}
+use Rattle.terms.specs.Codes.{decisionNumber}
+use Rattle.sheet.specs.Sheets.{sheetWrong, under}
+use Rattle.sheet.specs.Listing.{listed, listFor, listBy, listFrom}
 
 module _ {A : Type 0} where
   append-none : (xs : List A) → xs ++ [] ≡ xs
@@ -88,37 +88,35 @@ module _ {p : ℕ → Bool} {answer : ℕ} where
         }
 
 pub noted-list : (kind answer m n j : ℕ) (a : List Pair) → Noted (has m) answer a j n
-    → record { kind = kind; decision = answer; count = j; pairs = a } ≡ heldList (listOf kind answer m n)
-unfolding heldList listOf
+    → record { kind = kind; decision = answer; count = j; pairs = a } ≡ heldList (listFor kind answer m n)
+unfolding heldList listFor
 noted-list kind answer m n j a g = rw (g .counts, ← g .is)
 
 -- a list from a sheet, by the sheet's refusal
-module _ (s : Sheet) (f : ℕ) (d : Decision) (l : VoteList) (x : ℕ) (p : x ≡ sheetWrong f s) where
-  pub list-refused : (x ≡ 0 → ⊥) → l ≡ heldList (listOf 0 0 0 0) → l ≡ heldList (listFrom s f d)
-  unfolding listFrom listBy listOf listed noList
-  list-refused n e = rw (← p) (by x n)
+module _ (s : Sheet) (f : ℕ) (d : Decision) where
+  pub list-refused : (sheetWrong f s ≡ 0 → ⊥) → heldList (listFor 0 0 0 0) ≡ heldList (listFrom s f d)
+  unfolding listFrom listBy listFor listed noList
+  list-refused = by (sheetWrong f s)
     where
-      by : (y : ℕ) → (y ≡ 0 → ⊥) → l ≡ heldList (listBy y s f d)
+      by : (y : ℕ) → (y ≡ 0 → ⊥) → heldList (listFor 0 0 0 0) ≡ heldList (listBy y s f d)
       by zero n = absurd (n refl)
-      by (suc y) n = e
+      by (suc y) n = refl
 
-  module _ (n : ℕ) (z : x ≡ 0) (q : n ≡ boxes f) where
-    pub list-commits : d ≡ commit → l ≡ heldList (listOf (s .kind) 1 (s .commits) n) → l ≡ heldList (listFrom s f d)
-    unfolding listFrom listBy
-    list-commits e h = rw (← p, z, e, ← q) h
+  pub list-is : sheetWrong f s ≡ 0 → listFrom s f d ≡ listFor (s .kind) (decisionNumber d) (under d s) (boxes f)
+  unfolding listFrom listBy
+  list-is z = rw z
 
-    pub list-aborts : d ≡ abort → l ≡ heldList (listOf (s .kind) 2 (s .aborts) n) → l ≡ heldList (listFrom s f d)
-    unfolding listFrom listBy
-    list-aborts e h = rw (← p, z, e, ← q) h
+  pub list-right : (l : VoteList) → sheetWrong f s ≡ 0 → l ≡ heldList (listFor (s .kind) (decisionNumber d) (under d s) (boxes f)) → l ≡ heldList (listFrom s f d)
+  list-right l z e = rw (list-is z) e
 
 -- what it counts
 module _ (p : ℕ → Bool) (answer : ℕ) where
-  pub listed-length : (n : ℕ) → length (listed p answer n) ≡ count p n
-  unfolding listed count bit
+  pub listed-length : (n : ℕ) → length (listed p answer n) ≡ howMany p n
+  unfolding listed howMany bit
   listed-length zero = refl
   listed-length (suc n) = rw (length-append (listed p answer n)) (by (p n) (listed-length n))
     where
-      by : (t : Bool) → length (listed p answer n) ≡ count p n → length (listed p answer n) + length {A = Pair} (pick t (record { number = n; answer = answer } ∷ []) []) ≡ bit t + count p n
+      by : (t : Bool) → length (listed p answer n) ≡ howMany p n → length (listed p answer n) + length {A = Pair} (pick t (record { number = n; answer = answer } ∷ []) []) ≡ bit t + howMany p n
       by true e = omega arith
       by false e = omega arith
 
@@ -128,12 +126,12 @@ module _ (p : ℕ → Bool) (answer : ℕ) where
   tally-append (x ∷ xs) ys = omega (arith, tally-append xs ys)
 
   -- "only entries with that answer are counted": all of them are
-  pub listed-tally : (n : ℕ) → tally answer (listed p answer n) ≡ count p n
-  unfolding listed count bit tally
+  pub listed-tally : (n : ℕ) → tally answer (listed p answer n) ≡ howMany p n
+  unfolding listed howMany bit tally
   listed-tally zero = refl
   listed-tally (suc n) = rw (tally-append (listed p answer n)) (by (p n) (listed-tally n))
     where
-      by : (t : Bool) → tally answer (listed p answer n) ≡ count p n → tally answer (listed p answer n) + tally answer (pick t (record { number = n; answer = answer } ∷ []) []) ≡ bit t + count p n
+      by : (t : Bool) → tally answer (listed p answer n) ≡ howMany p n → tally answer (listed p answer n) + tally answer (pick t (record { number = n; answer = answer } ∷ []) []) ≡ bit t + howMany p n
       by true e = rw (eq-eqb answer answer refl) (omega arith)
       by false e = omega arith
 
@@ -154,26 +152,26 @@ module _ (p : ℕ → Bool) (answer : ℕ) where
   listed-below k n h = none-listed (λ q. leb k (q .number)) n (λ b l. lt-leb k b (omega arith))
 
   -- one box more, above all before it
-  rises-next : (n lo : ℕ) (xs : List Pair) → falls boxOf lo xs ≡ false → any (λ q. leb n (q .number)) xs ≡ false → lo ≤ n → falls boxOf lo (xs ++ (record { number = n; answer = answer } ∷ [])) ≡ false
+  rises-next : (n lo : ℕ) (xs : List Pair) → falls pairBox lo xs ≡ false → any (λ q. leb n (q .number)) xs ≡ false → lo ≤ n → falls pairBox lo (xs ++ (record { number = n; answer = answer } ∷ [])) ≡ false
   rises-next n lo [] e d l = rw (le-ltb n lo l)
   rises-next n lo (x ∷ xs) e d l = go (ltb (x .number) lo) (leb n (x .number)) refl e d (λ h k m. rises-next n (x .number + 1) xs h k m)
     where
       More : Type 0
-      More = falls boxOf (x .number + 1) (xs ++ (record { number = n; answer = answer } ∷ [])) ≡ false
+      More = falls pairBox (x .number + 1) (xs ++ (record { number = n; answer = answer } ∷ [])) ≡ false
 
-      go : (s t : Bool) → leb n (x .number) ≡ t → (s || falls boxOf (x .number + 1) xs) ≡ false → (t || any (λ q. leb n (q .number)) xs) ≡ false
-          → (falls boxOf (x .number + 1) xs ≡ false → any (λ q. leb n (q .number)) xs ≡ false → x .number + 1 ≤ n → More)
-          → (s || falls boxOf (x .number + 1) (xs ++ (record { number = n; answer = answer } ∷ []))) ≡ false
+      go : (s t : Bool) → leb n (x .number) ≡ t → (s || falls pairBox (x .number + 1) xs) ≡ false → (t || any (λ q. leb n (q .number)) xs) ≡ false
+          → (falls pairBox (x .number + 1) xs ≡ false → any (λ q. leb n (q .number)) xs ≡ false → x .number + 1 ≤ n → More)
+          → (s || falls pairBox (x .number + 1) (xs ++ (record { number = n; answer = answer } ∷ []))) ≡ false
       go true t q h k more = h
       go false true q h k more = absurd (let z : _≡_ {A = ℕ} 0 1 = cc in omega arith)
       go false false q h k more = more h k (let z : x .number < n = leb-false n (x .number) q in omega arith)
 
   -- "box numbers rise strictly"
-  pub listed-rises : (n : ℕ) → falls boxOf 0 (listed p answer n) ≡ false
+  pub listed-rises : (n : ℕ) → falls pairBox 0 (listed p answer n) ≡ false
   unfolding listed
   listed-rises zero = refl
   listed-rises (suc n) = by (p n) (listed-rises n)
     where
-      by : (t : Bool) → falls boxOf 0 (listed p answer n) ≡ false → falls boxOf 0 (listed p answer n ++ pick t (record { number = n; answer = answer } ∷ []) []) ≡ false
+      by : (t : Bool) → falls pairBox 0 (listed p answer n) ≡ false → falls pairBox 0 (listed p answer n ++ pick t (record { number = n; answer = answer } ∷ []) []) ≡ false
       by true h = rises-next n 0 (listed p answer n) h (listed-below n n (omega arith)) (omega arith)
       by false h = rw (append-none (listed p answer n)) h

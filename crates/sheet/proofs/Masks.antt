@@ -9,7 +9,7 @@ use lib.Dec.{eqb, eqb→eq, leb, leb→le}
 use lib.Pow.{pow-mono, pow-pos, shr-shr}
 use borrow.Author.Tests.{eqb-false, eq-eqb, leb-false, ne-eqb}
 use Rattle.rules.specs.Lists.{bit}
-use Rattle.rules.specs.System.{count}
+use Rattle.rules.specs.System.{howMany}
 use Rattle.sheet.specs.Masks.{has, withBox}
 
 -- bit b + 1 of m is bit b of its half
@@ -107,16 +107,16 @@ has-wide k m n h l =
 
 module _ (p : ℕ → Bool) where
   -- one box more
-  pub count-yes : (i : ℕ) → p i ≡ true → count p (i + 1) ≡ count p i + 1
-  unfolding count bit
-  count-yes i h = let e : i + 1 ≡ suc i = add-one i in rw (e, h) (omega arith)
+  pub count-yes : (i c : ℕ) → p i ≡ true → c ≡ howMany p i → c + 1 ≡ howMany p (i + 1)
+  unfolding howMany bit
+  count-yes i c h q = let e : i + 1 ≡ suc i = add-one i in rw (e, h) (omega arith)
 
-  pub count-no : (i : ℕ) → p i ≡ false → count p (i + 1) ≡ count p i
-  unfolding count bit
-  count-no i h = let e : i + 1 ≡ suc i = add-one i in rw (e, h) (omega arith)
+  pub count-no : (i c : ℕ) → p i ≡ false → c ≡ howMany p i → c ≡ howMany p (i + 1)
+  unfolding howMany bit
+  count-no i c h q = let e : i + 1 ≡ suc i = add-one i in rw (e, h) (omega arith)
 
-  pub count-most : (n : ℕ) → count p n ≤ n
-  unfolding count bit
+  pub count-most : (n : ℕ) → howMany p n ≤ n
+  unfolding howMany bit
   count-most zero = omega arith
   count-most (suc n) = omega (arith, most (p n), count-most n)
     where
@@ -125,10 +125,10 @@ module _ (p : ℕ → Bool) where
       most false = omega arith
 
 -- a count goes by what the test says of the boxes below n
-pub count-same : (p q : ℕ → Bool) (n : ℕ) → ((b : ℕ) → b < n → p b ≡ q b) → count p n ≡ count q n
-unfolding count
+pub count-same : (p q : ℕ → Bool) (n : ℕ) → ((b : ℕ) → b < n → p b ≡ q b) → howMany p n ≡ howMany q n
+unfolding howMany
 count-same p q zero h = refl
 count-same p q (suc n) h =
     let e : p n ≡ q n = h n (omega arith) in
-    let r : count p n ≡ count q n = count-same p q n (λ b l. h b (omega arith)) in
+    let r : howMany p n ≡ howMany q n = count-same p q n (λ b l. h b (omega arith)) in
     rw (e, r)

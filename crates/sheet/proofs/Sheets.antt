@@ -1,7 +1,7 @@
 -- Laws of a sheet: one for each outcome of its definitions.
 use Prim.Native.Nat.{ℕ, zero, suc, _<_, _≤_}
 use native.Mathlib.Omega.{arith}
-use mathlib.Core.Path.{_≡_, refl, ap, sym, _∙_}
+use mathlib.Core.Path.{_≡_, refl, sym, _∙_}
 use mathlib.Core.Bool.{Bool, true, false, _||_}
 use lib.Dec.{leb}
 use borrow.Author.Tests.{eq-eqb, ne-eqb, leb-false}
@@ -11,7 +11,7 @@ use Rattle.terms.proofs.Checks.{first-none, rest-none, when-none}
 use Rattle.terms.proofs.Groups.{group-small}
 use Rattle.records.specs.Contents.{codeWrong}
 use Rattle.rules.specs.Lists.{kindOf}
-use Rattle.rules.specs.System.{count}
+use Rattle.rules.specs.System.{howMany}
 use Rattle.sheet.specs.declared.Sheet.{Sheet}
 use Rattle.sheet.specs.declared.Reply.{Reply}
 use Rattle.sheet.specs.declared.Reply.the-variants.{Votes, Logs, Repeat, Refused}
@@ -63,76 +63,79 @@ module _ (s : Sheet) (b : ℕ) where
     join-abort e p = rw (ne-eqb answer 1 e, p)
 
 -- the thresholds by the sheet's kind
-module _ (f : ℕ) (s : Sheet) {c a : ℕ} (p : c ≡ count (has (s .commits)) (boxes f)) (q : a ≡ count (has (s .aborts)) (boxes f)) where
-  pub reached-votes : {cl al cp ap : ℕ} → s .kind ≡ 1 → cl ≡ commitList f → al ≡ abortList f → cp ≡ commitProof f → ap ≡ abortProof f
-      → Votes (record { «commit_list» = leb cl c; «abort_list» = leb al a; «commit_proof» = leb cp c; «abort_proof» = leb ap a }) ≡ reached f s
-  unfolding reached reachedBy counted kindOf
-  reached-votes k e₁ e₂ e₃ e₄ = rw (eq-eqb (s .kind) 1 k, p, q, e₁, e₂, e₃, e₄)
+module _ (f : ℕ) (s : Sheet) where
+  abbrev commits : ℕ
+  commits = howMany (has (s .commits)) (boxes f)
 
-  pub reached-logs : {lc la : ℕ} → (s .kind ≡ 1 → ⊥) → lc ≡ logProof f → la ≡ logProof f → Logs (record { commit = leb lc c; abort = leb la a }) ≡ reached f s
+  abbrev aborts : ℕ
+  aborts = howMany (has (s .aborts)) (boxes f)
+
+  pub reached-votes : (r : Reply) → s .kind ≡ 1
+      → r ≡ Votes (record { «commit_list» = leb (commitList f) commits; «abort_list» = leb (abortList f) aborts; «commit_proof» = leb (commitProof f) commits; «abort_proof» = leb (abortProof f) aborts })
+      → r ≡ reached f s
   unfolding reached reachedBy counted kindOf
-  reached-logs k e₁ e₂ = rw (ne-eqb (s .kind) 1 k, p, q, e₁, e₂)
+  reached-votes r k e = rw (eq-eqb (s .kind) 1 k) e
+
+  pub reached-logs : (r : Reply) → (s .kind ≡ 1 → ⊥) → r ≡ Logs (record { commit = leb (logProof f) commits; abort = leb (logProof f) aborts }) → r ≡ reached f s
+  unfolding reached reachedBy counted kindOf
+  reached-logs r k e = rw (ne-eqb (s .kind) 1 k) e
 
 -- what a sheet without a refusal is
 pub sheet-group : (f : ℕ) (s : Sheet) (x : ℕ) → x ≡ sheetWrong f s → x ≡ 0 → (1 ≤ f) × (f ≤ 5)
 unfolding sheetWrong
 sheet-group f s x p z = group-small f (groupWrong f) refl (first-none _ _ (sym p ∙ z))
 
-module _ (s : Sheet) (f number answer x : ℕ) (p : x ≡ answerWrong s f number answer) where
-  module _ (z : x ≡ 0) where
+module _ (s : Sheet) (f number answer : ℕ) where
+  module _ (z : answerWrong s f number answer ≡ 0) where
     pub right-sheet : sheetWrong f s ≡ 0
     unfolding answerWrong
-    right-sheet = first-none _ _ (sym p ∙ z)
+    right-sheet = first-none _ _ z
 
     pub right-box : number < boxes f
     unfolding answerWrong
-    right-box = leb-false (boxes f) number (when-none _ _ (first-none _ _ (rest-none _ _ (sym p ∙ z))))
+    right-box = leb-false (boxes f) number (when-none _ _ (first-none _ _ (rest-none _ _ z)))
 
     pub right-answer : codeWrong answer ≡ 0
     unfolding answerWrong
-    right-answer = rest-none _ _ (rest-none _ _ (sym p ∙ z))
-
-    pub right-group : (1 ≤ f) × (f ≤ 5)
-    right-group = sheet-group f s _ refl right-sheet
-
-    pub small-group : f ≤ 5
-    small-group = right-group .1
-
-    pub small-box : number < 26
-    small-box = omega (arith, right-group .1, right-box)
+    right-answer = rest-none _ _ (rest-none _ _ z)
 
     -- "A box already on the sheet then answers Repeat, sheet unchanged"
     pub after-repeat : on s number ≡ true → s ≡ sheetAfter s f number answer
     unfolding sheetAfter sheetBy
-    after-repeat h = rw (← p, z, h)
+    after-repeat h = rw (z, h)
 
     pub reply-repeat : on s number ≡ true → Repeat ≡ replyTo s f number answer
     unfolding replyTo replyBy
-    reply-repeat h = rw (← p, z, h)
+    reply-repeat h = rw (z, h)
 
     -- "Otherwise the box joins"
     pub after-joined : (t : Sheet) → on s number ≡ false → t ≡ joined s number answer → t ≡ sheetAfter s f number answer
     unfolding sheetAfter sheetBy
-    after-joined t h e = rw (← p, z, h) e
+    after-joined t h e = rw (z, h) e
 
-    pub reply-reached : (t : Sheet) (r : Reply) → on s number ≡ false → t ≡ joined s number answer → r ≡ reached f t → r ≡ replyTo s f number answer
+    pub reply-reached : (r : Reply) → on s number ≡ false → r ≡ reached f (joined s number answer) → r ≡ replyTo s f number answer
     unfolding replyTo replyBy
-    reply-reached t r h e q = rw (← p, z, h, ← e) q
+    reply-reached r h e = rw (z, h) e
 
-  module _ (n : x ≡ 0 → ⊥) where
-    -- "A refusal returns its number only. .. tally .. stay unchanged."
-    pub after-refused : s ≡ sheetAfter s f number answer
-    unfolding sheetAfter sheetBy
-    after-refused = rw (← p) (kept x n)
-      where
-        kept : (y : ℕ) → (y ≡ 0 → ⊥) → s ≡ sheetBy y s number answer
-        kept zero n = absurd (n refl)
-        kept (suc y) n = refl
+  -- "A refusal returns its number only. .. tally .. stay unchanged."
+  pub after-refused : (answerWrong s f number answer ≡ 0 → ⊥) → s ≡ sheetAfter s f number answer
+  unfolding sheetAfter sheetBy
+  after-refused = by (answerWrong s f number answer)
+    where
+      by : (y : ℕ) → (y ≡ 0 → ⊥) → s ≡ sheetBy y s number answer
+      by zero n = absurd (n refl)
+      by (suc y) n = refl
 
-    pub reply-refused : Refused (refusalOf x) ≡ replyTo s f number answer
-    unfolding replyTo replyBy
-    reply-refused = rw (← p) (told x n)
-      where
-        told : (y : ℕ) → (y ≡ 0 → ⊥) → Refused (refusalOf y) ≡ replyBy y s f number answer
-        told zero n = absurd (n refl)
-        told (suc y) n = refl
+  pub reply-refused : (answerWrong s f number answer ≡ 0 → ⊥) → Refused (refusalOf (answerWrong s f number answer)) ≡ replyTo s f number answer
+  unfolding replyTo replyBy
+  reply-refused = by (answerWrong s f number answer)
+    where
+      by : (y : ℕ) → (y ≡ 0 → ⊥) → Refused (refusalOf y) ≡ replyBy y s f number answer
+      by zero n = absurd (n refl)
+      by (suc y) n = refl
+
+-- and an answer without one
+pub small-box : (s : Sheet) (f number answer x : ℕ) → x ≡ answerWrong s f number answer → x ≡ 0 → (number < 26) × (f ≤ 5)
+small-box s f number answer x p z =
+    let g = sheet-group f s _ refl (right-sheet s f number answer (sym p ∙ z)) in
+    (omega (arith, g .1, right-box s f number answer (sym p ∙ z)), g .1)

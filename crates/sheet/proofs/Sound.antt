@@ -13,7 +13,7 @@ use Rattle.terms.specs.declared.Decision.{Decision}
 use Rattle.terms.specs.declared.Decision.the-variants.{Commit as commit, Abort as abort}
 use Rattle.terms.proofs.Checks.{pass, first-none, rest-none, when-none, when-no, not-less}
 use Rattle.records.specs.Contents.{codeWrong}
-use Rattle.rules.specs.Answers.{decisionNumber}
+use Rattle.terms.specs.Codes.{decisionNumber}
 use Rattle.sheet.specs.declared.Sheet.{Sheet}
 use Rattle.sheet.specs.Masks.{has, withBox}
 use Rattle.sheet.specs.Sheets.{joined, numbers, on, sheetDamaged, sheetWrong, twice, under}

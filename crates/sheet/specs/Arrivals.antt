@@ -8,8 +8,8 @@ use Rattle.terms.specs.Choice.{pick}
 use Rattle.terms.specs.Group.{boxes, groupWrong}
 use Rattle.terms.specs.declared.Decision.{Decision}
 use Rattle.terms.specs.declared.Kind.{Kind}
-use Rattle.rules.specs.Answers.{decisionNumber}
-use Rattle.rules.specs.System.{count}
+use Rattle.terms.specs.Codes.{decisionNumber}
+use Rattle.rules.specs.System.{howMany}
 use Rattle.sheet.specs.declared.Sheet.{Sheet}
 use Rattle.sheet.specs.Sheets.{counted, emptySheet, givenWrong, sheetAfter}
 
@@ -36,4 +36,4 @@ abbrev pub CountsBoxes : Type 0
 CountsBoxes =
     (f : ℕ) (k : Kind) (more : List Arrival) (d : Decision)
     → groupWrong f ≡ 0
-    → counted f d (sheetFrom (emptySheet k) f more) ≡ count (λ b. eqb (firstOf f b more) (decisionNumber d)) (boxes f)
+    → counted f d (sheetFrom (emptySheet k) f more) ≡ howMany (λ b. eqb (firstOf f b more) (decisionNumber d)) (boxes f)

@@ -10,7 +10,7 @@ use Rattle.terms.specs.declared.Kind.{Kind}
 use Rattle.terms.specs.declared.Kind.the-variants.{Votes as votes, Logs as logs}
 use Rattle.records.specs.declared.Pair.{Pair}
 use Rattle.records.specs.Vl.{Vl, noList}
-use Rattle.rules.specs.Answers.{decisionNumber}
+use Rattle.terms.specs.Codes.{decisionNumber}
 use Rattle.rules.specs.Lists.{decisionOf, forLogging, forProof, kindOf, meets}
 use Rattle.sheet.specs.declared.Sheet.{Sheet}
 use Rattle.sheet.specs.declared.Reply.{Reply}
@@ -24,12 +24,12 @@ listed p answer zero = []
 listed p answer (suc n) = listed p answer n ++ pick (p n) (record { number = n; answer = answer } ∷ []) []
 
 -- "A list names one decision; only entries with that answer are counted": a list of just these
-unfoldable pub listOf : ℕ → ℕ → ℕ → ℕ → Vl
-listOf kind answer m n = record { kind = kind; decision = answer; pairs = listed (has m) answer n }
+unfoldable pub listFor : ℕ → ℕ → ℕ → ℕ → Vl
+listFor kind answer m n = record { kind = kind; decision = answer; pairs = listed (has m) answer n }
 
 -- a sheet that is refused gives no list
 unfoldable pub listBy : ℕ → Sheet → ℕ → Decision → Vl
-listBy zero s f d = listOf (s .kind) (decisionNumber d) (under d s) (boxes f)
+listBy zero s f d = listFor (s .kind) (decisionNumber d) (under d s) (boxes f)
 listBy (suc wrong) s f d = noList
 
 unfoldable pub listFrom : Sheet → ℕ → Decision → Vl

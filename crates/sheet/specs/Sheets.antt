@@ -6,10 +6,11 @@ use lib.Dec.{eqb, leb}
 use Rattle.terms.specs.Choice.{pick, tab, any}
 use Rattle.terms.specs.Checks.{orElse, when, ifLess, ifSame, range, table}
 use Rattle.terms.specs.Refusals.{numberOf, refusalOf}
+use Rattle.terms.specs.Codes.{kindNumber}
 use Rattle.terms.specs.Group.{boxes, groupWrong}
 use Rattle.records.specs.Contents.{codeWrong}
 use Rattle.rules.specs.Lists.{bit, forLogging, forProof, kindOf}
-use Rattle.rules.specs.System.{count}
+use Rattle.rules.specs.System.{howMany}
 use Rattle.terms.specs.declared.Decision.{Decision}
 use Rattle.terms.specs.declared.Decision.the-variants.{Commit as commit, Abort as abort}
 use Rattle.terms.specs.declared.Kind.{Kind}
@@ -26,10 +27,9 @@ replyValues (Logs v) = 2 ∷ bit (v .commit) ∷ bit (v .abort) ∷ 0 ∷ 0 ∷ 
 replyValues Repeat = 3 ∷ 0 ∷ 0 ∷ 0 ∷ 0 ∷ []
 replyValues (Refused r) = 4 ∷ numberOf r ∷ 0 ∷ 0 ∷ 0 ∷ []
 
--- "kind (1 votes, 2 logs)": a sheet with no box on it
+-- a sheet with no box on it
 abbrev pub emptySheet : Kind → Sheet
-emptySheet votes = record { kind = 1; commits = 0; aborts = 0 }
-emptySheet logs = record { kind = 2; commits = 0; aborts = 0 }
+emptySheet k = record { kind = kindNumber k; commits = 0; aborts = 0 }
 
 -- box numbers "0 to n − 1"
 abbrev pub numbers : ℕ → List ℕ
@@ -76,7 +76,7 @@ under commit s = s .commits
 under abort s = s .aborts
 
 unfoldable pub counted : ℕ → Decision → Sheet → ℕ
-counted f d s = count (has (under d s)) (boxes f)
+counted f d s = howMany (has (under d s)) (boxes f)
 
 -- "which of the kind's thresholds are reached"
 unfoldable pub reachedBy : Kind → ℕ → Sheet → Reply

@@ -6,10 +6,10 @@ ghost use lib.Dec.{leb};
 ghost use Rattle.terms.specs.Choice.{any};
 ghost use Rattle.records.specs.Vl.{heldList};
 ghost use Rattle.rules.specs.Lists.{bit};
-ghost use Rattle.rules.specs.System.{count};
+ghost use Rattle.rules.specs.System.{howMany};
 ghost use Rattle.sheet.specs.Masks.{has, withBox};
-ghost use Rattle.sheet.specs.Sheets.{twice, sheetDamaged, sheetWrong, answerWrong, on, joined, reached, sheetAfter, replyTo, replyValues, emptySheet, numbers};
-ghost use Rattle.sheet.specs.Listing.{listOf, listFrom};
+ghost use Rattle.sheet.specs.Sheets.{twice, sheetDamaged, sheetWrong, answerWrong, on, joined, reached, sheetAfter, replyTo, replyValues, emptySheet, numbers, under};
+ghost use Rattle.sheet.specs.Listing.{listFor, listFrom};
 use records::Pair;
 use records::VoteList;
 use terms::Decision;
@@ -110,7 +110,7 @@ fn with_box(m: u32, b: usize) -> u32
 // How many of the first n boxes are on a mask.
 fn counted(m: u32, n: usize) -> usize
     requires { ⌜ n ≤ 32 ⌝ }
-    ensures { λ r. ⌜ r ≡ count (has m) n ⌝ }
+    ensures { λ r. ⌜ r ≡ howMany (has m) n ⌝ }
 {
     let mut c = 0;
     let mut i = 0;
@@ -158,28 +158,25 @@ fn mask_wide(m: u32, n: usize) -> bool
     (1 << n) <= m
 }
 
-// 16 if a lent sheet is damaged, else 0.
+// 16 if a lent sheet is damaged, else 0: no check needs the one before it.
 fn sheet_damaged(s: Sheet, g: Group) -> u8
     requires { ⌜ g .f ≤ 5 ⌝ }
     ensures { λ r. ⌜ r ≡ sheetDamaged (g .f) s ⌝ }
 {
     let n = g.n();
-    if s.kind == 0 {
-        return terms::TABLE;
-    }
-    if 2 < s.kind {
-        return terms::TABLE;
-    }
-    if mask_wide(s.commits, n) {
-        return terms::TABLE;
-    }
-    if mask_wide(s.aborts, n) {
-        return terms::TABLE;
-    }
-    if both(s, n) {
-        return terms::TABLE;
-    }
-    0
+    terms::first(
+        terms::refuse_if(s.kind == 0, terms::TABLE),
+        terms::first(
+            terms::refuse_if(2 < s.kind, terms::TABLE),
+            terms::first(
+                terms::refuse_if(mask_wide(s.commits, n), terms::TABLE),
+                terms::first(
+                    terms::refuse_if(mask_wide(s.aborts, n), terms::TABLE),
+                    terms::refuse_if(both(s, n), terms::TABLE),
+                ),
+            ),
+        ),
+    )
 }
 
 // 14, then 16.
@@ -193,7 +190,7 @@ pub fn sheet_wrong(s: Sheet, f: u64) -> u8
     sheet_damaged(s, Group { f: f as u8 })
 }
 
-// 14, 16, then 5 and 8 of the answer.
+// 14, 16, then 5 and 8 of the answer: 14 stands in front, since n is worked out from f.
 pub fn answer_wrong(s: Sheet, f: u64, number: u64, answer: u64) -> u8
     ensures { λ r. ⌜ r ≡ answerWrong s f number answer ⌝ }
 {
@@ -201,18 +198,14 @@ pub fn answer_wrong(s: Sheet, f: u64, number: u64, answer: u64) -> u8
     if wrong != 0 {
         return wrong;
     }
-    let g = Group { f: f as u8 };
-    let n = g.n();
-    if n as u64 <= number {
-        return terms::RANGE;
-    }
-    if answer == 0 {
-        return terms::CODE;
-    }
-    if 2 < answer {
-        return terms::CODE;
-    }
-    0
+    let n = Group { f: f as u8 }.n();
+    terms::first(
+        terms::refuse_if(n as u64 <= number, terms::RANGE),
+        terms::first(
+            terms::refuse_if(answer == 0, terms::CODE),
+            terms::refuse_if(2 < answer, terms::CODE),
+        ),
+    )
 }
 
 fn on_sheet(s: Sheet, b: usize) -> bool
@@ -310,7 +303,7 @@ pub fn take(s: &mut Sheet, f: u64, number: u64, answer: u64) -> Reply
 // The first n boxes on a mask, in rising order, each with this answer.
 fn list_of_mask(kind: u8, answer: u8, m: u32, n: usize) -> VoteList
     requires { ⌜ n ≤ 26 ⌝ }
-    ensures { λ r. ⌜ r ≡ heldList (listOf kind answer m n) ⌝ }
+    ensures { λ r. ⌜ r ≡ heldList (listFor kind answer m n) ⌝ }
 {
     let z = Pair {
         number: 0,
@@ -339,6 +332,16 @@ fn list_of_mask(kind: u8, answer: u8, m: u32, n: usize) -> VoteList
     }
 }
 
+// The boxes under a decision.
+fn mask_under(s: Sheet, decision: Decision) -> u32
+    ensures { λ r. ⌜ r ≡ under decision s ⌝ }
+{
+    match decision {
+        Decision::Commit => s.commits,
+        Decision::Abort => s.aborts,
+    }
+}
+
 // The list of the boxes under a decision; only they count for it, so a list of them is the shortest. A sheet that is refused gives a list of none.
 pub fn list_from(s: Sheet, f: u64, decision: Decision) -> VoteList
     ensures { λ r. ⌜ r ≡ heldList (listFrom s f decision) ⌝ }
@@ -347,10 +350,6 @@ pub fn list_from(s: Sheet, f: u64, decision: Decision) -> VoteList
     if wrong != 0 {
         return list_of_mask(0, 0, 0, 0);
     }
-    let g = Group { f: f as u8 };
-    let n = g.n();
-    match decision {
-        Decision::Commit => list_of_mask(s.kind, 1, s.commits, n),
-        Decision::Abort => list_of_mask(s.kind, 2, s.aborts, n),
-    }
+    let n = Group { f: f as u8 }.n();
+    list_of_mask(s.kind, decision.number(), mask_under(s, decision), n)
 }

@@ -1,5 +1,6 @@
 pub mod Tallying
-pub mod Held
-pub mod Rules
-pub mod Voting
 pub mod Stored
+pub mod Looking
+pub mod Entries
+pub mod Rules
+pub mod Reading

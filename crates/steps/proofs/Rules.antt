@@ -1,102 +1,130 @@
--- LG and DC over the rows of a table: one law for each outcome of the look-up.
+-- PR, LG and DC by what is held under the message's stamp.
 use Prim.Native.Nat.{ℕ, _<_, _≤_}
 use mathlib.Core.Path.{_≡_, refl, sym, ap, _∙_}
-use mathlib.Core.List.{List, []}
-use mathlib.Core.Bool.{true, false}
+use mathlib.Core.List.{List}
+use mathlib.Core.Bool.{Bool, true, false}
 use mathlib.Core.Option.{Option, some, none}
-use borrow.Author.Tests.{le-leb, lt-leb}
-use Rattle.terms.proofs.Scans.{tab-length}
-use Rattle.terms.specs.declared.Refusal.the-variants.{OtherBody, Unknown, TooFew, Full}
-use Rattle.records.specs.declared.VoteList.{VoteList}
-use Rattle.records.specs.Vl.{Vl, listIn}
+use lib.Dec.{T, leb}
+use lib.ListN.{length}
+use Rattle.terms.specs.Choice.{pick}
 use Rattle.terms.specs.declared.Decision.{Decision}
 use Rattle.terms.specs.declared.Kind.{Kind}
+use Rattle.terms.specs.declared.Refusal.the-variants.{OtherBody, TooFew, Full}
+use Rattle.records.specs.declared.VoteList.{VoteList}
+use Rattle.records.specs.Vl.{Vl, listIn}
 use Rattle.rules.specs.declared.Answer.the-variants.{Refused}
+use Rattle.rules.specs.declared.Settled.the-variants.{None as unsettled}
+use Rattle.rules.specs.declared.Told.{Told}
 use Rattle.rules.specs.Bodies.{Body, sameBody, stampOf}
-use Rattle.rules.specs.Lists.{decisionOf, kindOf, forProof, tally}
-use Rattle.rules.specs.Table.{Config, Entry, find}
-use Rattle.rules.specs.Calls.{isFull, roomFor, lgByDecision, lgByEntry, lgRule, dcSame, dcByEntry, dcRule}
-use Rattle.table.specs.declared.Entry.{Entry as State}
-use Rattle.table.specs.Table.{rowAt, entryOf, entryAt, entries, stateOf, place}
-use Rattle.table.proofs.Coding.{state-decided, state-entry}
-use Rattle.table.proofs.Looking.{find-none, find-some}
-use Rattle.steps.specs.declared.Step.the-variants.{Keep}
-use Rattle.steps.specs.Step.{stepBy, config, box, lgHeld, dcSameStep, dcNewStep, dcOtherStep, dcProved}
+use Rattle.rules.specs.Lists.{decisionOf, kindOf, forLogging, forProof, tally, meets}
+use Rattle.rules.specs.Table.{Entry, Box, boxWith, find}
+use Rattle.rules.specs.Calls.{Act, refuse, isFull, roomFor, prByDecision, prByEntry, prRule, lgByLog, lgByDecision, lgByEntry, lgRule, logAct, decideAct, dcSame, dcOther, dcByEntry, dcRule}
+use Rattle.rules.proofs.Laws.{sameBody-eq}
+use Rattle.terms.proofs.Scans.{tab-length}
+use Rattle.table.specs.declared.State.{State}
+use Rattle.table.specs.Table.{entryAt, entries, entryWith, stateIn, place}
+use Rattle.steps.specs.declared.Held.{Held}
+use Rattle.steps.specs.declared.Held.the-variants.{Not, Same, Other}
+use Rattle.steps.specs.declared.Look.{Look}
+use Rattle.steps.specs.declared.Step.{Step}
+use Rattle.steps.specs.Step.{changeBy, stepBy, kept, put, heldBy, lookOf, prBy, lgBy, newBy, dcBy, dcProved}
+use Rattle.steps.proofs.Stored.{put-entry}
 use Rattle.steps.proofs.Tallying.{misses, reaches}
-use Rattle.steps.proofs.Held.{lg-any-body, dc-new-any, dc-same-any, dc-other-any}
 
--- a row's state is its entry's
-lg-row : (i : ℕ) (cf : Config) (b : Body) (l : Vl) (r : List ℕ) → lgHeld i (cf .f) (stateOf r) l ≡ stepBy i (lgByDecision cf b l (entryOf r) (entryOf r .decided))
-lg-row i cf b l r = rw (state-entry r, state-decided r) at (lg-any-body i cf b (entryOf r .body) l (stateOf r))
+-- a held entry with this body is this body with what stands beside it
+own : (b : Body) (e : Entry) → T (sameBody (e .body) b) → entryWith b (stateIn e) ≡ e
+own b e h = ap (λ (c : Body). entryWith c (stateIn e)) (sym (sameBody-eq (e .body) b h)) ∙ put-entry e
 
-dc-row : (i : ℕ) (b : Body) (d : Decision) (r : List ℕ) → dcSameStep i (stateOf r) d ≡ stepBy i (dcSame b d (entryOf r) (entryOf r .decided))
-dc-row i b d r = rw (state-entry r, state-decided r) at (dc-same-any i b (entryOf r .body) d (stateOf r))
+-- room for a new entry, or none
+full-step : (i : ℕ) (c : Bool) (a : Act) → pick c (kept (Refused Full)) (stepBy i a) ≡ stepBy i (pick c (refuse Full) a)
+unfolding stepBy changeBy
+full-step i true a = refl
+full-step i false a = refl
 
-module _ (t : List ℕ) (n : ℕ) (b : Body) (i : ℕ) (p : i ≡ place (stampOf b) (entries t n)) where
-  -- ---- not held
-  pub lg-unknown : (cf : Config) (m : List ℕ) (l : Vl) → n ≤ i → i ≤ n → Keep (Refused Unknown) ≡ stepBy (place (stampOf b) (entries t n)) (lgRule cf (box (entries t n) m) b l)
-  unfolding lgRule lgByEntry stepBy
-  lg-unknown cf m l h k = rw (find-none (stampOf b) t n i p h k)
+module _ (i : ℕ) (told : Told) (x : Box) (b : Body) where
+  pr-entry : (o : Option Entry) → prBy i told x b (heldBy b o) ≡ stepBy i (prByEntry told x b o)
+  unfolding prBy prByEntry stateIn stepBy changeBy
+  pr-entry none = refl
+  pr-entry (some e) = go (sameBody (e .body) b) refl
+    where
+      go : (t : Bool) → sameBody (e .body) b ≡ t
+          → prBy i told x b (pick t (Same (stateIn e)) (Other (stateIn e))) ≡ stepBy i (pick t (prByDecision told x b e (e .decided)) (refuse OtherBody))
+      go true q = ap (λ (y : Entry). stepBy i (prByDecision told x b y (e .decided))) (own b e (rw q tt))
+      go false q = refl
 
-  module _ (capacity : ℕ) (d : Decision) (h : n ≤ i) (k : i ≤ n) where
-    pub dc-full : capacity ≤ n → Keep (Refused Full) ≡ dcProved capacity (entries t n) b d
-    unfolding dcProved dcByEntry roomFor isFull stepBy
-    dc-full c = rw (find-none (stampOf b) t n i p h k, tab-length (entryAt t) 0 n, le-leb capacity n c)
+  lg-entry : (l : Vl) (o : Option Entry) → lgBy i told b l (heldBy b o) ≡ stepBy i (lgByEntry told b l o)
+  unfolding lgBy lgByEntry stateIn stepBy changeBy
+  lg-entry l none = refl
+  lg-entry l (some e) = go (sameBody (e .body) b) refl
+    where
+      go : (t : Bool) → sameBody (e .body) b ≡ t
+          → lgBy i told b l (pick t (Same (stateIn e)) (Other (stateIn e))) ≡ stepBy i (pick t (lgByDecision told b l e (e .decided)) (refuse OtherBody))
+      go true q = ap (λ (y : Entry). stepBy i (lgByDecision told b l y (e .decided))) (own b e (rw q tt))
+      go false q = refl
 
-    pub dc-room : n < capacity → dcNewStep i d ≡ dcProved capacity (entries t n) b d
-    unfolding dcProved dcByEntry roomFor isFull
-    dc-room c = rw (find-none (stampOf b) t n i p h k, tab-length (entryAt t) 0 n, lt-leb capacity n c, ← p) (dc-new-any i b [] d)
+  dc-entry : (d : Decision) (o : Option Entry) → dcBy i told (length (x .table)) b d (heldBy b o) ≡ stepBy i (dcByEntry told x b d o)
+  unfolding dcBy newBy dcByEntry roomFor isFull stateIn
+  dc-entry d none = full-step i (leb (told .capacity) (length (x .table))) (decideAct b d none)
+  dc-entry d (some e) = go (sameBody (e .body) b) refl
+    where
+      go : (t : Bool) → sameBody (e .body) b ≡ t
+          → dcBy i told (length (x .table)) b d (pick t (Same (stateIn e)) (Other (stateIn e))) ≡ stepBy i (pick t (dcSame b d e (e .decided)) (dcOther b d (e .decided)))
+      go true q = ap (λ (y : Entry). stepBy i (dcSame b d y (e .decided))) (own b e (rw q tt))
+      go false q = refl
 
-  -- ---- held, r its row
-  module _ (r : List ℕ) (w : r ≡ rowAt t i) (h : i < n) where
-    pub held-in : find (stampOf b) (entries t n) ≡ some (entryOf r)
-    held-in = find-some (stampOf b) t n i p h ∙ ap (λ (x : List ℕ). some (entryOf x)) (sym w)
+-- ---- by a look-up, as the code has it
+module _ (es : List Entry) (b : Body) (look : Look) (l : look ≡ lookOf es b) (h : Held) (q : look .held ≡ h) (told : Told) (marks : List ℕ) where
+  at : look .place ≡ place (stampOf b) es
+  unfolding lookOf
+  at = rw l
 
-    module _ (cf : Config) (m : List ℕ) (l : Vl) where
-      pub lg-other : false ≡ sameBody (entryOf r .body) b → Keep (Refused OtherBody) ≡ stepBy (place (stampOf b) (entries t n)) (lgRule cf (box (entries t n) m) b l)
-      unfolding lgRule lgByEntry stepBy
-      lg-other s = rw (held-in, ← s)
+  what : h ≡ heldBy b (find (stampOf b) es)
+  unfolding lookOf
+  what = sym q ∙ (rw l)
 
-      pub lg-same : (e : State) → e ≡ stateOf r → true ≡ sameBody (entryOf r .body) b → lgHeld i (cf .f) e l ≡ stepBy (place (stampOf b) (entries t n)) (lgRule cf (box (entries t n) m) b l)
-      unfolding lgRule lgByEntry
-      lg-same e u s = rw (u, held-in, ← s, ← p) (lg-row i cf b l r)
+  pub pr-looked : prBy (look .place) told (boxWith es marks) b h ≡ stepBy (place (stampOf b) es) (prRule told (boxWith es marks) b)
+  unfolding prRule
+  pr-looked = rw (at, what) (pr-entry (place (stampOf b) es) told (boxWith es marks) b (find (stampOf b) es))
 
-    module _ (capacity : ℕ) (d : Decision) (e : State) (u : e ≡ stateOf r) where
-      pub dc-held : true ≡ sameBody (entryOf r .body) b → dcSameStep i e d ≡ dcProved capacity (entries t n) b d
-      unfolding dcProved dcByEntry
-      dc-held s = rw (u, held-in, ← s, ← p) (dc-row i b d r)
-
-      pub dc-differs : false ≡ sameBody (entryOf r .body) b → dcOtherStep i (e .decided) d ≡ dcProved capacity (entries t n) b d
-      unfolding dcProved dcByEntry
-      dc-differs s = rw (u, held-in, ← s, ← p, ← state-decided r) (dc-other-any i b d (stateOf r .decided))
-
--- DC looks at the capacity and the table only
-any-found : (cf : Config) (es : List Entry) (m : List ℕ) (b : Body) (d : Decision) (o : Option Entry) → dcByEntry (config 0 (cf .capacity) 0 0) (box es []) b d o ≡ dcByEntry cf (box es m) b d o
-unfolding dcByEntry roomFor isFull
-any-found cf es m b d none = refl
-any-found cf es m b d (some e) = refl
-
-marks-found : (cf : Config) (es : List Entry) (m : List ℕ) (b : Body) (d : Decision) (o : Option Entry) → dcByEntry cf (box es []) b d o ≡ dcByEntry cf (box es m) b d o
-unfolding dcByEntry roomFor isFull
-marks-found cf es m b d none = refl
-marks-found cf es m b d (some e) = refl
-
--- "11 first."
-module _ (cf : Config) (es : List Entry) (m : List ℕ) (b : Body) (l : VoteList) (k : Kind) (d : Decision) (x need : ℕ) (t : x ≡ tally (l .decision) (listIn l .pairs)) (a : k ≡ kindOf (l .kind)) (h : d ≡ decisionOf (l .decision)) (q : need ≡ forProof (cf .f) k d) where
-  pub dc-few : x < need → Keep (Refused TooFew) ≡ stepBy (place (stampOf b) es) (dcRule cf (box es m) b (listIn l))
-  unfolding dcRule stepBy listIn
-  dc-few c = rw (← a, ← h, ← q, misses (listIn l) x need t c)
-
-  pub dc-enough : need ≤ x → dcProved (cf .capacity) es b d ≡ stepBy (place (stampOf b) es) (dcRule cf (box es m) b (listIn l))
-  unfolding dcRule dcProved listIn
-  dc-enough c = rw (← a, ← h, ← q, reaches (listIn l) x need t c, any-found cf es m b d (find (stampOf b) es))
-
--- LG and DC do not look at the read marks
-module _ (cf : Config) (es : List Entry) (m : List ℕ) (b : Body) (l : Vl) where
-  pub lg-marks : lgRule cf (box es []) b l ≡ lgRule cf (box es m) b l
+  pub lg-looked : (v : Vl) → lgBy (look .place) told b v h ≡ stepBy (place (stampOf b) es) (lgRule told (boxWith es marks) b v)
   unfolding lgRule
-  lg-marks = refl
+  lg-looked v = rw (at, what) (lg-entry (place (stampOf b) es) told (boxWith es marks) b v (find (stampOf b) es))
 
-  pub dc-marks : dcRule cf (box es []) b l ≡ dcRule cf (box es m) b l
-  unfolding dcRule
-  dc-marks = rw (marks-found cf es m b (decisionOf (l .decision)) (find (stampOf b) es))
+  dc-looked : (n : ℕ) → length es ≡ n → (d : Decision) → dcBy (look .place) told n b d h ≡ stepBy (place (stampOf b) es) (dcByEntry told (boxWith es marks) b d (find (stampOf b) es))
+  dc-looked n k d = rw (at, what, ← k) (dc-entry (place (stampOf b) es) told (boxWith es marks) b d (find (stampOf b) es))
+
+-- over the first n rows of a table
+pub dc-rows : (t : List ℕ) (n : ℕ) (b : Body) (look : Look) → look ≡ lookOf (entries t n) b → (h : Held) → look .held ≡ h → (told : Told) (marks : List ℕ) (d : Decision)
+    → dcBy (look .place) told n b d h ≡ dcProved told (entries t n) marks b d
+unfolding dcProved
+dc-rows t n b look l h q told marks d = dc-looked (entries t n) b look l h q told marks n (tab-length (entryAt t) 0 n) d
+
+module _ (t : List ℕ) (n : ℕ) (b : Body) (look : Look) (l : look ≡ lookOf (entries t n) b) (e : State) (told : Told) (marks : List ℕ) (d : Decision) where
+  pub dc-same-row : look .held ≡ Same e → stepBy (look .place) (dcSame b d (entryWith b e) (e .decided)) ≡ dcProved told (entries t n) marks b d
+  unfolding dcBy
+  dc-same-row q = dc-rows t n b look l (Same e) q told marks d
+
+  pub dc-other-row : look .held ≡ Other e → stepBy (look .place) (dcOther b d (e .decided)) ≡ dcProved told (entries t n) marks b d
+  unfolding dcBy
+  dc-other-row q = dc-rows t n b look l (Other e) q told marks d
+
+-- ---- thresholds: x pairs are counted, d is the list's decision, need its threshold
+module _ (told : Told) (l : VoteList) (d : Decision) (x need : ℕ) (t : x ≡ tally (l .decision) (listIn l .pairs)) (h : d ≡ decisionOf (l .decision)) where
+  module _ (i : ℕ) (b : Body) (e : Entry) (k : need ≡ forLogging (told .f) d) where
+    pub lg-few : x < need → kept (Refused TooFew) ≡ stepBy i (lgByLog told b (listIn l) e unsettled)
+    unfolding lgByLog stepBy changeBy listIn
+    lg-few m = rw (← h, ← k, misses (listIn l) x need t m)
+
+    pub lg-enough : need ≤ x → stepBy i (logAct b d (some e)) ≡ stepBy i (lgByLog told b (listIn l) e unsettled)
+    unfolding lgByLog listIn
+    lg-enough m = rw (← h, ← k, reaches (listIn l) x need t m)
+
+  -- "11 first."
+  module _ (k : Kind) (a : k ≡ kindOf (l .kind)) (q : need ≡ forProof (told .f) k d) (es : List Entry) (marks : List ℕ) (b : Body) where
+    pub dc-few : x < need → kept (Refused TooFew) ≡ stepBy (place (stampOf b) es) (dcRule told (boxWith es marks) b (listIn l))
+    unfolding dcRule stepBy changeBy listIn
+    dc-few c = rw (← a, ← h, ← q, misses (listIn l) x need t c)
+
+    pub dc-enough : need ≤ x → dcProved told es marks b d ≡ stepBy (place (stampOf b) es) (dcRule told (boxWith es marks) b (listIn l))
+    unfolding dcRule dcProved listIn
+    dc-enough c = rw (← a, ← h, ← q, reaches (listIn l) x need t c)

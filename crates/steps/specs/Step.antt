@@ -1,82 +1,79 @@
 -- The rules' act as one step by value: what a call does to the rows of a table.
 use Prim.Native.Nat.{ℕ}
-use mathlib.Core.List.{List, []}
+use mathlib.Core.List.{List}
 use mathlib.Core.Option.{Option, some, none}
+use lib.Dec.{leb}
+use Rattle.terms.specs.Choice.{pick}
 use Rattle.terms.specs.declared.Decision.{Decision}
+use Rattle.terms.specs.declared.Refusal.the-variants.{OtherBody, Unknown, Full}
 use Rattle.records.specs.Vl.{Vl}
-use Rattle.rules.specs.declared.Answer.the-variants.{Voted}
+use Rattle.rules.specs.declared.Answer.{Answer}
+use Rattle.rules.specs.declared.Answer.the-variants.{Voted, Refused}
+use Rattle.rules.specs.declared.Settled.{Settled}
+use Rattle.rules.specs.declared.Settled.the-variants.{None as unsettled}
+use Rattle.rules.specs.declared.Told.{Told}
 use Rattle.rules.specs.declared.Vote.{Vote}
-use Rattle.rules.specs.Bodies.{Body, stampOf}
-use Rattle.rules.specs.Table.{Entry, Box, Config, find}
-use Rattle.rules.specs.Calls.{Act, keep, store, prByVote, prByDecision, lgByLog, lgByDecision, dcSame, dcOther, dcByEntry, decideAct}
-use Rattle.table.specs.declared.Settled.{Settled}
-use Rattle.table.specs.declared.Settled.the-variants.{None as unsettled, Is as settled}
-use Rattle.table.specs.declared.Entry.{Entry as State}
-use Rattle.table.specs.Table.{entryWith, settledIn, place}
+use Rattle.rules.specs.Bodies.{Body, sameBody, stampOf}
+use Rattle.rules.specs.Table.{Entry, Box, boxWith, find}
+use Rattle.rules.specs.Tests.{firstVote}
+use Rattle.rules.specs.Calls.{Act, Change, nothing, puts, raises, refuse, roomFor, castAct, prByDecision, lgByDecision, decideAct, dcSame, dcOther, dcByEntry}
+use Rattle.table.specs.declared.State.{State}
+use Rattle.table.specs.Table.{entryWith, stateIn, place}
+use Rattle.steps.specs.declared.Change.{Change as Changed}
+use Rattle.steps.specs.declared.Change.the-variants.{Nothing, Put, Raise}
+use Rattle.steps.specs.declared.Held.{Held}
+use Rattle.steps.specs.declared.Held.the-variants.{Not, Same, Other}
+use Rattle.steps.specs.declared.Look.{Look}
 use Rattle.steps.specs.declared.Step.{Step}
-use Rattle.steps.specs.declared.Step.the-variants.{Keep, Store}
-use Rattle.steps.specs.declared.Told.{Told}
-
-abbrev pub settledFrom : Option Decision → Settled
-settledFrom none = unsettled
-settledFrom (some d) = settled d
-
--- all of an entry but its body
-unfoldable pub stateIn : Entry → State
-stateIn e = record { vote = e .vote; log = settledFrom (e .log); decided = settledFrom (e .decided) }
 
 -- the step of an act, i the place of the message's stamp
+unfoldable pub changeBy : ℕ → Change → Changed
+changeBy i nothing = Nothing
+changeBy i (puts e) = Put i (stateIn e)
+changeBy i (raises k s) = Raise (record { 0 = k }) (record { 0 = s })
+
 unfoldable pub stepBy : ℕ → Act → Step
-stepBy i (keep a) = Keep a
-stepBy i (store e a) = Store i (stateIn e) a
+stepBy i a = record { answer = a .answer; change = changeBy i (a .change) }
 
--- what a box is told beside a message, as the rules have it
-abbrev pub config : ℕ → ℕ → ℕ → ℕ → Config
-config f capacity clock delta = record { f = f; capacity = capacity; clock = clock; delta = delta }
+-- a step that changes nothing, and one that puts an entry
+abbrev pub kept : Answer → Step
+kept a = record { answer = a; change = Nothing }
 
-abbrev pub configIn : Told → Config
-configIn x = config (x .group .f) (x .capacity) (x .clock) (x .delta)
-
-abbrev pub box : List Entry → List ℕ → Box
-box es marks = record { table = es; marks = marks }
-
--- ---- the rules of an entry that is held
--- PR with this body: what is held beside it decides, the empty body stands for the one held
-unfoldable pub prHeld : ℕ → Config → Box → Body → State → Step
-prHeld i cf x b e = stepBy i (prByDecision cf x b (entryWith [] e) (settledIn (e .decided)))
-
--- and where it is undecided
-unfoldable pub prUndecided : ℕ → Config → Box → Body → State → Step
-prUndecided i cf x b e = stepBy i (prByVote cf x b (entryWith [] e) (e .vote))
+abbrev pub put : ℕ → State → Answer → Step
+put i e a = record { answer = a; change = Put i e }
 
 -- a vote is cast and stored, the log stays
 abbrev pub castStep : ℕ → Settled → Vote → Step
-castStep i log v = Store i (record { vote = v; log = log; decided = unsettled }) (Voted v)
+castStep i log v = put i (record { vote = v; log = log; decided = unsettled }) (Voted v)
 
--- LG with this body, whatever it is: the empty one stands for it
-unfoldable pub lgHeld : ℕ → ℕ → State → Vl → Step
-lgHeld i f e l = stepBy i (lgByDecision (config f 0 0 0) [] l (entryWith [] e) (settledIn (e .decided)))
+-- ---- look-up: what is held under the stamp of a body, and its place
+abbrev pub heldBy : Body → Option Entry → Held
+heldBy b none = Not
+heldBy b (some e) = pick (sameBody (e .body) b) (Same (stateIn e)) (Other (stateIn e))
 
--- and where it is undecided
-unfoldable pub lgUndecided : ℕ → ℕ → State → Vl → Step
-lgUndecided i f e l = stepBy i (lgByLog (config f 0 0 0) [] l (entryWith [] e) (settledIn (e .log)))
+unfoldable pub lookOf : List Entry → Body → Look
+lookOf es b = record { place = place (stampOf b) es; held = heldBy b (find (stampOf b) es) }
 
--- and where it is not logged
-unfoldable pub lgUnlogged : ℕ → ℕ → State → Vl → Step
-lgUnlogged i f e l = stepBy i (lgByLog (config f 0 0 0) [] l (entryWith [] e) none)
+-- ---- the rules by what is held
+unfoldable pub prBy : ℕ → Told → Box → Body → Held → Step
+prBy i told x b Not = stepBy i (roomFor told x (castAct b none (firstVote told x b)))
+prBy i told x b (Same e) = stepBy i (prByDecision told x b (entryWith b e) (e .decided))
+prBy i told x b (Other e) = kept (Refused OtherBody)
 
--- DC with this body
-unfoldable pub dcSameStep : ℕ → State → Decision → Step
-dcSameStep i e d = stepBy i (dcSame [] d (entryWith [] e) (settledIn (e .decided)))
+unfoldable pub lgBy : ℕ → Told → Body → Vl → Held → Step
+lgBy i told b l Not = kept (Refused Unknown)
+lgBy i told b l (Same e) = stepBy i (lgByDecision told b l (entryWith b e) (e .decided))
+lgBy i told b l (Other e) = kept (Refused OtherBody)
 
--- DC with nothing held, or with what was held dropped
-unfoldable pub dcNewStep : ℕ → Decision → Step
-dcNewStep i d = stepBy i (decideAct [] d none)
+-- a decision for a body that is not held, n the number of entries
+unfoldable pub newBy : ℕ → Told → ℕ → Body → Decision → Step
+newBy i told n b d = pick (leb (told .capacity) n) (kept (Refused Full)) (stepBy i (decideAct b d none))
 
--- DC with another body
-unfoldable pub dcOtherStep : ℕ → Settled → Decision → Step
-dcOtherStep i o d = stepBy i (dcOther [] d (settledIn o))
+unfoldable pub dcBy : ℕ → Told → ℕ → Body → Decision → Held → Step
+dcBy i told n b d Not = newBy i told n b d
+dcBy i told n b d (Same e) = stepBy i (dcSame b d (entryWith b e) (e .decided))
+dcBy i told n b d (Other e) = stepBy i (dcOther b d (e .decided))
 
--- DC once the list meets its threshold
-unfoldable pub dcProved : ℕ → List Entry → Body → Decision → Step
-dcProved capacity es b d = stepBy (place (stampOf b) es) (dcByEntry (config 0 capacity 0 0) (box es []) b d (find (stampOf b) es))
+-- once the list meets its threshold
+unfoldable pub dcProved : Told → List Entry → List ℕ → Body → Decision → Step
+dcProved told es marks b d = stepBy (place (stampOf b) es) (dcByEntry told (boxWith es marks) b d (find (stampOf b) es))

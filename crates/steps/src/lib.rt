@@ -1,38 +1,76 @@
-// PR, LG and DC over the rows of a table: what each does, as one step by value. One other function applies it.
+// PR, LG, DC and RD over the rows of a table: what each does, as one step by value. One other function applies it.
 ghost use mathlib.Core.Path.{_≡_};
-ghost use mathlib.Core.List.{[]};
-ghost use Prim.Native.Nat.{_≤_};
+ghost use mathlib.Core.List.{List};
+ghost use mathlib.Core.Option.{some, none};
+ghost use Prim.Native.Nat.{ℕ, _≤_};
+ghost use lib.Dec.{leb};
 ghost use Rattle.records.specs.Tx.{TxThere};
 ghost use Rattle.records.specs.Vl.{listIn};
-ghost use Rattle.rules.specs.Answers.{commit};
-ghost use Rattle.rules.specs.Bodies.{sameBody, stampOf};
+ghost use Rattle.rules.specs.declared.Settled.the-variants.{None as unsettled};
+ghost use Rattle.rules.specs.declared.Answer.the-variants.{Refused};
+ghost use Rattle.rules.specs.Bodies.{Body, stampOf};
 ghost use Rattle.rules.specs.Lists.{decisionOf, kindOf, forLogging, forProof, tally};
-ghost use Rattle.rules.specs.Calls.{sameDecision, prRule, lgRule, dcRule};
-ghost use Rattle.table.specs.Table.{Wf, entryOf, entries, place};
-ghost use Rattle.steps.specs.Step.{stepBy, configIn, box, prHeld, prUndecided, castStep, lgHeld, lgUndecided, lgUnlogged, dcSameStep, dcNewStep, dcOtherStep, dcProved};
+ghost use Rattle.rules.specs.Table.{boxWith};
+ghost use Rattle.rules.specs.Calls.{sameDecision, prByVote, prRule, lgByLog, lgRule, decideAct, dcSame, dcOther, dcRule, rdRule};
+ghost use Rattle.terms.specs.declared.Decision.the-variants.{Commit as commit};
+ghost use Rattle.table.specs.Table.{Wf, WfRow, entryOf, entryWith, entries, place};
+ghost use Rattle.steps.specs.declared.Held.the-variants.{Not, Same};
+ghost use Rattle.steps.specs.Step.{stepBy, kept, put, castStep, heldBy, lookOf, prBy, lgBy, newBy, dcProved};
 use records::VoteList;
 use rules::Answer;
+use rules::Settled;
+use rules::Told;
 use rules::Vote;
-use table::Entry;
-use table::Settled;
+use table::State;
 use terms::Decision;
 use terms::Group;
+use terms::Key;
 use terms::Kind;
 use terms::Refusal;
 use terms::Stamp;
 
-// What a box is told beside a message.
-pub struct Told {
-    pub group: Group,
-    pub capacity: usize,
-    pub clock: u64,
-    pub delta: u64,
+// What a call changes: nothing; row `i` becomes the message's body with this beside it; a key's read mark is raised to a stamp.
+pub enum Change {
+    Nothing,
+    Put(usize, State),
+    Raise(Key, Stamp),
 }
 
-// What a call does: it answers and the table stays, or row `i` becomes the message's body with this beside it.
-pub enum Step {
-    Keep(Answer),
-    Store(usize, Entry, Answer),
+// What a call does: it answers, and makes one change.
+pub struct Step {
+    pub answer: Answer,
+    pub change: Change,
+}
+
+impl Step {
+    // It answers, and all stays as it is.
+    fn keep(answer: Answer) -> Step
+        ensures { λ r. ⌜ r ≡ kept answer ⌝ }
+    {
+        Step {
+            answer,
+            change: Change::Nothing,
+        }
+    }
+
+    pub fn refuse(why: Refusal) -> Step
+        ensures { λ r. ⌜ r ≡ kept (Refused why) ⌝ }
+    {
+        Step {
+            answer: Answer::Refused(why),
+            change: Change::Nothing,
+        }
+    }
+
+    // Row `i` is put, and it answers.
+    fn put(i: usize, state: State, answer: Answer) -> Step
+        ensures { λ r. ⌜ r ≡ put i state answer ⌝ }
+    {
+        Step {
+            answer,
+            change: Change::Put(i, state),
+        }
+    }
 }
 
 // ---- lists
@@ -71,6 +109,14 @@ fn decision_of(code: u8) -> Decision
         1 => Decision::Commit,
         _ => Decision::Abort,
     }
+}
+
+// The group of a box whose f is in order.
+fn group_of(told: Told) -> Group
+    requires { ⌜ told .f ≤ 5 ⌝ }
+    ensures { λ r. ⌜ r .f ≡ told .f ⌝ }
+{
+    Group { f: told.f as u8 }
 }
 
 // How many equal votes a list for logging needs.
@@ -113,20 +159,51 @@ fn same_decision(a: Decision, b: Decision) -> bool
 
 // ---- look-up
 
-// The place of the message's stamp, `n` where it is not held.
-fn place_of(t: &[u8], n: usize, b: &[u8]) -> usize
-    requires { ⌜ Wf (now t) n × TxThere (now b) ⌝ }
-    ensures { λ r. ⌜ (r ≡ place (stampOf (now (b .entry))) (entries (now (t .entry)) n)) × (r ≤ n) ⌝ }
-{
-    table::place(t, n, Stamp(table::stamp_of(b)))
+// What is held under a message's stamp: nothing, this body, or another one; and what stands beside it.
+pub enum Held {
+    Not,
+    Same(State),
+    Other(State),
 }
 
-// Whether a row holds this body.
-fn has_body(row: &[u8], b: &[u8]) -> bool
-    requires { ⌜ TxThere (now row) ⌝ }
-    ensures { λ r. ⌜ r ≡ sameBody (entryOf (now (row .entry)) .body) (now (b .entry)) ⌝ }
+// That, and its place: behind the last where nothing is held.
+pub struct Look {
+    pub place: usize,
+    pub held: Held,
+}
+
+// A row of the message's stamp: whose body it holds.
+fn held_in(row: &[u8], b: &[u8]) -> Held
+    requires { ⌜ WfRow (now row) ⌝ }
+    ensures { λ r. ⌜ r ≡ heldBy (now (b .entry)) (some (entryOf (now (row .entry)))) ⌝ }
 {
-    table::same(table::row_body(row), b)
+    let state = table::state_of(row);
+    if table::same(table::body_of(row), b) {
+        return Held::Same(state);
+    }
+    Held::Other(state)
+}
+
+fn look_up(t: &[u8], n: usize, b: &[u8]) -> Look
+    requires { ⌜ Wf (now t) n × TxThere (now b) ⌝ }
+    ensures { λ r. ⌜ (r ≡ lookOf (entries (now (t .entry)) n) (now (b .entry))) × (r .place ≤ n) ⌝ }
+{
+    let place = table::place(t, n, table::stamp_of(b));
+    if place < n {
+        let held = held_in(table::row(t, place), b);
+        return Look { place, held };
+    }
+    Look {
+        place,
+        held: Held::Not,
+    }
+}
+
+// Whether there is no room for a new entry behind `n`.
+fn is_full(n: usize, told: Told) -> bool
+    ensures { λ r. ⌜ r ≡ leb (told .capacity) n ⌝ }
+{
+    told.capacity <= n as u64
 }
 
 // ---- PR
@@ -135,141 +212,161 @@ fn has_body(row: &[u8], b: &[u8]) -> bool
 fn cast(i: usize, log: Settled, v: Vote) -> Step
     ensures { λ r. ⌜ r ≡ castStep i log v ⌝ }
 {
-    let e = Entry {
+    let state = State {
         vote: v,
         log,
         decided: Settled::None,
     };
-    Step::Store(i, e, Answer::Voted(v))
+    Step::put(i, state, Answer::Voted(v))
+}
+
+// Not held: 13, else the tests.
+fn pr_new(t: &[u8], n: usize, marks: &[u64], told: Told, b: &[u8], i: usize) -> Step
+    requires { ⌜ Wf (now t) n × TxThere (now b) ⌝ }
+    ensures { λ r. ⌜ r ≡ prBy i told (boxWith (entries (now (t .entry)) n) (now (marks .entry))) (now (b .entry)) Not ⌝ }
+{
+    if is_full(n, told) {
+        return Step::refuse(Refusal::Full);
+    }
+    cast(i, Settled::None, scans::first_vote(t, n, marks, b, told))
 }
 
 // Vote cast: the same vote again. Waiting: the waiting rule. None: the tests as if new, in its place.
-fn pr_undecided(t: &[u8], n: usize, marks: &[u64], told: Told, b: &[u8], i: usize, e: Entry) -> Step
+fn pr_undecided(t: &[u8], n: usize, marks: &[u64], told: Told, b: &[u8], i: usize, e: State) -> Step
     requires { ⌜ Wf (now t) n × TxThere (now b) ⌝ }
-    ensures { λ r. ⌜ r ≡ prUndecided i (configIn told) (box (entries (now (t .entry)) n) (now (marks .entry))) (now (b .entry)) e ⌝ }
+    ensures { λ r. ⌜ r ≡ stepBy i (prByVote told (boxWith (entries (now (t .entry)) n) (now (marks .entry))) (now (b .entry)) (entryWith (now (b .entry)) e) (e .vote)) ⌝ }
 {
     let log = e.log;
     let vote = e.vote;
     match vote {
-        Vote::Commit => Step::Keep(Answer::Voted(vote)),
-        Vote::Abort(_) => Step::Keep(Answer::Voted(vote)),
+        Vote::Commit => Step::keep(Answer::Voted(vote)),
+        Vote::Abort(_) => Step::keep(Answer::Voted(vote)),
         Vote::Waiting => cast(i, log, scans::waiting_rule(t, n, b)),
-        Vote::None => cast(
-            i,
-            log,
-            scans::first_vote(t, n, marks, b, told.clock, told.delta),
-        ),
+        Vote::None => cast(i, log, scans::first_vote(t, n, marks, b, told)),
     }
 }
 
 // Held with this body. Decided: Decided.
-fn pr_held(t: &[u8], n: usize, marks: &[u64], told: Told, b: &[u8], i: usize, e: Entry) -> Step
+fn pr_held(t: &[u8], n: usize, marks: &[u64], told: Told, b: &[u8], i: usize, e: State) -> Step
     requires { ⌜ Wf (now t) n × TxThere (now b) ⌝ }
-    ensures { λ r. ⌜ r ≡ prHeld i (configIn told) (box (entries (now (t .entry)) n) (now (marks .entry))) (now (b .entry)) e ⌝ }
+    ensures { λ r. ⌜ r ≡ prBy i told (boxWith (entries (now (t .entry)) n) (now (marks .entry))) (now (b .entry)) (Same e) ⌝ }
 {
     let decided = e.decided;
     match decided {
-        Settled::Is(d) => Step::Keep(Answer::Decided(d)),
+        Settled::Is(d) => Step::keep(Answer::Decided(d)),
         Settled::None => pr_undecided(t, n, marks, told, b, i, e),
     }
 }
 
-// PR. Held with another body: 9. Not held: 13, else the tests.
+// PR. Held with another body: 9.
 pub fn pr_step(t: &[u8], n: usize, marks: &[u64], told: Told, b: &[u8]) -> Step
     requires { ⌜ Wf (now t) n × TxThere (now b) ⌝ }
-    ensures { λ r. ⌜ r ≡ stepBy (place (stampOf (now (b .entry))) (entries (now (t .entry)) n)) (prRule (configIn told) (box (entries (now (t .entry)) n) (now (marks .entry))) (now (b .entry))) ⌝ }
+    ensures { λ r. ⌜ r ≡ stepBy (place (stampOf (now (b .entry))) (entries (now (t .entry)) n)) (prRule told (boxWith (entries (now (t .entry)) n) (now (marks .entry))) (now (b .entry))) ⌝ }
 {
-    let i = place_of(t, n, b);
-    if i < n {
-        let row = table::row(t, i);
-        if has_body(row, b) {
-            return pr_held(t, n, marks, told, b, i, table::entry_of(row));
-        }
-        return Step::Keep(Answer::Refused(Refusal::OtherBody));
+    let look = look_up(t, n, b);
+    let i = look.place;
+    let held = look.held;
+    match held {
+        Held::Not => pr_new(t, n, marks, told, b, i),
+        Held::Same(e) => pr_held(t, n, marks, told, b, i, e),
+        Held::Other(_) => Step::refuse(Refusal::OtherBody),
     }
-    if told.capacity <= n {
-        return Step::Keep(Answer::Refused(Refusal::Full));
-    }
-    cast(
-        i,
-        Settled::None,
-        scans::first_vote(t, n, marks, b, told.clock, told.delta),
-    )
 }
 
 // ---- LG
 
 // Too few: 11, else it is logged; the vote stays.
-fn lg_unlogged(i: usize, e: Entry, g: Group, l: VoteList) -> Step
-    requires { ⌜ l .count ≤ 26 ⌝ }
-    ensures { λ r. ⌜ r ≡ lgUnlogged i (g .f) e (listIn l) ⌝ }
+fn lg_unlogged(i: usize, e: State, told: Told, l: VoteList) -> Step
+    requires { ⌜ (told .f ≤ 5) × (l .count ≤ 26) ⌝ }
+    ensures { λ r. ⌜ ((b : Body) → r ≡ stepBy i (lgByLog told b (listIn l) (entryWith b e) unsettled)) ⌝ }
 {
     let d = decision_of(l.decision);
-    if tally(l) < log_need(g, d) {
-        return Step::Keep(Answer::Refused(Refusal::TooFew));
+    if tally(l) < log_need(group_of(told), d) {
+        return Step::refuse(Refusal::TooFew);
     }
     let vote = e.vote;
-    let logged = Entry {
+    let logged = State {
         vote,
         log: Settled::Is(d),
         decided: Settled::None,
     };
-    Step::Store(i, logged, Answer::Logged(d))
+    Step::put(i, logged, Answer::Logged(d))
 }
 
 // Already logged: that same log.
-fn lg_undecided(i: usize, e: Entry, g: Group, l: VoteList) -> Step
-    requires { ⌜ l .count ≤ 26 ⌝ }
-    ensures { λ r. ⌜ r ≡ lgUndecided i (g .f) e (listIn l) ⌝ }
+fn lg_undecided(i: usize, e: State, told: Told, l: VoteList) -> Step
+    requires { ⌜ (told .f ≤ 5) × (l .count ≤ 26) ⌝ }
+    ensures { λ r. ⌜ ((b : Body) → r ≡ stepBy i (lgByLog told b (listIn l) (entryWith b e) (e .log))) ⌝ }
 {
     let log = e.log;
     match log {
-        Settled::Is(d) => Step::Keep(Answer::Logged(d)),
-        Settled::None => lg_unlogged(i, e, g, l),
+        Settled::Is(d) => Step::keep(Answer::Logged(d)),
+        Settled::None => lg_unlogged(i, e, told, l),
     }
 }
 
 // Held with this body. Decided: Decided.
-fn lg_held(i: usize, e: Entry, g: Group, l: VoteList) -> Step
-    requires { ⌜ l .count ≤ 26 ⌝ }
-    ensures { λ r. ⌜ r ≡ lgHeld i (g .f) e (listIn l) ⌝ }
+fn lg_held(i: usize, e: State, told: Told, l: VoteList) -> Step
+    requires { ⌜ (told .f ≤ 5) × (l .count ≤ 26) ⌝ }
+    ensures { λ r. ⌜ ((b : Body) → r ≡ lgBy i told b (listIn l) (Same e)) ⌝ }
 {
     let decided = e.decided;
     match decided {
-        Settled::Is(d) => Step::Keep(Answer::Decided(d)),
-        Settled::None => lg_undecided(i, e, g, l),
+        Settled::Is(d) => Step::keep(Answer::Decided(d)),
+        Settled::None => lg_undecided(i, e, told, l),
     }
 }
 
 // LG. Not held: 10. Other body: 9.
 pub fn lg_step(t: &[u8], n: usize, told: Told, b: &[u8], l: VoteList) -> Step
-    requires { ⌜ Wf (now t) n × TxThere (now b) × (l .count ≤ 26) ⌝ }
-    ensures { λ r. ⌜ r ≡ stepBy (place (stampOf (now (b .entry))) (entries (now (t .entry)) n)) (lgRule (configIn told) (box (entries (now (t .entry)) n) []) (now (b .entry)) (listIn l)) ⌝ }
+    requires { ⌜ Wf (now t) n × TxThere (now b) × (told .f ≤ 5) × (l .count ≤ 26) ⌝ }
+    ensures { λ r. ⌜ ((marks : List ℕ) → r ≡ stepBy (place (stampOf (now (b .entry))) (entries (now (t .entry)) n)) (lgRule told (boxWith (entries (now (t .entry)) n) marks) (now (b .entry)) (listIn l))) ⌝ }
 {
-    let i = place_of(t, n, b);
-    if i < n {
-        let row = table::row(t, i);
-        if has_body(row, b) {
-            return lg_held(i, table::entry_of(row), told.group, l);
-        }
-        return Step::Keep(Answer::Refused(Refusal::OtherBody));
+    let look = look_up(t, n, b);
+    let i = look.place;
+    let held = look.held;
+    match held {
+        Held::Not => Step::refuse(Refusal::Unknown),
+        Held::Same(e) => lg_held(i, e, told, l),
+        Held::Other(_) => Step::refuse(Refusal::OtherBody),
     }
-    Step::Keep(Answer::Refused(Refusal::Unknown))
 }
 
 // ---- DC
 
+// This decision and nothing else beside the body.
+fn dc_new(i: usize, d: Decision) -> Step
+    ensures { λ r. ⌜ ((b : Body) → r ≡ stepBy i (decideAct b d none)) ⌝ }
+{
+    let state = State {
+        vote: Vote::None,
+        log: Settled::None,
+        decided: Settled::Is(d),
+    };
+    Step::put(i, state, Answer::Done)
+}
+
+// Not held: 13, else a new entry.
+fn dc_unheld(n: usize, told: Told, i: usize, d: Decision) -> Step
+    ensures { λ r. ⌜ ((b : Body) → r ≡ newBy i told n b d) ⌝ }
+{
+    if is_full(n, told) {
+        return Step::refuse(Refusal::Full);
+    }
+    dc_new(i, d)
+}
+
 // Held, this body. Undecided takes it; equal decision changes nothing; opposite: 12.
-fn dc_same(i: usize, e: Entry, d: Decision) -> Step
-    ensures { λ r. ⌜ r ≡ dcSameStep i e d ⌝ }
+fn dc_same(i: usize, e: State, d: Decision) -> Step
+    ensures { λ r. ⌜ ((b : Body) → r ≡ stepBy i (dcSame b d (entryWith b e) (e .decided))) ⌝ }
 {
     let vote = e.vote;
     let log = e.log;
     let decided = e.decided;
     match decided {
-        Settled::None => Step::Store(
+        Settled::None => Step::put(
             i,
-            Entry {
+            State {
                 vote,
                 log,
                 decided: Settled::Is(d),
@@ -278,33 +375,21 @@ fn dc_same(i: usize, e: Entry, d: Decision) -> Step
         ),
         Settled::Is(held) => {
             if same_decision(held, d) {
-                return Step::Keep(Answer::Done);
+                return Step::keep(Answer::Done);
             }
-            Step::Keep(Answer::Refused(Refusal::Contradiction))
+            Step::refuse(Refusal::Contradiction)
         }
     }
 }
 
-// This decision and nothing else beside the body.
-fn dc_new(i: usize, d: Decision) -> Step
-    ensures { λ r. ⌜ r ≡ dcNewStep i d ⌝ }
-{
-    let e = Entry {
-        vote: Vote::None,
-        log: Settled::None,
-        decided: Settled::Is(d),
-    };
-    Step::Store(i, e, Answer::Done)
-}
-
 // A commit for another body: 12 if the held one is committed, else the new body replaces it.
 fn dc_commit(i: usize, held: Settled) -> Step
-    ensures { λ r. ⌜ r ≡ dcOtherStep i held commit ⌝ }
+    ensures { λ r. ⌜ ((b : Body) → r ≡ stepBy i (dcOther b commit held)) ⌝ }
 {
     match held {
         Settled::None => dc_new(i, Decision::Commit),
         Settled::Is(d) => match d {
-            Decision::Commit => Step::Keep(Answer::Refused(Refusal::Contradiction)),
+            Decision::Commit => Step::refuse(Refusal::Contradiction),
             Decision::Abort => dc_new(i, Decision::Commit),
         },
     }
@@ -312,43 +397,57 @@ fn dc_commit(i: usize, held: Settled) -> Step
 
 // Held, other body. Abort: 9.
 fn dc_other(i: usize, held: Settled, d: Decision) -> Step
-    ensures { λ r. ⌜ r ≡ dcOtherStep i held d ⌝ }
+    ensures { λ r. ⌜ ((b : Body) → r ≡ stepBy i (dcOther b d held)) ⌝ }
 {
     match d {
-        Decision::Abort => Step::Keep(Answer::Refused(Refusal::OtherBody)),
+        Decision::Abort => Step::refuse(Refusal::OtherBody),
         Decision::Commit => dc_commit(i, held),
     }
 }
 
-// The list meets its threshold. Not held: 13, else a new entry.
-fn dc_proved(t: &[u8], n: usize, capacity: usize, b: &[u8], d: Decision) -> Step
+// The list meets its threshold.
+fn dc_proved(t: &[u8], n: usize, told: Told, b: &[u8], d: Decision) -> Step
     requires { ⌜ Wf (now t) n × TxThere (now b) ⌝ }
-    ensures { λ r. ⌜ r ≡ dcProved capacity (entries (now (t .entry)) n) (now (b .entry)) d ⌝ }
+    ensures { λ r. ⌜ ((marks : List ℕ) → r ≡ dcProved told (entries (now (t .entry)) n) marks (now (b .entry)) d) ⌝ }
 {
-    let i = place_of(t, n, b);
-    if i < n {
-        let row = table::row(t, i);
-        let e = table::entry_of(row);
-        if has_body(row, b) {
-            return dc_same(i, e, d);
+    let look = look_up(t, n, b);
+    let i = look.place;
+    let held = look.held;
+    match held {
+        Held::Not => dc_unheld(n, told, i, d),
+        Held::Same(e) => dc_same(i, e, d),
+        Held::Other(e) => {
+            let decided = e.decided;
+            dc_other(i, decided, d)
         }
-        let held = e.decided;
-        return dc_other(i, held, d);
     }
-    if capacity <= n {
-        return Step::Keep(Answer::Refused(Refusal::Full));
-    }
-    dc_new(i, d)
 }
 
 // DC. 11 first.
 pub fn dc_step(t: &[u8], n: usize, told: Told, b: &[u8], l: VoteList) -> Step
-    requires { ⌜ Wf (now t) n × TxThere (now b) × (l .count ≤ 26) ⌝ }
-    ensures { λ r. ⌜ r ≡ stepBy (place (stampOf (now (b .entry))) (entries (now (t .entry)) n)) (dcRule (configIn told) (box (entries (now (t .entry)) n) []) (now (b .entry)) (listIn l)) ⌝ }
+    requires { ⌜ Wf (now t) n × TxThere (now b) × (told .f ≤ 5) × (l .count ≤ 26) ⌝ }
+    ensures { λ r. ⌜ ((marks : List ℕ) → r ≡ stepBy (place (stampOf (now (b .entry))) (entries (now (t .entry)) n)) (dcRule told (boxWith (entries (now (t .entry)) n) marks) (now (b .entry)) (listIn l))) ⌝ }
 {
     let d = decision_of(l.decision);
-    if tally(l) < proof_need(told.group, kind_of(l.kind), d) {
-        return Step::Keep(Answer::Refused(Refusal::TooFew));
+    if tally(l) < proof_need(group_of(told), kind_of(l.kind), d) {
+        return Step::refuse(Refusal::TooFew);
     }
-    dc_proved(t, n, told.capacity, b, d)
+    dc_proved(t, n, told, b, d)
+}
+
+// ---- RD
+
+// RD. Stamp above clock + δ: 15, else what is found, and the key's read mark raised.
+pub fn rd_step(t: &[u8], n: usize, told: Told, k: Key, s: Stamp) -> Step
+    requires { ⌜ Wf (now t) n ⌝ }
+    ensures { λ r. ⌜ ((i : ℕ) (marks : List ℕ) → r ≡ stepBy i (rdRule told (boxWith (entries (now (t .entry)) n) marks) (k .0) (s .0))) ⌝ }
+{
+    if scans::ahead(s, told) {
+        return Step::refuse(Refusal::Ahead);
+    }
+    let answer = scans::found(t, n, k, s);
+    Step {
+        answer,
+        change: Change::Raise(k, s),
+    }
 }

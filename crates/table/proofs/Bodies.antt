@@ -5,10 +5,9 @@ use native.Mathlib.Omega.{arith}
 use mathlib.Core.Path.{_≡_, refl, ap}
 use mathlib.Core.List.{List, [], _∷_}
 use mathlib.Core.Bool.{Bool, true, false}
-use mathlib.Core.Option.{none}
 use lib.Dec.{eqb}
-use lib.ListN.{length, take, drop, length-take}
-use lib.Seq.{getD-take, take-take}
+use lib.ListN.{length, getD, take, drop, length-take, length-drop}
+use lib.Seq.{getD-take, getD-drop, take-take}
 use Rattle.terms.specs.Choice.{pick, tab, any}
 use Rattle.terms.proofs.Scans.{Rest, go, tab-same}
 use Rattle.records.specs.Numbers.{leVal, numAt}
@@ -16,9 +15,10 @@ use Rattle.records.specs.Tx.{Tx, txOf, txLen, rCount, wCount, readAt, writeAt, 
 use Rattle.records.specs.declared.Write.{Write}
 use Rattle.rules.specs.declared.Reason.{Reason}
 use Rattle.rules.specs.declared.Vote.the-variants.{None as unvoted, Abort as voteAbort}
+use Rattle.rules.specs.declared.Settled.the-variants.{None as unsettled}
 use Rattle.rules.specs.Bodies.{stampOf, readsOf, writesOf, writesKey}
 use Rattle.rules.specs.Table.{liveBy}
-use Rattle.table.specs.Table.{bodyOf, entryOf, rowAt, WfRow, Wf}
+use Rattle.table.specs.Table.{rowLen, bodyAt, rowAt, rowTx, rowBody, entryWith, entryOf, WfRow, Wf}
 
 -- a number that lies in the front of a list
 mid-take : (n p k : ℕ) (s : List ℕ) → p + n ≤ k → take n (drop p (take k s)) ≡ take n (drop p s)
@@ -66,38 +66,38 @@ module _ (s : List ℕ) where
 
 -- the transaction of a row's body, by its parts
 module _ (r : List ℕ) where
-  pub body-tx : txOf (entryOf r .body) ≡ txOf r
-  unfolding entryOf bodyOf
-  body-tx = tx-front r
+  pub body-tx : txOf (entryOf r .body) ≡ txOf (rowTx r)
+  unfolding entryOf entryWith rowBody
+  body-tx = tx-front (rowTx r)
 
-  pub body-stamp : stampOf (entryOf r .body) ≡ stampOf r
+  pub body-stamp : stampOf (entryOf r .body) ≡ stampOf (rowTx r)
   unfolding stampOf
   body-stamp = ap (λ (x : Tx). x .stamp) body-tx
 
-  pub body-reads : readsOf (entryOf r .body) ≡ readsOf r
+  pub body-reads : readsOf (entryOf r .body) ≡ readsOf (rowTx r)
   unfolding readsOf
   body-reads = ap (λ (x : Tx). x .reads) body-tx
 
-  pub body-writes : writesOf (entryOf r .body) ≡ writesOf r
+  pub body-writes : writesOf (entryOf r .body) ≡ writesOf (rowTx r)
   unfolding writesOf
   body-writes = ap (λ (x : Tx). x .writes) body-tx
 
-  pub body-writes-key : (k : ℕ) → writesKey (entryOf r .body) k ≡ writesKey r k
+  pub body-writes-key : (k : ℕ) → writesKey (entryOf r .body) k ≡ writesKey (rowTx r) k
   unfolding writesKey
   body-writes-key k = ap (λ (ws : List Write). any (λ w. eqb (writeKey w) k) ws) body-writes
 
 -- and it is a whole TX
-module _ (r : List ℕ) (h : TxThere r) where
-  body-long : length (bodyOf r) ≡ txLen r
-  unfolding bodyOf
+module _ (r : List ℕ) (h : TxThere (rowTx r)) where
+  body-long : length (rowBody r) ≡ txLen (rowTx r)
+  unfolding rowBody
   body-long = let l = h .2 in simp length-take (omega arith)
 
-  body-counts : (rCount (bodyOf r) ≡ rCount r) × (wCount (bodyOf r) ≡ wCount r)
-  unfolding bodyOf
-  body-counts = (getD-take (txLen r) r 2 0 (omega arith), getD-take (txLen r) r 3 0 (omega arith))
+  body-counts : (rCount (rowBody r) ≡ rCount (rowTx r)) × (wCount (rowBody r) ≡ wCount (rowTx r))
+  unfolding rowBody
+  body-counts = (getD-take (txLen (rowTx r)) (rowTx r) 2 0 (omega arith), getD-take (txLen (rowTx r)) (rowTx r) 3 0 (omega arith))
 
   pub body-whole : length (entryOf r .body) ≡ txLen (entryOf r .body)
-  unfolding entryOf
+  unfolding entryOf entryWith
   body-whole =
       let l = body-long in
       let a = body-counts .0 in
@@ -105,12 +105,19 @@ module _ (r : List ℕ) (h : TxThere r) where
       omega arith
 
   pub body-there : TxThere (entryOf r .body)
-  unfolding entryOf
+  unfolding entryOf entryWith
   body-there =
       let l = body-long in
       let a = body-counts .0 in
       let b = body-counts .1 in
       (rw a (h .0), rw b (h .1), omega arith)
+
+-- where the counts stand in a row
+pub reads-at : (r : List ℕ) → rCount (rowTx r) ≡ getD r (bodyAt + 2) 0
+reads-at r = getD-drop bodyAt r 2 0
+
+pub writes-at : (r : List ℕ) → wCount (rowTx r) ≡ getD r (bodyAt + 3) 0
+writes-at r = getD-drop bodyAt r 3 0
 
 -- what stands in a slice is what its transaction has
 pub reads-are : (s : List ℕ) → readsOf s ≡ tab (readAt s 12) 0 (rCount s)
@@ -121,18 +128,22 @@ pub writes-are : (s : List ℕ) → writesOf s ≡ tab (writeAt s (writesFrom s)
 unfolding writesOf txOf
 writes-are s = refl
 
-pub row-there : (r : List ℕ) → WfRow r → TxThere r
+pub row-there : (r : List ℕ) → WfRow r → TxThere (rowTx r)
 row-there r w =
     let l = w .long in
     let a = w .reads in
     let b = w .writes in
-    (a, b, omega arith)
+    (a, b, simp length-drop (omega arith))
 
-pub rows-there : {t : List ℕ} {n : ℕ} → Wf t n → (i : ℕ) → i < n → TxThere (rowAt t i)
+pub rows-there : {t : List ℕ} {n : ℕ} → Wf t n → (i : ℕ) → i < n → TxThere (rowTx (rowAt t i))
 rows-there {t} {n} w i h = row-there (rowAt t i) (w .rows i h)
 
+-- a row that can be looked at
+pub row-fits : {t : List ℕ} {n : ℕ} → Wf t n → (i : ℕ) → i < n → (i * rowLen + rowLen ≤ length t) × WfRow (rowAt t i)
+row-fits w i h = let m = w .room in (omega arith, w .rows i h)
+
 -- an abort vote and no vote are not live where nothing is decided
-pub dead-vote : (b : Bool) (r : Reason) → false ≡ liveBy none (pick b (voteAbort r) unvoted)
+pub dead-vote : (b : Bool) (r : Reason) → false ≡ liveBy unsettled (pick b (voteAbort r) unvoted)
 unfolding liveBy
 dead-vote true r = refl
 dead-vote false r = refl

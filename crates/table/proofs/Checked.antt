@@ -12,7 +12,7 @@ use Rattle.terms.specs.Checks.{orElse}
 use Rattle.terms.proofs.Checks.{pass, stop, less-no, first-none, rest-none, not-less, when-none}
 use Rattle.records.specs.Numbers.{numAt}
 use Rattle.records.proofs.Bytes.{take-at-0}
-use Rattle.table.specs.Table.{rowLen, voteAt, reasonAt, rowAt, reasonWrong, voteWrong, rowWrong, rowBad, tableWrong, countOf, WfRow, Wf}
+use Rattle.table.specs.Table.{headLen, rowLen, voteAt, reasonAt, tableLen, rowAt, reasonWrong, voteWrong, rowWrong, rowBad, tableWrong, countOf, WfRow, Wf}
 
 -- a scan that found nothing: the test fails at each, and the other way
 or-left : (a b : Bool) → (a || b) ≡ false → a ≡ false
@@ -35,11 +35,11 @@ any-false P f s zero h = refl
 any-false P f s (suc n) h = rw (h s (omega arith) (omega arith)) (any-false P f (s + 1) n (λ j a b. h j (omega arith) (omega arith)))
 
 -- vote and reason as one number of two bytes
-pub codes-fine : (r : List ℕ) (x : ℕ) → length r ≡ rowLen → x ≡ numAt 2 voteAt r → x < 3 → 0 ≡ voteWrong r
+pub codes-fine : (r : List ℕ) (x : ℕ) → length r ≡ rowLen → x ≡ numAt 2 voteAt r → x < 2 → 0 ≡ voteWrong r
 unfolding numAt reasonWrong
 codes-fine r x l e h =
     let n : x ≡ getD r voteAt 0 + 256 * (getD r reasonAt 0 + 256 * 0) = e ∙ (rw (take-at-0 r voteAt 2 (omega arith))) in
-    pass (less-no _ _ _ (omega arith)) (rw (ne-eqb (getD r voteAt 0) 3 (omega arith)) (sym (less-no _ _ _ (omega arith))))
+    pass (less-no _ _ _ (omega arith)) (rw (ne-eqb (getD r voteAt 0) 2 (omega arith)) (sym (less-no _ _ _ (omega arith))))
 
 pub row-long : (t : List ℕ) (i : ℕ) → i * rowLen + rowLen ≤ length t → length (rowAt t i) ≡ rowLen
 row-long t i h = simp (length-take, length-drop) (omega arith)
@@ -49,7 +49,7 @@ unfolding rowWrong
 row-wf r l e = record { long = l; reads = not-less _ _ _ (first-none _ _ e); writes = not-less _ _ _ (first-none _ _ (rest-none _ _ e)) }
 
 module _ (cap : ℕ) (t : List ℕ) (e : tableWrong cap t ≡ 0) where
-  pub table-room : 1 + cap * rowLen ≤ length t
+  pub table-room : tableLen cap ≤ length t
   unfolding tableWrong
   table-room = not-less _ _ _ (first-none _ _ e)
 
@@ -57,21 +57,21 @@ module _ (cap : ℕ) (t : List ℕ) (e : tableWrong cap t ≡ 0) where
   unfolding tableWrong
   table-count = not-less _ _ _ (first-none _ _ (rest-none _ _ e))
 
-  none-bad : any rowBad (tab (rowAt (drop 1 t)) 0 (countOf t)) ≡ false
+  none-bad : any rowBad (tab (rowAt (drop headLen t)) 0 (countOf t)) ≡ false
   unfolding tableWrong
   none-bad = when-none _ _ (rest-none _ _ (rest-none _ _ e))
 
-  pub row-right : (i : ℕ) → i < countOf t → rowBad (rowAt (drop 1 t) i) ≡ false
-  row-right i h = rw zero-add at (all-false rowBad (rowAt (drop 1 t)) 0 (countOf t) none-bad i h)
+  pub row-right : (i : ℕ) → i < countOf t → rowBad (rowAt (drop headLen t) i) ≡ false
+  row-right i h = rw zero-add at (all-false rowBad (rowAt (drop headLen t)) 0 (countOf t) none-bad i h)
 
-  pub table-wf : Wf (drop 1 t) (countOf t)
+  pub table-wf : Wf (drop headLen t) (countOf t)
   table-wf =
       let a = table-room in
       let b = table-count in
-      let d : countOf t * rowLen ≤ length (drop 1 t) = simp length-drop (omega arith) in
+      let d : countOf t * rowLen ≤ length (drop headLen t) = simp length-drop (omega arith) in
       record {
         room = d;
         rows = λ i h.
-            let z : rowWrong (rowAt (drop 1 t) i) ≤ 0 = ltb-false _ _ (row-right i h) in
-            row-wf (rowAt (drop 1 t) i) (row-long (drop 1 t) i (omega arith)) (omega arith);
+            let z : rowWrong (rowAt (drop headLen t) i) ≤ 0 = ltb-false _ _ (row-right i h) in
+            row-wf (rowAt (drop headLen t) i) (row-long (drop headLen t) i (omega arith)) (omega arith);
       }

@@ -3,21 +3,17 @@ use Prim.Native.Nat.{ℕ, _≤_}
 use native.Mathlib.Omega.{arith}
 use mathlib.Core.Path.{_≡_, refl, ap}
 use mathlib.Core.List.{List}
-use mathlib.Core.Bool.{Bool, true, false}
-use mathlib.Core.Option.{some, none}
-use lib.Dec.{eqb}
-use lib.ListN.{getD}
-use Rattle.terms.specs.Choice.{pick}
 use Rattle.terms.specs.declared.Decision.the-variants.{Commit as commit, Abort as abort}
 use Rattle.terms.specs.Checks.{orElse, ifLess, ifSame}
-use Rattle.rules.specs.Answers.{reasonNumber, voteNumber, voteReason}
+use Rattle.rules.specs.Answers.{reasonNumber, voteNumber, voteReason, settledNumber}
 use Rattle.rules.specs.declared.Reason.{Reason}
 use Rattle.rules.specs.declared.Reason.the-variants.{Ahead, NoVersion, Overwritten, Undercuts, ReadMark, Dependency}
 use Rattle.rules.specs.declared.Vote.{Vote}
 use Rattle.rules.specs.declared.Vote.the-variants.{None as unvoted, Waiting as waiting, Commit as voteCommit, Abort as voteAbort}
-use Rattle.table.specs.declared.Settled.{Settled}
-use Rattle.table.specs.declared.Settled.the-variants.{None as unsettled, Is as settled}
-use Rattle.table.specs.Table.{voteOf, reasonOf, settledOf, settledBy, settledIn, settledNumber, reasonWrong, entryOf, stateOf, entryWith, logAt, decidedAt}
+use Rattle.rules.specs.declared.Settled.{Settled}
+use Rattle.rules.specs.declared.Settled.the-variants.{None as unsettled, Is as settled}
+use Rattle.rules.specs.Table.{Entry}
+use Rattle.table.specs.Table.{voteOf, reasonOf, settledOf, reasonWrong, stateAt, stateIn, entryWith, entryOf}
 
 -- ---- codes
 reason-back : (r : Reason) → reasonOf (reasonNumber r) ≡ r
@@ -34,7 +30,7 @@ vote-back waiting = refl
 vote-back voteCommit = refl
 vote-back (voteAbort r) = ap voteAbort (reason-back r)
 
-pub settled-back : (x : Settled) → settledOf (settledNumber x) ≡ settledIn x
+pub settled-back : (x : Settled) → settledOf (settledNumber x) ≡ x
 settled-back unsettled = refl
 settled-back (settled commit) = refl
 settled-back (settled abort) = refl
@@ -64,27 +60,24 @@ settled-small (settled commit) = omega arith
 settled-small (settled abort) = omega arith
 
 -- ---- the state of a row is its entry's
-by-tests : (a b : Bool) → settledIn (pick a (settled commit) (pick b (settled abort) unsettled)) ≡ pick a (some commit) (pick b (some abort) none)
-by-tests true b = refl
-by-tests false true = refl
-by-tests false false = refl
-
-settled-in : (x : ℕ) → settledIn (settledBy x) ≡ settledOf x
-settled-in x = by-tests (eqb x 1) (eqb x 2)
-
 module _ (r : List ℕ) where
-  pub state-vote : stateOf r .vote ≡ entryOf r .vote
-  unfolding stateOf entryOf
+  pub state-vote : stateAt r .vote ≡ entryOf r .vote
+  unfolding entryOf entryWith
   state-vote = refl
 
-  pub state-log : settledIn (stateOf r .log) ≡ entryOf r .log
-  unfolding stateOf entryOf
-  state-log = settled-in (getD r logAt 0)
+  pub state-log : stateAt r .log ≡ entryOf r .log
+  unfolding entryOf entryWith
+  state-log = refl
 
-  pub state-decided : settledIn (stateOf r .decided) ≡ entryOf r .decided
-  unfolding stateOf entryOf
-  state-decided = settled-in (getD r decidedAt 0)
+  pub state-decided : stateAt r .decided ≡ entryOf r .decided
+  unfolding entryOf entryWith
+  state-decided = refl
 
-  pub state-entry : entryWith (entryOf r .body) (stateOf r) ≡ entryOf r
-  unfolding entryWith stateOf entryOf
-  state-entry = rw (settled-in (getD r logAt 0), settled-in (getD r decidedAt 0))
+  pub state-entry : entryWith (entryOf r .body) (stateAt r) ≡ entryOf r
+  unfolding entryOf entryWith
+  state-entry = refl
+
+-- an entry is its body and its state
+pub put-entry : (e : Entry) → entryWith (e .body) (stateIn e) ≡ e
+unfolding entryWith stateIn
+put-entry e = refl

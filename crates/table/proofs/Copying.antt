@@ -1,12 +1,17 @@
--- The loop that copies a body over the front of a row.
-use Prim.Native.Nat.{ℕ, suc, _+_, _<_, _≤_, zero-le}
+-- A row that is written: the codes, and the loop that copies a body behind them.
+use Prim.Native.Nat.{ℕ, suc, _+_, _-_, _<_, _≤_, zero-le}
 use native.Mathlib.Omega.{arith}
 use native.Mathlib.Numerals.{add-one}
 use mathlib.Core.Path.{_≡_, refl, ap, sym, _∙_}
-use mathlib.Core.List.{List, _∷_, _++_, append-assoc}
-use lib.ListN.{length, take, drop, getD, set, length-set}
-use lib.Seq.{length-take-le, set-at, drop-cons, take-suc}
-use Rattle.table.specs.Table.{copied}
+use mathlib.Core.List.{List, [], _∷_, _++_, append-assoc, append-nil}
+use borrow.Rule.Slice.PartMut.{midOf, putMid}
+use lib.ListN.{length, take, drop, getD, set, length-set, drop-of-length-le}
+use lib.Seq.{length-take-le, take-length, take-all, set-at, drop-cons, take-suc}
+use Rattle.table.specs.Table.{rowLen, voteAt, reasonAt, logAt, decidedAt, bodyAt, rowTx}
+
+-- the first i bytes of b over d
+abbrev copied : List ℕ → List ℕ → ℕ → List ℕ
+copied d b i = take i b ++ drop i d
 
 pub record Copied (d b e : List ℕ) (i : ℕ) : Type 0 where
   pub within : i ≤ length b
@@ -31,5 +36,20 @@ copy-more {d} {b} {e} {i} c h =
       same = ap (λ (x : List ℕ). set x i (getD b i 0)) (c .same) ∙ s ∙ sym t;
     }
 
-pub copy-all : {d b e : List ℕ} {i : ℕ} → Copied d b e i → length b ≤ i → e ≡ copied d b (length b)
-copy-all {d} {b} {e} {i} c h = let z : i ≡ length b = omega arith in rw z at (c .same)
+pub copy-all : {d b e : List ℕ} {i : ℕ} → Copied d b e i → length b ≤ i → e ≡ b ++ drop (length b) d
+copy-all {d} {b} {e} {i} c h = let z : i ≡ length b = omega arith in rw (z, take-length b) at (c .same)
+
+-- the codes put down in a row, and the bytes behind them lent and given back
+abbrev coded : List ℕ → ℕ → ℕ → ℕ → ℕ → List ℕ
+coded d v r l x = set (set (set (set d voteAt v) reasonAt r) logAt l) decidedAt x
+
+pub row-put : (d b : List ℕ) (v r l x : ℕ) → length d ≡ rowLen
+    → putMid bodyAt (rowLen - bodyAt) (coded d v r l x) (b ++ drop (length b) (midOf bodyAt (rowLen - bodyAt) (coded d v r l x)))
+    ≡ v ∷ r ∷ l ∷ x ∷ (b ++ drop (length b) (rowTx d))
+row-put [] b v r l x h = absurd (omega arith)
+row-put (p ∷ []) b v r l x h = absurd (omega arith)
+row-put (p ∷ q ∷ []) b v r l x h = absurd (omega arith)
+row-put (p ∷ q ∷ s ∷ []) b v r l x h = absurd (omega arith)
+row-put (p ∷ q ∷ s ∷ t ∷ d) b v r l x h =
+    let n : length d ≤ rowLen - bodyAt = omega arith in
+    rw (take-all (rowLen - bodyAt) d n, drop-of-length-le d n, append-nil)

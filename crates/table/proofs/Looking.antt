@@ -10,11 +10,10 @@ use lib.Dec.{eqb}
 use lib.ListN.{length, drop}
 use Rattle.terms.specs.Choice.{pick, tab}
 use Rattle.terms.proofs.Scans.{tab-length}
-use Rattle.records.specs.Tx.{TxThere}
 use Rattle.rules.specs.Bodies.{stampOf}
 use Rattle.rules.specs.Table.{Entry, find}
-use Rattle.table.specs.Table.{rowLen, rowAt, entryAt, entries, entriesOf, countOf, place, Wf}
-use Rattle.table.proofs.Bodies.{body-stamp, rows-there}
+use Rattle.table.specs.Table.{headLen, rowAt, rowTx, entryAt, entries, entriesOf, countOf, place}
+use Rattle.table.proofs.Bodies.{body-stamp}
 
 -- the loop: j and the place in what is left from j on are the place in the whole, W
 pub record Seek (s : ℕ) (f : ℕ → Entry) (n W j : ℕ) : Type 0 where
@@ -49,18 +48,14 @@ module _ {s : ℕ} {f : ℕ → Entry} {n : ℕ} where
         omega arith
 
 module _ (t : List ℕ) {s n W j : ℕ} (r : Seek s (entryAt t) n W j) where
-  pub place-found : j < n → eqb (stampOf (rowAt t j)) s ≡ true → j ≡ W
+  pub place-found : j < n → eqb (stampOf (rowTx (rowAt t j))) s ≡ true → j ≡ W
   place-found h p = seek-found r h (rw (body-stamp (rowAt t j)) p)
 
-  pub place-go : j < n → eqb (stampOf (rowAt t j)) s ≡ false → Seek s (entryAt t) n W (j + 1)
+  pub place-go : j < n → eqb (stampOf (rowTx (rowAt t j))) s ≡ false → Seek s (entryAt t) n W (j + 1)
   place-go h p = seek-go r h (rw (body-stamp (rowAt t j)) p)
 
-  pub place-next : (i : ℕ) → j < n → eqb (stampOf (rowAt t j)) s ≡ false → i ≡ j + 1 → Seek s (entryAt t) n W i
+  pub place-next : (i : ℕ) → j < n → eqb (stampOf (rowTx (rowAt t j))) s ≡ false → i ≡ j + 1 → Seek s (entryAt t) n W i
   place-next i h p e = rw e (place-go h p)
-
--- a row that can be looked at
-pub stamp-there : {t : List ℕ} {n : ℕ} → Wf t n → (i : ℕ) → i < n → (i * rowLen + rowLen ≤ length t) × TxThere (rowAt t i)
-stamp-there w i h = let m = w .room in (omega arith, rows-there w i h)
 
 -- what was found, and what was not
 module _ (s : ℕ) (x : Entry) (xs : List Entry) where
@@ -100,10 +95,10 @@ module _ (s : ℕ) (t : List ℕ) (n j : ℕ) (e : j ≡ place s (entries t n)) 
   find-some h = some-in s (entryAt t) 0 n j (sym e) h ∙ ap (λ (i : ℕ). some (entryAt t i)) (zero-add j)
 
 -- the entries of a table, and how many they are
-pub entries-are : (t : List ℕ) → entriesOf t ≡ entries (drop 1 t) (countOf t)
+pub entries-are : (t : List ℕ) → entriesOf t ≡ entries (drop headLen t) (countOf t)
 unfolding entriesOf
 entries-are t = refl
 
 pub entries-count : (t : List ℕ) → length (entriesOf t) ≡ countOf t
 unfolding entriesOf
-entries-count t = tab-length (entryAt (drop 1 t)) 0 (countOf t)
+entries-count t = tab-length (entryAt (drop headLen t)) 0 (countOf t)

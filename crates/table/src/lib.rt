@@ -2,59 +2,67 @@
 ghost use mathlib.Core.Path.{_≡_};
 ghost use Prim.Native.Nat.{ℕ, _+_, _-_, _*_, _<_, _≤_};
 ghost use mathlib.Core.Bool.{_&&_};
+ghost use mathlib.Core.List.{_++_};
 ghost use lib.Dec.{eqb};
 ghost use lib.ListN.{length, drop};
 ghost use Rattle.terms.specs.Choice.{tab, any};
 ghost use Rattle.records.specs.Tx.{rCount, wCount, readAt, writeAt, writesFrom, TxThere};
-ghost use Rattle.rules.specs.Answers.{decisionNumber};
 ghost use Rattle.rules.specs.Bodies.{stampOf, writesKey, sameBody};
 ghost use Rattle.rules.specs.Table.{live};
-ghost use Rattle.table.specs.Table.{rowLen, voteAt, countOf, rowAt, entryOf, entryAt, entries, Wf, place};
-ghost use Rattle.table.specs.Table.{reasonWrong, voteWrong, rowWrong, rowBad, tableWrong, reasonOf, voteOf, settledBy, settledNumber, stateOf};
-ghost use Rattle.table.specs.Table.{copied, newRow, newCount, stored};
+ghost use Rattle.table.specs.Table.{headLen, rowLen, bodyAt, tableLen, countOf, rowAt, rowTx, entryOf, entryAt, entries, WfRow, Wf, place};
+ghost use Rattle.table.specs.Table.{reasonWrong, voteWrong, rowWrong, rowBad, tableWrong, reasonOf, voteOf, settledOf, stateAt};
+ghost use Rattle.table.specs.Table.{newRow, newCount, stored};
 use records::Read;
 use records::Write;
 use rules::Reason;
+use rules::Settled;
 use rules::Vote;
 use terms::Decision;
 use terms::Key;
 use terms::Stamp;
 
-// How many bytes a row has, and where in it the codes of vote, reason, log and decision stand.
+// How many bytes stand in front of the rows: the count of entries.
+pub const HEAD: usize = 1;
+
+// How many bytes a row has, and where in it the codes of vote, reason, log and decision stand, and the body.
 pub const ROW: usize = 176;
 
-pub const VOTE_AT: usize = 172;
+pub const VOTE_AT: usize = 0;
 
-pub const REASON_AT: usize = 173;
+pub const REASON_AT: usize = 1;
 
-pub const LOG_AT: usize = 174;
+pub const LOG_AT: usize = 2;
 
-pub const DECIDED_AT: usize = 175;
+pub const DECIDED_AT: usize = 3;
 
-// A decision, or none.
-pub enum Settled {
-    None,
-    Is(Decision),
-}
+pub const BODY_AT: usize = 4;
 
 // What an entry holds beside the body.
-pub struct Entry {
+pub struct State {
     pub vote: Vote,
     pub log: Settled,
     pub decided: Settled,
 }
 
+// How many bytes a table of this capacity has.
+pub fn table_len(capacity: usize) -> usize
+    requires { ⌜ capacity ≤ 255 ⌝ }
+    ensures { λ r. ⌜ r ≡ tableLen capacity ⌝ }
+{
+    HEAD + capacity * ROW
+}
+
 // The rows of a table.
 pub fn rows(t: &[u8]) -> &[u8]
-    requires { ⌜ 1 ≤ length (now t) ⌝ }
-    ensures { λ r. ⌜ now r ≡ drop 1 (now (t .entry)) ⌝ }
+    requires { ⌜ headLen ≤ length (now t) ⌝ }
+    ensures { λ r. ⌜ now r ≡ drop headLen (now (t .entry)) ⌝ }
 {
-    &t[1..]
+    &t[HEAD..]
 }
 
 // How many entries a table has.
 pub fn count_of(t: &[u8]) -> usize
-    requires { ⌜ 1 ≤ length (now t) ⌝ }
+    requires { ⌜ headLen ≤ length (now t) ⌝ }
     ensures { λ r. ⌜ (r ≡ countOf (now (t .entry))) × (r < 256) ⌝ }
 {
     records::wide(t[0])
@@ -67,6 +75,23 @@ pub fn row(t: &[u8], i: usize) -> &[u8]
 {
     let b = i * ROW;
     &t[b..b + ROW]
+}
+
+// The bytes of a row behind the codes: those of its TX, then what is left.
+pub fn tx_of(e: &[u8]) -> &[u8]
+    requires { ⌜ WfRow (now e) ⌝ }
+    ensures { λ r. ⌜ (now r ≡ rowTx (now (e .entry))) × TxThere (now r) ⌝ }
+{
+    &e[BODY_AT..]
+}
+
+// The body of a row.
+pub fn body_of(e: &[u8]) -> &[u8]
+    requires { ⌜ WfRow (now e) ⌝ }
+    ensures { λ r. ⌜ now r ≡ entryOf (now (e .entry)) .body ⌝ }
+{
+    let s = tx_of(e);
+    &s[..records::tx_len(s)]
 }
 
 // Whether the entry of a row is live: decided commit, or undecided with vote commit or waiting.
@@ -85,18 +110,18 @@ pub fn live(e: &[u8]) -> bool
     if v == 1 {
         return true;
     }
-    if v == 2 {
+    if v == 3 {
         return true;
     }
     false
 }
 
-// The stamp of a row's transaction, or of a TX.
-pub fn stamp_of(s: &[u8]) -> u64
+// The stamp of a TX, in a message or in a row.
+pub fn stamp_of(s: &[u8]) -> Stamp
     requires { ⌜ TxThere (now s) ⌝ }
-    ensures { λ r. ⌜ r ≡ stampOf (now (s .entry)) ⌝ }
+    ensures { λ r. ⌜ r .0 ≡ stampOf (now (s .entry)) ⌝ }
 {
-    records::u64_at(s, 4)
+    Stamp(records::u64_at(s, 4))
 }
 
 // How many reads it has.
@@ -150,10 +175,10 @@ pub fn writes_key(s: &[u8], k: Key) -> bool
 
 // Whether row `i` has the stamp.
 fn has_stamp(t: &[u8], i: usize, s: Stamp) -> bool
-    requires { ⌜ (i * rowLen + rowLen ≤ length (now t)) × TxThere (rowAt (now t) i) ⌝ }
-    ensures { λ r. ⌜ r ≡ eqb (stampOf (rowAt (now (t .entry)) i)) (s .0) ⌝ }
+    requires { ⌜ (i * rowLen + rowLen ≤ length (now t)) × WfRow (rowAt (now t) i) ⌝ }
+    ensures { λ r. ⌜ r ≡ eqb (stampOf (rowTx (rowAt (now (t .entry)) i))) (s .0) ⌝ }
 {
-    stamp_of(row(t, i)) == s.0
+    stamp_of(tx_of(row(t, i))).0 == s.0
 }
 
 // The place of the first entry with a stamp from row `from` on, or `n`.
@@ -199,7 +224,7 @@ pub fn place(t: &[u8], n: usize, s: Stamp) -> usize
 fn reason_wrong(v: u8, r: u8) -> u8
     ensures { λ n. ⌜ n ≡ reasonWrong v r ⌝ }
 {
-    if v == 3 {
+    if v == 2 {
         if r == 0 {
             return terms::TABLE;
         }
@@ -214,12 +239,12 @@ fn reason_wrong(v: u8, r: u8) -> u8
     0
 }
 
-// 16 where vote or reason is outside its list; a vote that is no abort has reason 0, and one look tells of both.
+// 16 where vote or reason is outside its list; none and commit have reason 0, and one look tells of both.
 fn vote_wrong(e: &[u8]) -> u8
     requires { ⌜ length (now e) ≡ rowLen ⌝ }
     ensures { λ n. ⌜ n ≡ voteWrong (now (e .entry)) ⌝ }
 {
-    if records::u16_at(e, VOTE_AT) < 3 {
+    if records::u16_at(e, VOTE_AT) < 2 {
         return 0;
     }
     if 3 < e[VOTE_AT] {
@@ -228,15 +253,15 @@ fn vote_wrong(e: &[u8]) -> u8
     reason_wrong(e[VOTE_AT], e[REASON_AT])
 }
 
-// 16 where r or w is above 8, or a code is outside its list.
+// 16 where r or w is above 8, or a code is outside its list. It returns at the first: a row in order is half again as fast as by one sum of all checks.
 fn row_wrong(e: &[u8]) -> u8
     requires { ⌜ length (now e) ≡ rowLen ⌝ }
     ensures { λ n. ⌜ n ≡ rowWrong (now (e .entry)) ⌝ }
 {
-    if 8 < e[2] {
+    if 8 < e[BODY_AT + 2] {
         return terms::TABLE;
     }
-    if 8 < e[3] {
+    if 8 < e[BODY_AT + 3] {
         return terms::TABLE;
     }
     let wrong = vote_wrong(e);
@@ -304,7 +329,7 @@ pub fn table_wrong(t: &[u8], capacity: usize) -> u8
     requires { ⌜ capacity ≤ 255 ⌝ }
     ensures { λ r. ⌜ r ≡ tableWrong capacity (now (t .entry)) ⌝ }
 {
-    if t.len() < 1 + capacity * ROW {
+    if t.len() < table_len(capacity) {
         return terms::TABLE;
     }
     let n = count_of(t);
@@ -332,20 +357,20 @@ fn reason_of(x: u8) -> Reason
 }
 
 // The vote that a code and its reason's say.
-pub fn vote_of(code: u8, reason: u8) -> Vote
+fn vote_of(code: u8, reason: u8) -> Vote
     ensures { λ r. ⌜ r ≡ voteOf code reason ⌝ }
 {
     match code {
-        1 => Vote::Waiting,
-        2 => Vote::Commit,
-        3 => Vote::Abort(reason_of(reason)),
+        1 => Vote::Commit,
+        2 => Vote::Abort(reason_of(reason)),
+        3 => Vote::Waiting,
         _ => Vote::None,
     }
 }
 
 // The decision that a code says, or none.
-pub fn settled_of(code: u8) -> Settled
-    ensures { λ r. ⌜ r ≡ settledBy code ⌝ }
+fn settled_of(code: u8) -> Settled
+    ensures { λ r. ⌜ r ≡ settledOf code ⌝ }
 {
     match code {
         1 => Settled::Is(Decision::Commit),
@@ -354,43 +379,15 @@ pub fn settled_of(code: u8) -> Settled
     }
 }
 
-// The code of a decision: 1 commit, 2 abort.
-fn decision_code(d: Decision) -> u8
-    ensures { λ r. ⌜ r ≡ decisionNumber d ⌝ }
-{
-    match d {
-        Decision::Commit => 1,
-        Decision::Abort => 2,
-    }
-}
-
-// The code of a decision or none: 0 is none.
-pub fn settled_code(x: Settled) -> u8
-    ensures { λ r. ⌜ r ≡ settledNumber x ⌝ }
-{
-    match x {
-        Settled::None => 0,
-        Settled::Is(d) => decision_code(d),
-    }
-}
-
 // What a row holds beside the body.
-pub fn entry_of(e: &[u8]) -> Entry
+pub fn state_of(e: &[u8]) -> State
     requires { ⌜ length (now e) ≡ rowLen ⌝ }
-    ensures { λ x. ⌜ x ≡ stateOf (now (e .entry)) ⌝ }
+    ensures { λ x. ⌜ x ≡ stateAt (now (e .entry)) ⌝ }
 {
     let vote = vote_of(e[VOTE_AT], e[REASON_AT]);
     let log = settled_of(e[LOG_AT]);
     let decided = settled_of(e[DECIDED_AT]);
-    Entry { vote, log, decided }
-}
-
-// The body of a row.
-pub fn row_body(e: &[u8]) -> &[u8]
-    requires { ⌜ TxThere (now e) ⌝ }
-    ensures { λ r. ⌜ now r ≡ entryOf (now (e .entry)) .body ⌝ }
-{
-    &e[..records::tx_len(e)]
+    State { vote, log, decided }
 }
 
 // Whether all is the same, one byte more compared.
@@ -419,28 +416,31 @@ pub fn same(a: &[u8], b: &[u8]) -> bool
     ok
 }
 
-// The body's bytes, over the front of a row.
-fn put_body(e: &mut [u8], body: &[u8])
-    requires { ⌜ length (now body) ≤ length (now e) ⌝ }
-    ensures { λ r. ⌜ now (e .exit) ≡ copied (now (e .entry)) (now (body .entry)) (length (now (body .entry))) ⌝ }
+// The body's bytes, over the front of a row's bytes for it.
+fn put_body(s: &mut [u8], body: &[u8])
+    requires { ⌜ length (now body) ≤ length (now s) ⌝ }
+    ensures { λ r. ⌜ now (s .exit) ≡ now (body .entry) ++ drop (length (now (body .entry))) (now (s .entry)) ⌝ }
 {
     let mut i = 0;
     while i < body.len() {
-        e[i] = body[i];
+        s[i] = body[i];
         i += 1;
     }
 }
 
-// A row of this body and these codes.
-fn put_row(e: &mut [u8], body: &[u8], vote: u8, reason: u8, log: u8, decided: u8)
-    requires { ⌜ (length (now e) ≡ rowLen) × (length (now body) ≤ voteAt) ⌝ }
-    ensures { λ r. ⌜ now (e .exit) ≡ newRow (now (e .entry)) (now (body .entry)) vote reason log decided ⌝ }
+// A row of this body and of what is held beside it.
+fn put_row(e: &mut [u8], body: &[u8], x: State)
+    requires { ⌜ (length (now e) ≡ rowLen) × (bodyAt + length (now body) ≤ rowLen) ⌝ }
+    ensures { λ r. ⌜ now (e .exit) ≡ newRow (now (e .entry)) (now (body .entry)) x ⌝ }
 {
-    put_body(e, body);
-    e[VOTE_AT] = vote;
-    e[REASON_AT] = reason;
-    e[LOG_AT] = log;
-    e[DECIDED_AT] = decided;
+    let vote = x.vote;
+    let log = x.log;
+    let decided = x.decided;
+    e[VOTE_AT] = vote.number();
+    e[REASON_AT] = vote.reason();
+    e[LOG_AT] = log.number();
+    e[DECIDED_AT] = decided.number();
+    put_body(&mut e[BODY_AT..ROW], body);
 }
 
 // The count once row `i` is stored: one more where `i` is behind the last.
@@ -455,22 +455,12 @@ fn new_count(n: u8, i: usize) -> u8
 }
 
 // Row `i`, an entry's own or the one behind the last, becomes this body and what is held beside it.
-pub fn store(t: &mut [u8], i: usize, body: &[u8], e: Entry)
-    requires { ⌜ (1 + i * rowLen + rowLen ≤ length (now t)) × (i < 255) × (length (now body) ≤ voteAt) ⌝ }
-    ensures { λ r. ⌜ now (t .exit) ≡ stored (now (t .entry)) i (now (body .entry)) e ⌝ }
+pub fn store(t: &mut [u8], i: usize, body: &[u8], x: State)
+    requires { ⌜ (headLen + i * rowLen + rowLen ≤ length (now t)) × (i < 255) × (bodyAt + length (now body) ≤ rowLen) ⌝ }
+    ensures { λ r. ⌜ now (t .exit) ≡ stored (now (t .entry)) i (now (body .entry)) x ⌝ }
 {
-    let vote = e.vote;
-    let log = e.log;
-    let decided = e.decided;
     let n = new_count(t[0], i);
-    let b = 1 + i * ROW;
-    put_row(
-        &mut t[b..b + ROW],
-        body,
-        vote.number(),
-        vote.reason(),
-        settled_code(log),
-        settled_code(decided),
-    );
+    let b = HEAD + i * ROW;
+    put_row(&mut t[b..b + ROW], body, x);
     t[0] = n;
 }

@@ -2,9 +2,9 @@
 use Prim.Native.Nat.{ℕ, zero, suc, _<_, _≤_}
 use native.Mathlib.Omega.{arith}
 use mathlib.Core.Path.{_≡_, refl, sym}
-use mathlib.Core.Bool.{Bool, true, false}
+use mathlib.Core.Bool.{Bool, true, false, not}
 use borrow.Author.Tests.{lt-ltb, le-ltb, eq-eqb, ne-eqb, ltb-false}
-use lib.Dec.{ltb}
+use lib.Dec.{ltb, eqb}
 use Rattle.terms.specs.Choice.{pick}
 use Rattle.terms.specs.Checks.{orElse, when, ifLess, ifSame, ifOther}
 
@@ -23,6 +23,15 @@ unfolding orElse
 halt zero b n e h = absurd (omega arith)
 halt (suc a) b n e h = sym e
 
+-- a chain in front of a chain; a chain told by its links
+pub together : (a b c : ℕ) → orElse (orElse a b) c ≡ orElse a (orElse b c)
+unfolding orElse
+together zero b c = refl
+together (suc a) b c = refl
+
+pub links : {a b p q x : ℕ} → x ≡ orElse a b → a ≡ p → b ≡ q → x ≡ orElse p q
+links e p q = cc
+
 pub when-no : (b : Bool) (n : ℕ) → b ≡ false → when b n ≡ 0
 unfolding when
 when-no b n e = rw e
@@ -30,6 +39,13 @@ when-no b n e = rw e
 pub when-yes : (b : Bool) (n : ℕ) → b ≡ true → when b n ≡ n
 unfolding when
 when-yes b n e = rw e
+
+-- the same, told by a scan
+pub tells : {b : Bool} (n : ℕ) → true ≡ b → n ≡ when b n
+tells n e = sym (when-yes _ _ (sym e))
+
+pub tells-not : {b : Bool} (n : ℕ) → false ≡ b → 0 ≡ when b n
+tells-not n e = sym (when-no _ _ (sym e))
 
 module _ (a b n : ℕ) where
   pub less-no : b ≤ a → ifLess a b n ≡ 0
@@ -55,6 +71,14 @@ module _ (a b n : ℕ) where
   pub other-yes : (a ≡ b → ⊥) → ifOther a b n ≡ n
   unfolding ifOther
   other-yes h = rw (ne-eqb a b h)
+
+  pub other-when : when (not (eqb a b)) n ≡ ifOther a b n
+  unfolding when ifOther
+  other-when = by (eqb a b)
+    where
+      by : (t : Bool) → pick (not t) n 0 ≡ pick t 0 n
+      by true = refl
+      by false = refl
 
   -- what a check that passed tells
   pub not-less : ifLess a b (suc n) ≡ 0 → b ≤ a

@@ -1,6 +1,6 @@
 -- A check is a refusal's number, 0 where it passes; an order of checks is a chain of them.
 use Prim.Native.Nat.{ℕ, zero, suc}
-use mathlib.Core.Bool.{Bool, true, false}
+use mathlib.Core.Bool.{Bool}
 use lib.Dec.{eqb, ltb}
 use Rattle.terms.specs.Choice.{pick}
 
@@ -11,8 +11,7 @@ orElse (suc a) b = suc a
 
 -- the number n where a test tells so; where a is below b; where they are equal; where they differ
 unfoldable pub when : Bool → ℕ → ℕ
-when true n = n
-when false n = 0
+when b n = pick b n 0
 
 unfoldable pub ifLess : ℕ → ℕ → ℕ → ℕ
 ifLess a b n = pick (ltb a b) n 0

@@ -1,5 +1,7 @@
 // The papers' words as types: stamp, key, decision, kind, refusal, and the group of boxes with its five thresholds.
 ghost use mathlib.Core.Path.{_≡_};
+ghost use Rattle.terms.specs.Checks.{orElse, when};
+ghost use Rattle.terms.specs.Codes.{decisionNumber};
 ghost use Rattle.terms.specs.Refusals.{numberOf, refusalOf};
 ghost use Rattle.terms.specs.Group.{boxes, commitList, abortList, commitProof, abortProof, logProof, groupWrong, groupOf};
 
@@ -38,9 +40,41 @@ pub const TABLE: u8 = 16;
 
 pub const BUFFER: u8 = 17;
 
+// The first refusal of two: checks that do not need one another stand in a line.
+pub fn first(a: u8, b: u8) -> u8
+    ensures { λ r. ⌜ r ≡ orElse a b ⌝ }
+{
+    if a != 0 {
+        return a;
+    }
+    b
+}
+
+// The number where a test tells so, else 0.
+pub fn refuse_if(test: bool, n: u8) -> u8
+    ensures { λ r. ⌜ r ≡ when test n ⌝ }
+{
+    if test {
+        return n;
+    }
+    0
+}
+
 pub enum Decision {
     Commit,
     Abort,
+}
+
+impl Decision {
+    // The paper's number: 1 commit, 2 abort.
+    pub fn number(self) -> u8
+        ensures { λ r. ⌜ r ≡ decisionNumber self ⌝ }
+    {
+        match self {
+            Decision::Commit => 1,
+            Decision::Abort => 2,
+        }
+    }
 }
 
 pub enum Kind {
@@ -135,13 +169,7 @@ pub enum GroupAnswer {
 pub fn group_wrong(f: u64) -> u8
     ensures { λ r. ⌜ r ≡ groupWrong f ⌝ }
 {
-    if f < 1 {
-        return GROUP;
-    }
-    if LARGEST_F < f {
-        return GROUP;
-    }
-    0
+    first(refuse_if(f < 1, GROUP), refuse_if(LARGEST_F < f, GROUP))
 }
 
 impl Group {

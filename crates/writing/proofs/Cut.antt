@@ -3,7 +3,7 @@ use Prim.Native.Nat.{ℕ, suc, _+_, _*_, _-_, _<_, _≤_}
 use native.Mathlib.Omega.{arith}
 use mathlib.Core.Bool.{Bool, true, false}
 use mathlib.Core.Path.{_≡_, refl, ap, sym, _∙_}
-use mathlib.Core.List.{List, [], _∷_, _++_, append-assoc, append-nil}
+use mathlib.Core.List.{List, [], _∷_, _++_, append-nil}
 use borrow.Author.Tests.{eqb-true}
 use lib.Dec.{eqb}
 use lib.ListN.{length, getD, take, drop, length-append, length-drop, take-append-drop}
@@ -16,14 +16,13 @@ use Rattle.records.specs.Numbers.{leBytes, numAt}
 use Rattle.records.specs.Tx.{Tx, txOf, txBytes, txLen, readAt, writeAt, flat, readKey, readVersion, writeKey, writeValue, markTX}
 use Rattle.records.specs.Vl.{Vl, vlOf, vlBytes, vlLen, pairAt, markVL}
 use Rattle.records.specs.Contents.{countsWrong, countWrong}
-use Rattle.records.specs.Cutting.{markWrong, txCut, vlCut, behindWrong, prCut, prLen, listedCut, listedLen, rdCut, txPart, vlPart, markPR, markRD}
+use Rattle.records.specs.Cutting.{markWrong, txCut, vlCut, behindWrong, listedCut, listedLen, txPart, vlPart, markPR, markRD}
 use Rattle.records.specs.Writing.{prBytes, rdBytes}
-use Rattle.records.specs.Messages.{rdKey, rdStamp}
+use Rattle.records.specs.Messages.{rdKey, rdStamp, listBehind}
 use Rattle.records.specs.declared.Read.{Read}
 use Rattle.records.specs.declared.Write.{Write}
 use Rattle.writing.specs.OneForm.{Bytes, TxRight}
-use Rattle.writing.proofs.Front.{flat-long}
-use Rattle.writing.proofs.Laid.{tx-long, list-long}
+use Rattle.writing.proofs.Lengths.{flat-long, tx-long, list-long}
 use Rattle.writing.proofs.Fields.{num-at, num-back, bytes-take, bytes-drop, items-read, items-written, pairs-read, pairs-written}
 
 -- two checks that pass; two numbers that a check finds equal
@@ -92,7 +91,7 @@ tx-back x f =
     let writes : List ℕ = flat writeKey writeValue (x .writes) in
     let a : numAt 8 4 (txBytes x) ≡ x .stamp = num-at 8 4 (x .stamp) pre (reads ++ writes) refl (f .stamp) in
     let b : tab (readAt (txBytes x) 12) 0 r ≡ x .reads = items-read readKey readVersion readOf (λ y. refl) (x .reads) pre2 writes 12 refl (f .reads) in
-    let e : txBytes x ≡ (pre2 ++ reads) ++ (writes ++ []) = simp (append-assoc, append-nil) in
+    let e : txBytes x ≡ (pre2 ++ reads) ++ (writes ++ []) = simp append-nil in
     let l : length (pre2 ++ reads) ≡ 12 + r * 10 = length-append pre2 reads ∙ (omega (arith, flat-long readKey readVersion (x .reads))) in
     let c : tab (writeAt (txBytes x) (12 + r * 10)) 0 w ≡ x .writes =
     ap (λ (q : List ℕ). tab (writeAt q (12 + r * 10)) 0 w) e ∙ items-read writeKey writeValue writeOf (λ y. refl) (x .writes) (pre2 ++ reads) [] (12 + r * 10) l (f .writes) in
@@ -209,31 +208,25 @@ vl-part-long : (m : List ℕ) → length (vlPart m) ≡ length (drop 2 m) - txLe
 unfolding vlPart
 vl-part-long m = length-drop (txLen (drop 2 m)) (drop 2 m)
 
-pub pr-again : (m : List ℕ) → Bytes m → prCut m ≡ 0 → behindWrong (prLen m) m ≡ 0 → prBytes (txOf (txPart m)) ≡ m
-unfolding prCut prLen prBytes
-pr-again m h e b =
-    let k : length m ≤ 2 + txLen (drop 2 m) = behind-told _ m b in
+pub pr-again : (m : List ℕ) → Bytes m → markWrong markPR m ≡ 0 → txCut (drop 2 m) ≡ 0 → length m ≤ 2 + txLen (drop 2 m) → prBytes (txOf (txPart m)) ≡ m
+unfolding prBytes
+pr-again m h w e k =
     let l : length (drop 2 m) ≤ txLen (drop 2 m) = rw (length-drop 2 m) (omega arith) in
-    ap (λ (t : List ℕ). 80 ∷ 82 ∷ t) (part-again m h (rest-none _ _ e) ∙ whole-part m l) ∙ mark-told markPR m (first-none _ _ e)
+    ap (λ (t : List ℕ). 80 ∷ 82 ∷ t) (part-again m h e ∙ whole-part m l) ∙ mark-told markPR m w
 
-pub listed-again : (due m : List ℕ) → Bytes m → listedCut due m ≡ 0 → behindWrong (listedLen m) m ≡ 0
-    → getD due 0 0 ∷ getD due 1 0 ∷ (txBytes (txOf (txPart m)) ++ vlBytes (vlOf (vlPart m))) ≡ m
-unfolding listedCut listedLen
-listed-again due m h e b =
-    let c : txCut (drop 2 m) ≡ 0 = first-none _ _ (rest-none _ _ e) in
-    let v : vlCut (vlPart m) ≡ 0 = rest-none _ _ (rest-none _ _ e) in
-    let k : length m ≤ 2 + txLen (drop 2 m) + vlLen (vlPart m) = behind-told _ m b in
+pub listed-again : (due m : List ℕ) → Bytes m → markWrong due m ≡ 0 → listedCut m ≡ 0 → length m ≤ listedLen m
+    → getD due 0 0 ∷ getD due 1 0 ∷ (txBytes (txOf (txPart m)) ++ vlBytes (listBehind m)) ≡ m
+unfolding listedCut listedLen listBehind
+listed-again due m h w e k =
     let l : length (vlPart m) ≤ vlLen (vlPart m) = rw (vl-part-long m, length-drop 2 m) (omega arith) in
-    let p : txBytes (txOf (txPart m)) ++ vlBytes (vlOf (vlPart m)) ≡ drop 2 m = rw (part-again m h c, vl-again (vlPart m) v l) (parts-join m) in
-    ap (λ (t : List ℕ). getD due 0 0 ∷ getD due 1 0 ∷ t) p ∙ mark-told due m (first-none _ _ e)
+    let p : txBytes (txOf (txPart m)) ++ vlBytes (vlOf (vlPart m)) ≡ drop 2 m = rw (part-again m h (first-none _ _ e), vl-again (vlPart m) (rest-none _ _ e) l) (parts-join m) in
+    ap (λ (t : List ℕ). getD due 0 0 ∷ getD due 1 0 ∷ t) p ∙ mark-told due m w
 
--- an RD
-pub rd-again : (m : List ℕ) → Bytes m → rdCut m ≡ 0 → length m ≤ 12 → rdBytes (rdKey m) (rdStamp m) ≡ m
-unfolding rdCut rdBytes
-rd-again m h e b =
-    let k : 12 ≤ length m = not-less _ _ _ (rest-none _ _ e) in
+pub rd-again : (m : List ℕ) → Bytes m → markWrong markRD m ≡ 0 → length m ≡ 12 → rdBytes (rdKey m) (rdStamp m) ≡ m
+unfolding rdBytes
+rd-again m h w k =
     let l : length (drop 2 m) ≡ 2 + 8 = rw (length-drop 2 m) (omega arith) in
     let p : leBytes 2 (rdKey m) ≡ take 2 (drop 2 m) = num-back 2 2 m h (omega arith) in
     let q : leBytes 8 (rdStamp m) ≡ take 8 (drop 4 m) = num-back 8 4 m h (omega arith) in
     let r : drop 2 m ≡ take 2 (drop 2 m) ++ take 8 (drop 4 m) = sym (take-all (2 + 8) (drop 2 m) (omega arith)) ∙ take-add 2 8 (drop 2 m) ∙ (rw (drop-drop 2 2 m)) in
-    ap (λ (t : List ℕ). 82 ∷ 68 ∷ t) (two p q ∙ sym r) ∙ mark-told markRD m (first-none _ _ e)
+    ap (λ (t : List ℕ). 82 ∷ 68 ∷ t) (two p q ∙ sym r) ∙ mark-told markRD m w

@@ -1,98 +1,152 @@
--- The records laid down part by part, and their lengths.
-use Prim.Native.Nat.{ℕ, _+_, _*_, _-_}
+-- Laws of bytes put down in a buffer.
+use Prim.Native.Nat.{ℕ, zero, suc, _+_, _*_, _-_, _<_, _≤_, zero-le}
 use native.Mathlib.Omega.{arith}
-use mathlib.Core.Path.{_≡_, refl, ap, sym, _∙_}
-use mathlib.Core.List.{List, [], _∷_, _++_, append-assoc}
-use lib.ListN.{length, length-append}
+use native.Mathlib.Nat.{add-zero, zero-add, add-sub-cancel-left, mul-le-mul-left}
+use mathlib.Core.Path.{_≡_, refl, ap, _∙_}
+use mathlib.Core.List.{List, [], _∷_, _++_, append-assoc, append-nil}
+use lib.ListN.{length, set, drop, length-append, length-drop}
+use lib.Seq.{drop-drop}
 use borrow.Rule.Slice.PartMut.{putMid}
 use Rattle.terms.specs.Choice.{tab}
 use Rattle.terms.proofs.Scans.{tab-length}
 use Rattle.records.specs.Numbers.{leBytes}
-use Rattle.records.specs.Tx.{Tx, txIn, txBytes, flat, readKey, readVersion, writeKey, writeValue, readsIn, writesIn}
-use Rattle.records.specs.Vl.{Vl, listIn, vlBytes, flatPairs, pairsIn}
+use Rattle.records.specs.Tx.{flat, markTX, txIn, txBytes, readKey, readVersion, writeKey, writeValue, readsIn, writesIn}
+use Rattle.records.specs.Vl.{flatPairs, markVL, listIn, vlBytes, pairsIn}
 use Rattle.records.specs.declared.Transaction.{Transaction}
 use Rattle.records.specs.declared.VoteList.{VoteList}
-use Rattle.records.specs.Cutting.{markPR, markRD}
-use Rattle.records.specs.Writing.{prBytes, rdBytes}
-use Rattle.writing.specs.Parts.{headBytes, listHeadBytes, listedBytes}
-use Rattle.writing.proofs.Front.{Front, front-none, front-part, front-all, flat-long, pairs-long}
+use Rattle.records.specs.declared.Pair.{Pair}
+use Rattle.writing.specs.Parts.{laid, Puts, headBytes}
 
--- "Length 12 + 10(r + w)", "Length 5 + 2 × count"
-pub tx-long : (x : Tx) → length (txBytes x) ≡ 12 + 10 * (length (x .reads) + length (x .writes))
-unfolding txBytes
-tx-long x =
-    let l : length (flat readKey readVersion (x .reads) ++ flat writeKey writeValue (x .writes)) ≡ length (flat readKey readVersion (x .reads)) + length (flat writeKey writeValue (x .writes)) =
-    length-append (flat readKey readVersion (x .reads)) (flat writeKey writeValue (x .writes)) in
-    omega (arith, flat-long readKey readVersion (x .reads), flat-long writeKey writeValue (x .writes))
+-- a part behind the one at the front
+behind : (p q r : List ℕ) → laid (length p) q (p ++ r) ≡ p ++ (q ++ drop (length q) r)
+unfolding laid
+behind [] q r = refl
+behind (x ∷ p) q r = ap (λ (t : List ℕ). x ∷ t) (behind p q r)
 
-pub list-long : (l : Vl) → length (vlBytes l) ≡ 5 + 2 * length (l .pairs)
-unfolding vlBytes
-list-long l = omega (arith, pairs-long (l .pairs))
+-- two parts, one behind the other, are one part
+laid-both : (at : ℕ) (p q d : List ℕ) → laid (at + length p) q (laid at p d) ≡ laid at (p ++ q) d
+unfolding laid
+laid-both zero p q d = rw (zero-add, behind p q (drop (length p) d), drop-drop, length-append, append-assoc)
+laid-both (suc at) p q [] = let e : suc at + length p ≡ suc (at + length p) = omega arith in rw e
+laid-both (suc at) p q (x ∷ d) = let e : suc at + length p ≡ suc (at + length p) = omega arith in rw (e, laid-both at p q d)
 
-pub tx-in-long : (x : Transaction) → length (txBytes (txIn x)) ≡ 12 + 10 * (x .r + x .w)
-unfolding txIn
-tx-in-long x = tx-long (txIn x) ∙ (rw (tab-length (readsIn (x .reads)) 0 (x .r), tab-length (writesIn (x .writes)) 0 (x .w)))
+-- a byte stored, and a part lent and put back
+laid-byte : (at v : ℕ) (d : List ℕ) → at < length d → set d at v ≡ laid at (v ∷ []) d
+unfolding laid
+laid-byte at v [] h = absurd (omega arith)
+laid-byte zero v (x ∷ d) h = refl
+laid-byte (suc at) v (x ∷ d) h = rw (laid-byte at v d (omega arith))
 
-pub list-in-long : (l : VoteList) → length (vlBytes (listIn l)) ≡ 5 + 2 * l .count
-unfolding listIn
-list-in-long l = list-long (listIn l) ∙ (rw (tab-length (pairsIn (l .pairs)) 0 (l .count)))
+laid-part : (at k : ℕ) (v d : List ℕ) → length v ≡ k → at + k ≤ length d → putMid at k d v ≡ laid at v d
+unfolding laid
+laid-part zero k v d e h = rw e
+laid-part (suc at) k v [] e h = absurd (omega arith)
+laid-part (suc at) k v (x ∷ d) e h = rw (laid-part at k v d e (omega arith))
 
-module _ (d : List ℕ) (x : Transaction) (h : length d ≡ 12 + 10 * (x .r + x .w)) where
-  abbrev readBytes : List ℕ
-  readBytes = flat readKey readVersion (tab (readsIn (x .reads)) 0 (x .r))
+pub laid-long : (at : ℕ) (p d : List ℕ) → at + length p ≤ length d → length (laid at p d) ≡ length d
+unfolding laid
+laid-long zero p d h = length-append p (drop (length p) d) ∙ (simp length-drop (omega arith))
+laid-long (suc at) p [] h = refl
+laid-long (suc at) p (x ∷ d) h = rw (laid-long at p d (omega arith))
 
-  abbrev writeBytes : List ℕ
-  writeBytes = flat writeKey writeValue (tab (writesIn (x .writes)) 0 (x .w))
+laid-none : (at : ℕ) (d : List ℕ) → d ≡ laid at [] d
+unfolding laid
+laid-none zero d = refl
+laid-none (suc at) [] = refl
+laid-none (suc at) (x ∷ d) = ap (λ (t : List ℕ). x ∷ t) (laid-none at d)
 
-  pub tx-laid : putMid (12 + x .r * 10) (12 + x .r * 10 + x .w * 10 - (12 + x .r * 10)) (putMid 12 (12 + x .r * 10 - 12) (putMid 0 12 d (headBytes (x .r) (x .w) (x .stamp .0))) readBytes) writeBytes ≡ txBytes (txIn x)
-  unfolding txBytes txIn
-  tx-laid =
-      let r : length readBytes ≡ x .r * 10 = flat-long readKey readVersion (tab (readsIn (x .reads)) 0 (x .r)) ∙ ap (λ (m : ℕ). m * 10) (tab-length (readsIn (x .reads)) 0 (x .r)) in
-      let w : length writeBytes ≡ x .w * 10 = flat-long writeKey writeValue (tab (writesIn (x .writes)) 0 (x .w)) ∙ ap (λ (m : ℕ). m * 10) (tab-length (writesIn (x .writes)) 0 (x .w)) in
-      let p : List ℕ = headBytes (x .r) (x .w) (x .stamp .0) in
-      let m : length (p ++ readBytes) ≡ 12 + x .r * 10 = length-append p readBytes ∙ (omega arith) in
-      let n : length ((p ++ readBytes) ++ writeBytes) ≡ 12 + x .r * 10 + x .w * 10 = length-append (p ++ readBytes) writeBytes ∙ (omega arith) in
-      let f : Front d ((p ++ readBytes) ++ writeBytes) (putMid (12 + x .r * 10) (12 + x .r * 10 + x .w * 10 - (12 + x .r * 10)) (putMid 12 (12 + x .r * 10 - 12) (putMid 0 12 d p) readBytes) writeBytes) =
-      front-part (front-part (front-part (front-none d) 0 12 p refl refl (omega arith)) 12 (12 + x .r * 10 - 12) readBytes refl (omega arith) (omega arith)) (12 + x .r * 10) (12 + x .r * 10 + x .w * 10 - (12 + x .r * 10)) writeBytes m (omega arith) (omega arith) in
-      front-all f (omega arith) ∙ (rw (tab-length (readsIn (x .reads)) 0 (x .r), tab-length (writesIn (x .writes)) 0 (x .w)) (append-assoc p readBytes writeBytes))
+-- ---- parts put down, with the place behind them
+pub put-byte : {at v : ℕ} {d : List ℕ} → at + 1 ≤ length d → Puts d at (v ∷ []) (set d at v) (at + 1)
+put-byte {at} {v} {d} h = record { place = refl; is = laid-byte at v d (omega arith) }
 
-module _ (d : List ℕ) (l : VoteList) (h : length d ≡ 5 + 2 * l .count) where
-  abbrev pairBytes : List ℕ
-  pairBytes = flatPairs (tab (pairsIn (l .pairs)) 0 (l .count))
+pub put-part : {at k : ℕ} {d v e : List ℕ} → v ≡ e → length e ≡ k → at + k ≤ length d → Puts d at e (putMid at (at + k - at) d v) (at + k)
+put-part {at} {k} {d} {v} {e} p l h = record { place = rw l; is = rw (p, add-sub-cancel-left) (laid-part at k e d l h) }
 
-  pub list-laid : putMid 5 (5 + 2 * l .count - 5) (putMid 0 5 d (listHeadBytes (l .kind) (l .decision) (l .count))) pairBytes ≡ vlBytes (listIn l)
-  unfolding vlBytes listIn
-  list-laid =
-      let n : length pairBytes ≡ 2 * l .count = pairs-long (tab (pairsIn (l .pairs)) 0 (l .count)) ∙ ap (λ (m : ℕ). 2 * m) (tab-length (pairsIn (l .pairs)) 0 (l .count)) in
-      let p : List ℕ = listHeadBytes (l .kind) (l .decision) (l .count) in
-      let f : Front d (p ++ pairBytes) (putMid 5 (5 + 2 * l .count - 5) (putMid 0 5 d p) pairBytes) =
-      front-part (front-part (front-none d) 0 5 p refl refl (omega arith)) 5 (5 + 2 * l .count - 5) pairBytes refl (omega arith) (omega arith) in
-      front-all f (omega (arith, length-append p pairBytes)) ∙ (rw (tab-length (pairsIn (l .pairs)) 0 (l .count)))
+pub puts-both : {d p q e g : List ℕ} {at b c : ℕ} → Puts d at p e b → Puts e b q g c → Puts d at (p ++ q) g c
+puts-both {d} {p} {q} {at = at} x y =
+    let u = x .place in
+    let v = y .place in
+    record { place = omega (arith, length-append p q); is = y .is ∙ (rw (u, x .is)) ∙ laid-both at p q d }
 
--- the messages
-pub pr-laid : (d : List ℕ) (x : Transaction) (n : ℕ) → length d ≡ 14 + 10 * (x .r + x .w) → n ≡ 12 + 10 * (x .r + x .w) → putMid 2 (2 + n - 2) (putMid 0 2 d markPR) (txBytes (txIn x)) ≡ prBytes (txIn x)
-unfolding prBytes
-pr-laid d x n h e =
-    let l : length (txBytes (txIn x)) ≡ n = tx-in-long x ∙ sym e in
-    let t : length (markPR ++ txBytes (txIn x)) ≡ 2 + n = omega arith in
-    let f : Front d (markPR ++ txBytes (txIn x)) (putMid 2 (2 + n - 2) (putMid 0 2 d markPR) (txBytes (txIn x))) =
-    front-part (front-part (front-none d) 0 2 markPR refl refl (omega arith)) 2 (2 + n - 2) (txBytes (txIn x)) refl (omega arith) (omega arith) in
-    front-all f (omega arith)
+pub puts-then : {d p q t e g : List ℕ} {at b c : ℕ} → Puts d at p e b → Puts e b q g c → p ++ q ≡ t → Puts d at t g c
+puts-then x y h = rw (← h) (puts-both x y)
 
-pub listed-laid : (d : List ℕ) (a b : ℕ) (x : Transaction) (l : VoteList) (n m : ℕ) → length d ≡ 19 + 10 * (x .r + x .w) + 2 * l .count → n ≡ 12 + 10 * (x .r + x .w) → m ≡ 5 + 2 * l .count
-    → putMid (2 + n) (2 + n + m - (2 + n)) (putMid 2 (2 + n - 2) (putMid 0 2 d (a ∷ b ∷ [])) (txBytes (txIn x))) (vlBytes (listIn l)) ≡ listedBytes a b (txIn x) (listIn l)
-unfolding listedBytes
-listed-laid d a b x l n m h p q =
-    let t : List ℕ = txBytes (txIn x) in
-    let v : List ℕ = vlBytes (listIn l) in
-    let lt : length t ≡ n = tx-in-long x ∙ sym p in
-    let lv : length v ≡ m = list-in-long l ∙ sym q in
-    let s : length ((a ∷ b ∷ []) ++ t) ≡ 2 + n = omega arith in
-    let w : length (((a ∷ b ∷ []) ++ t) ++ v) ≡ length ((a ∷ b ∷ []) ++ t) + length v = length-append ((a ∷ b ∷ []) ++ t) v in
-    let f : Front d (((a ∷ b ∷ []) ++ t) ++ v) (putMid (2 + n) (2 + n + m - (2 + n)) (putMid 2 (2 + n - 2) (putMid 0 2 d (a ∷ b ∷ [])) t) v) =
-    front-part (front-part (front-part (front-none d) 0 2 (a ∷ b ∷ []) refl refl (omega arith)) 2 (2 + n - 2) t refl (omega arith) (omega arith)) (2 + n) (2 + n + m - (2 + n)) v s (omega arith) (omega arith) in
-    front-all f (omega arith)
+-- the same bytes by another name
+pub puts-as : {d p t e : List ℕ} {at b : ℕ} → p ≡ t → Puts d at p e b → Puts d at t e b
+puts-as h x = rw (← h) x
 
-pub rd-laid : (d : List ℕ) (k s : ℕ) → length d ≡ 12 → putMid 2 10 (putMid 0 2 d markRD) (leBytes 2 k ++ leBytes 8 s) ≡ rdBytes k s
-unfolding rdBytes
-rd-laid d k s h = front-all (front-part (front-part (front-none d) 0 2 markRD refl refl (omega arith)) 2 10 (leBytes 2 k ++ leBytes 8 s) refl refl (omega arith)) (omega arith)
+-- ---- loops: the bytes of each, one behind the other
+abbrev pub each : {A : Type 0} → (A → List ℕ) → List A → List ℕ
+each g [] = []
+each g (x ∷ xs) = g x ++ each g xs
+
+module _ {A : Type 0} (g : A → List ℕ) (f : ℕ → A) where
+  each-more : (i n : ℕ) → each g (tab f i n) ++ g (f (i + n)) ≡ each g (tab f i (n + 1))
+  each-more i zero = rw (add-zero, append-nil)
+  each-more i (suc n) =
+      let e : suc n + 1 ≡ suc (n + 1) = omega arith in
+      let q : i + suc n ≡ i + 1 + n = omega arith in
+      rw (e, q, append-assoc, each-more (i + 1) n)
+
+-- the first j are put down, w bytes each
+pub record Filling {A : Type 0} (g : A → List ℕ) (f : ℕ → A) (w n at : ℕ) (d e : List ℕ) (b j : ℕ) : Type 0 where
+  pub within : j ≤ n
+  pub room : at + w * n ≤ length d
+  pub place : b ≡ at + w * j
+  pub same : length e ≡ length d
+  pub puts : Puts d at (each g (tab f 0 j)) e b
+
+module _ {A : Type 0} {g : A → List ℕ} {f : ℕ → A} {w n at : ℕ} {d : List ℕ} where
+  pub fill-none : at + w * n ≤ length d → Filling g f w n at d d at 0
+  fill-none h =
+      record { within = zero-le; room = h; place = omega arith; same = refl; puts = record { place = omega arith; is = laid-none at d } }
+
+  module _ {e : List ℕ} {b j : ℕ} (x : Filling g f w n at d e b j) where
+    pub fill-more : {h : List ℕ} {c : ℕ} → j < n → length (g (f j)) ≡ w → Puts e b (g (f j)) h c → Filling g f w n at d h c (j + 1)
+    fill-more {h} {c} l k y =
+        let r : at + w * n ≤ length d = x .room in
+        let s : length e ≡ length d = x .same in
+        let m : w * (j + 1) ≤ w * n = mul-le-mul-left w (omega arith) in
+        let q : length h ≡ length e = ap length (y .is) ∙ laid-long b (g (f j)) e (let p = x .place in omega arith) in
+        let z : each g (tab f 0 j) ++ g (f j) ≡ each g (tab f 0 (j + 1)) = rw zero-add at (each-more g f 0 j) in
+        record { within = omega arith; room = r; place = (let p = x .place in let u = y .place in omega arith); same = omega arith; puts = puts-then (x .puts) y z }
+
+    pub fill-all : n ≤ j → Puts d at (each g (tab f 0 n)) e b
+    fill-all l = let z : j ≡ n = let i = x .within in omega arith in rw z at (x .puts)
+
+-- a key with what stands beside it
+abbrev pub item : {A : Type 0} → (A → ℕ) → (A → ℕ) → A → List ℕ
+item k v x = leBytes 2 (k x) ++ leBytes 8 (v x)
+
+each-item : {A : Type 0} (k v : A → ℕ) (xs : List A) → each (item k v) xs ≡ flat k v xs
+each-item k v [] = refl
+each-item k v (x ∷ xs) = rw (append-assoc, each-item k v xs)
+
+pub items-all : {A : Type 0} (k v : A → ℕ) {f : ℕ → A} {w n at b j : ℕ} {d e : List ℕ} → Filling (item k v) f w n at d e b j → n ≤ j → Puts d at (flat k v (tab f 0 n)) e b
+items-all k v {f} {n = n} x h = puts-as (each-item k v (tab f 0 n)) (fill-all x h)
+
+abbrev pub two : Pair → List ℕ
+two p = p .number ∷ p .answer ∷ []
+
+each-two : (ps : List Pair) → each two ps ≡ flatPairs ps
+each-two [] = refl
+each-two (p ∷ ps) = rw (each-two ps)
+
+pub pairs-all : {f : ℕ → Pair} {w n at b j : ℕ} {d e : List ℕ} → Filling two f w n at d e b j → n ≤ j → Puts d at (flatPairs (tab f 0 n)) e b
+pairs-all {f} {n = n} x h = puts-as (each-two (tab f 0 n)) (fill-all x h)
+
+-- ---- a TX and a VL
+pub head-puts : (s : ℕ) {r w at a b n : ℕ} {d e₁ e₂ e : List ℕ} → Puts d at markTX e₁ a → Puts e₁ a (r ∷ w ∷ []) e₂ b → Puts e₂ b (leBytes 8 s) e n → Puts d at (headBytes r w s) e n
+head-puts s m c n = puts-both m (puts-both c n)
+
+pub tx-puts : (x : Transaction) {d e₁ e₂ e : List ℕ} {at a b n : ℕ} → Puts d at (headBytes (x .r) (x .w) (x .stamp .0)) e₁ a
+    → Puts e₁ a (flat readKey readVersion (tab (readsIn (x .reads)) 0 (x .r))) e₂ b → Puts e₂ b (flat writeKey writeValue (tab (writesIn (x .writes)) 0 (x .w))) e n
+    → Puts d at (txBytes (txIn x)) e n
+unfolding txBytes txIn
+tx-puts x h r w = rw (tab-length (readsIn (x .reads)) 0 (x .r), tab-length (writesIn (x .writes)) 0 (x .w)) (puts-both h (puts-both r w))
+
+pub list-puts : (l : VoteList) {d e₁ e₂ e₃ e : List ℕ} {at a b c n : ℕ}
+    → Puts d at markVL e₁ a → Puts e₁ a (l .kind ∷ l .decision ∷ []) e₂ b → Puts e₂ b (l .count ∷ []) e₃ c
+    → Puts e₃ c (flatPairs (tab (pairsIn (l .pairs)) 0 (l .count))) e n → Puts d at (vlBytes (listIn l)) e n
+unfolding vlBytes listIn
+list-puts l m k c p = rw (tab-length (pairsIn (l .pairs)) 0 (l .count)) (puts-both m (puts-both k (puts-both c p)))

@@ -1,5 +1,5 @@
-pub mod Front
 pub mod Laid
+pub mod Lengths
 pub mod Writes
 pub mod Fields
 pub mod Cut

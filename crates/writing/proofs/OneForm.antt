@@ -1,259 +1,223 @@
 -- Each record has one form.
-use Prim.Native.Nat.{ℕ, _+_, _^_, _<_, _≤_}
+use Prim.Native.Nat.{ℕ, zero, suc, _^_, _<_, _≤_}
 use native.Mathlib.Omega.{arith}
-use mathlib.Core.Bool.{Bool, true, false}
 use mathlib.Core.Path.{_≡_, refl, ap, sym, _∙_}
 use mathlib.Core.List.{List, [], _∷_, _++_, append-nil}
-use lib.ListN.{length, getD, length-append}
+use borrow.Author.Tests.{le-ltb}
+use lib.ListN.{length, length-append}
 use lib.Seq.{take-all}
-use Rattle.terms.specs.Refusals.{refusalOf}
-use Rattle.terms.specs.Choice.{pick}
-use Rattle.terms.specs.Checks.{orElse, when, ifLess, ifSame, mark}
+use Rattle.terms.specs.Checks.{orElse, when, ifLess, ifSame}
 use Rattle.terms.specs.Group.{groupWrong}
 use Rattle.terms.proofs.Checks.{less-no, first-none, rest-none, not-less}
 use Rattle.records.specs.Numbers.{leBytes, numAt}
-use Rattle.records.specs.Tx.{Tx, txOf, txLen, noTx, txBytes, writeKey, writeValue}
-use Rattle.records.specs.Vl.{Vl, vlOf, noList, vlBytes}
+use Rattle.records.specs.Tx.{Tx, txIn, txOf, txLen, noTx, txBytes, writeKey, writeValue}
+use Rattle.records.specs.Vl.{Vl, listIn, vlOf, noList, vlBytes}
 use Rattle.records.specs.Contents.{countsWrong, txWrong, listWrong, logListWrong, rdWrong, largestKey}
-use Rattle.records.specs.Cutting.{txCut, behindWrong, prCut, prLen, listedCut, listedLen, rdCut, txPart, vlPart, markPR, markLG, markDC, markRD}
-use Rattle.records.specs.Messages.{txRefusal, vlRefusal, prRefusal, lgRefusal, dcRefusal, rdRefusal, messageRefusal, messageFound, messageTx, messageList, byMark, isMark, rdKey, rdStamp, readingBy, readTX, readVL, readPR, readLG, readDC, readRD, readMessage}
-use Rattle.records.specs.Writing.{prBytes, lgBytes, dcBytes, rdBytes}
+use Rattle.records.specs.Cutting.{txCut, markWrong, behindWrong, restCut, messageCut, messageLen, listedCut, listedLen, txPart, markBytes, markPR, markLG, markDC, markRD}
+use Rattle.records.specs.Messages.{txRefusal, vlRefusal, txReadingBy, vlReadingBy, readTX, readVL, listBehind, rdKey, rdStamp, messageTx, messageList, messageKey, messageStamp, contentsWrong, dueRefusal, refusedReading, readingBy, readDue, isMark, markOf, readMarked, readingAfter, readMessage}
+use Rattle.records.specs.Writing.{prBytes, listedBytes, rdBytes, listedWrong}
+use Rattle.records.specs.declared.Mark.{Mark}
+use Rattle.records.specs.declared.Mark.the-variants.{PR, LG, DC, RD}
+use Rattle.records.specs.declared.Marked.{Marked}
+use Rattle.records.specs.declared.Marked.the-variants.{Is, Refused}
 use Rattle.records.specs.declared.Write.{Write}
-use Rattle.records.specs.declared.Found.{Found}
-use Rattle.records.specs.declared.Found.the-variants.{TX, VL, PR, LG, DC, Refused}
-use Rattle.records.specs.declared.Reading.{Reading}
+use Rattle.records.specs.declared.TxReading.{TxReading}
+use Rattle.records.specs.declared.VlReading.{VlReading}
 use Rattle.records.proofs.Held.{tx-in, list-in}
-use Rattle.writing.specs.OneForm.{Bytes, none, more, TxRight, ListRight, holds, keyStamp, WrittenIsRead, MessageIsRead, ReadIsWritten, bytesBy, bytesOf, OneForm}
+use Rattle.writing.specs.OneForm.{Bytes, none, more, TxRight, ListRight, Message, pr, listed, rd, itsMark, bytesOf, Right, holds, readingOf, WrittenIsRead, Accepted, written, ReadIsWritten, OneFormOf, OneForm}
 use Rattle.writing.proofs.Fields.{num-at}
 use Rattle.writing.proofs.Cut.{both, behind-none, behind-told, mark-read, tx-len-read, tx-cut-read, tx-back, tx-again, vl-cut-read, vl-len-read, vl-back, vl-again, tx-part-read, vl-part-read, pr-again, listed-again, rd-again}
 
 -- ---- what is written is accepted
-pub tx-accepted : (x : Tx) → TxRight x → txRefusal (txBytes x) ≡ 0
+tx-accepted : (x : Tx) → TxRight x → txRefusal (txBytes x) ≡ 0
 unfolding txRefusal
 tx-accepted x r =
     let c : txCut (txBytes x) ≡ 0 = rw (append-nil (txBytes x)) at (tx-cut-read x [] (r .counts)) in
     let l : txLen (txBytes x) ≡ length (txBytes x) = rw (append-nil (txBytes x)) at (tx-len-read x []) in
     both c (both (behind-none _ _ (omega arith)) (ap txWrong (tx-back x r) ∙ r .contents))
 
-pub vl-accepted : (f : ℕ) (l : Vl) → ListRight f l → vlRefusal f (vlBytes l) ≡ 0
+vl-accepted : (f : ℕ) (l : Vl) → ListRight f l → vlRefusal f (vlBytes l) ≡ 0
 unfolding vlRefusal
 vl-accepted f l r = both (r .group) (both (vl-cut-read l (r .count)) (both (behind-none _ _ (omega (arith, vl-len-read l))) (ap (listWrong f) (vl-back l) ∙ r .contents)))
 
--- a message's TX and VL are what was written
-module _ (a b : ℕ) (x : Tx) (r : TxRight x) where
-  tx-found : (post : List ℕ) → txOf (txPart (a ∷ b ∷ (txBytes x ++ post))) ≡ x
-  tx-found post = ap txOf (tx-part-read a b x post) ∙ tx-back x r
+due-accepted : (k : Mark) (f : ℕ) (m : List ℕ) → groupWrong f ≡ 0 → markWrong (markBytes k) m ≡ 0 → restCut k m ≡ 0 → behindWrong (messageLen k m) m ≡ 0 → contentsWrong k f m ≡ 0 → dueRefusal k f m ≡ 0
+unfolding dueRefusal messageCut
+due-accepted k f m g w c b t = both g (both (both w c) (both b t))
 
-  tx-fine : (post : List ℕ) → txWrong (txOf (txPart (a ∷ b ∷ (txBytes x ++ post)))) ≡ 0
-  tx-fine post = ap txWrong (tx-found post) ∙ r .contents
+-- a message is read as what stands in it
+due-read : (k : Mark) (f : ℕ) (m : List ℕ) (x : Tx) (l : Vl) (n s : ℕ) → dueRefusal k f m ≡ 0 → messageTx k m ≡ x → messageList k m ≡ l → messageKey k m ≡ n → messageStamp k m ≡ s → readDue k f m ≡ holds k x l n s
+unfolding readDue readingBy
+due-read k f m x l n s z p q u v = rw (z, p, q, u, v)
 
-vl-found : (a b : ℕ) (x : Tx) (l : Vl) → vlOf (vlPart (a ∷ b ∷ (txBytes x ++ vlBytes l))) ≡ l
-vl-found a b x l = ap vlOf (vl-part-read a b x (vlBytes l)) ∙ vl-back l
+-- its TX and its VL
+module _ (a b : ℕ) (x : Tx) (r : TxRight x) (post : List ℕ) where
+  tx-found : txOf (txPart (a ∷ b ∷ (txBytes x ++ post))) ≡ x
+  tx-found = ap txOf (tx-part-read a b x post) ∙ tx-back x r
 
--- a TX alone is one with nothing behind it
-pr-as : (x : Tx) → prBytes x ≡ 80 ∷ 82 ∷ (txBytes x ++ [])
-unfolding prBytes
-pr-as x = rw (append-nil (txBytes x))
+  tx-fine : txWrong (txOf (txPart (a ∷ b ∷ (txBytes x ++ post)))) ≡ 0
+  tx-fine = ap txWrong tx-found ∙ r .contents
 
-pub pr-found : (x : Tx) → TxRight x → txOf (txPart (prBytes x)) ≡ x
-pr-found x r = ap (λ (m : List ℕ). txOf (txPart m)) (pr-as x) ∙ tx-found 80 82 x r []
+module _ (a b f : ℕ) (x : Tx) (l : Vl) (r : TxRight x) (q : ListRight f l) where
+  abbrev both-parts : List ℕ
+  both-parts = a ∷ b ∷ (txBytes x ++ vlBytes l)
 
-pub pr-accepted : (x : Tx) → TxRight x → prRefusal (prBytes x) ≡ 0
-unfolding prRefusal prCut prLen
-pr-accepted x r =
-    let l : txLen (txBytes x ++ []) ≡ length (txBytes x) = tx-len-read x [] in
-    let n : length (txBytes x ++ []) ≡ length (txBytes x) + 0 = length-append (txBytes x) [] in
-    rw (pr-as x)
-    (both (both (mark-read markPR (txBytes x ++ [])) (tx-cut-read x [] (r .counts)))
-    (both (behind-none _ _ (omega arith)) (tx-fine 80 82 x r [])))
+  list-found : listBehind both-parts ≡ l
+  unfolding listBehind
+  list-found = ap vlOf (vl-part-read a b x (vlBytes l)) ∙ vl-back l
 
-module _ (f : ℕ) (x : Tx) (l : Vl) (r : TxRight x) (q : ListRight f l) (due : List ℕ) where
-  abbrev listed : List ℕ
-  listed = getD due 0 0 ∷ getD due 1 0 ∷ (txBytes x ++ vlBytes l)
-
-  listed-cut : listedCut due listed ≡ 0
+  listed-cut : listedCut both-parts ≡ 0
   unfolding listedCut
-  listed-cut =
-      both (mark-read due (txBytes x ++ vlBytes l))
-      (both (tx-cut-read x (vlBytes l) (r .counts)) (rw (vl-part-read (getD due 0 0) (getD due 1 0) x (vlBytes l)) (vl-cut-read l (q .count))))
+  listed-cut = both (tx-cut-read x (vlBytes l) (r .counts)) (rw (vl-part-read a b x (vlBytes l)) (vl-cut-read l (q .count)))
 
-  listed-behind : behindWrong (listedLen listed) listed ≡ 0
+  listed-behind : behindWrong (listedLen both-parts) both-parts ≡ 0
   unfolding listedLen
   listed-behind =
-      rw (vl-part-read (getD due 0 0) (getD due 1 0) x (vlBytes l))
+      rw (vl-part-read a b x (vlBytes l))
       (behind-none _ _ (omega (arith, tx-len-read x (vlBytes l), vl-len-read l, length-append (txBytes x) (vlBytes l))))
 
-pub lg-accepted : (f : ℕ) (x : Tx) (l : Vl) → TxRight x → ListRight f l → logListWrong f l ≡ 0 → lgRefusal f (lgBytes x l) ≡ 0
-unfolding lgRefusal lgBytes
-lg-accepted f x l r q h =
-    both (q .group)
-    (both (listed-cut f x l r q markLG)
-    (both (listed-behind f x l r q markLG) (both (tx-fine 76 71 x r (vlBytes l)) (ap (logListWrong f) (vl-found 76 71 x l) ∙ h))))
+-- a PR is a TX with nothing behind it
+pr-read : (f : ℕ) (x : Tx) → groupWrong f ≡ 0 → TxRight x → readDue PR f (prBytes x) ≡ holds PR x noList 0 0
+unfolding prBytes restCut messageLen contentsWrong messageTx messageList messageKey messageStamp
+pr-read f x g r =
+    let m : List ℕ = 80 ∷ 82 ∷ (txBytes x ++ []) in
+    let e : markPR ++ txBytes x ≡ m = rw (append-nil (txBytes x)) in
+    let n : behindWrong (messageLen PR m) m ≡ 0 = behind-none _ _ (omega (arith, tx-len-read x [], length-append (txBytes x) [])) in
+    rw e (due-read PR f m x noList 0 0 (due-accepted PR f m g (mark-read markPR _) (tx-cut-read x [] (r .counts)) n (tx-fine 80 82 x r [])) (tx-found 80 82 x r []) refl refl refl)
 
-pub dc-accepted : (f : ℕ) (x : Tx) (l : Vl) → TxRight x → ListRight f l → dcRefusal f (dcBytes x l) ≡ 0
-unfolding dcRefusal dcBytes
-dc-accepted f x l r q =
-    both (q .group)
-    (both (listed-cut f x l r q markDC)
-    (both (listed-behind f x l r q markDC) (both (tx-fine 68 67 x r (vlBytes l)) (ap (listWrong f) (vl-found 68 67 x l) ∙ q .contents))))
+listed-read : (k : Mark) (f : ℕ) (x : Tx) (l : Vl) → TxRight x → ListRight f l → listedWrong k f l ≡ 0 → readDue k f (listedBytes k x l) ≡ holds k x l 0 0
+unfolding listedBytes listedWrong restCut messageLen contentsWrong messageTx messageList messageKey messageStamp
+listed-read PR f x l r q h = absurd (omega arith)
+listed-read LG f x l r q h =
+    due-read LG f _ x l 0 0
+    (due-accepted LG f _ (q .group) (mark-read markLG _) (listed-cut 76 71 f x l r q) (listed-behind 76 71 f x l r q) (both (tx-fine 76 71 x r _) (ap (logListWrong f) (list-found 76 71 f x l r q) ∙ h)))
+    (tx-found 76 71 x r _) (list-found 76 71 f x l r q) refl refl
+listed-read DC f x l r q h =
+    due-read DC f _ x l 0 0
+    (due-accepted DC f _ (q .group) (mark-read markDC _) (listed-cut 68 67 f x l r q) (listed-behind 68 67 f x l r q) (both (tx-fine 68 67 x r _) (ap (listWrong f) (list-found 68 67 f x l r q) ∙ h)))
+    (tx-found 68 67 x r _) (list-found 68 67 f x l r q) refl refl
+listed-read RD f x l r q h = absurd (omega arith)
 
--- an RD's numbers
-key-small : (k s : ℕ) → rdWrong k s ≡ 0 → k < 256 ^ 2
-unfolding rdWrong
-key-small k s h = let l : k ≤ largestKey = not-less _ _ _ (first-none _ _ h) in omega arith
+rd-read : (f n s : ℕ) → groupWrong f ≡ 0 → rdWrong n s ≡ 0 → s < 256 ^ 8 → readDue RD f (rdBytes n s) ≡ holds RD noTx noList n s
+unfolding rdBytes rdWrong restCut messageLen contentsWrong messageTx messageList messageKey messageStamp
+rd-read f n s g h w =
+    let m : List ℕ = markRD ++ (leBytes 2 n ++ leBytes 8 s) in
+    let e : ((82 ∷ 68 ∷ []) ++ leBytes 2 n) ++ (leBytes 8 s ++ []) ≡ m = rw (append-nil (leBytes 8 s)) in
+    let t : n ≤ largestKey = not-less _ _ _ (first-none _ _ h) in
+    let k : rdKey m ≡ n = num-at 2 2 n markRD (leBytes 8 s) refl (omega arith) in
+    let j : rdStamp m ≡ s = ap (λ (p : List ℕ). numAt 8 4 p) (sym e) ∙ num-at 8 4 s ((82 ∷ 68 ∷ []) ++ leBytes 2 n) [] refl w in
+    due-read RD f m noTx noList n s (due-accepted RD f m g (mark-read markRD _) (less-no _ _ _ (omega arith)) (behind-none _ _ (omega arith)) (rw (k, j) h)) refl refl k j
 
-module _ (k s : ℕ) (h : rdWrong k s ≡ 0) (w : s < 256 ^ 8) where
-  pub rd-key : rdKey (rdBytes k s) ≡ k
-  unfolding rdBytes
-  rd-key = num-at 2 2 k (82 ∷ 68 ∷ []) (leBytes 8 s) refl (key-small k s h)
+-- where any message is due, its mark is found
+mark-found : (k : Mark) (rest : List ℕ) → markOf (markBytes k ++ rest) ≡ Is k
+unfolding markOf isMark
+mark-found PR rest = rw (le-ltb (suc (suc (length rest))) 2 (omega arith))
+mark-found LG rest = rw (le-ltb (suc (suc (length rest))) 2 (omega arith))
+mark-found DC rest = rw (le-ltb (suc (suc (length rest))) 2 (omega arith))
+mark-found RD rest = rw (le-ltb (suc (suc (length rest))) 2 (omega arith))
 
-  pub rd-stamp : rdStamp (rdBytes k s) ≡ s
-  unfolding rdBytes
-  rd-stamp = ap (λ (m : List ℕ). numAt 8 4 m) (sym e) ∙ num-at 8 4 s ((82 ∷ 68 ∷ []) ++ leBytes 2 k) [] refl w
-    where
-      e : ((82 ∷ 68 ∷ []) ++ leBytes 2 k) ++ (leBytes 8 s ++ []) ≡ markRD ++ (leBytes 2 k ++ leBytes 8 s)
-      e = rw (append-nil (leBytes 8 s))
+its-mark : (m : Message) → markOf (bytesOf m) ≡ Is (itsMark m)
+unfolding prBytes listedBytes rdBytes
+its-mark (pr x) = mark-found PR _
+its-mark (listed k x l) = mark-found k _
+its-mark (rd n s) = mark-found RD _
 
-  pub rd-accepted : rdRefusal (rdBytes k s) ≡ 0
-  unfolding rdRefusal rdCut rdBytes
-  rd-accepted =
-      both (both (mark-read markRD (leBytes 2 k ++ leBytes 8 s)) (less-no _ _ _ (omega arith)))
-      (both (behind-none _ _ (omega arith)) (rw (rd-key, rd-stamp) h))
-
-pub lg-tx : (x : Tx) (l : Vl) → TxRight x → txOf (txPart (lgBytes x l)) ≡ x
-unfolding lgBytes
-lg-tx x l r = tx-found 76 71 x r (vlBytes l)
-
-pub lg-list : (x : Tx) (l : Vl) → vlOf (vlPart (lgBytes x l)) ≡ l
-unfolding lgBytes
-lg-list x l = vl-found 76 71 x l
-
-pub dc-tx : (x : Tx) (l : Vl) → TxRight x → txOf (txPart (dcBytes x l)) ≡ x
-unfolding dcBytes
-dc-tx x l r = tx-found 68 67 x r (vlBytes l)
-
-pub dc-list : (x : Tx) (l : Vl) → vlOf (vlPart (dcBytes x l)) ≡ l
-unfolding dcBytes
-dc-list x l = vl-found 68 67 x l
-
-rd-is : (k s : ℕ) → rdWrong k s ≡ 0 → s < 256 ^ 8 → keyStamp (rdKey (rdBytes k s)) (rdStamp (rdBytes k s)) ≡ keyStamp k s
-rd-is k s h w = rw (rd-key k s h w, rd-stamp k s h w)
-
--- ---- and read as the same value
-read-as : (n : ℕ) (w v : Found) (x y : Tx) (l m : Vl) → n ≡ 0 → w ≡ v → x ≡ y → l ≡ m → readingBy n w x l ≡ holds v y m
-unfolding readingBy
-read-as n w v x y l m z p q r = rw (z, p, q, r)
+-- ---- what is written is read
+due-back : (f : ℕ) (m : Message) → groupWrong f ≡ 0 → Right f m → readDue (itsMark m) f (bytesOf m) ≡ readingOf m
+due-back f (pr x) g r = pr-read f x g r
+due-back f (listed k x l) g r = listed-read k f x l (r .0) (r .1) (r .2)
+due-back f (rd n s) g r = rd-read f n s g (r .0) (r .1)
 
 pub written-is-read : WrittenIsRead
-unfolding readTX readVL readPR readLG readDC readRD
+unfolding readTX txReadingBy readVL vlReadingBy readMessage readingAfter readMarked
 written-is-read =
     record {
-      tx = λ x r. read-as _ _ _ _ _ _ _ (tx-accepted x r) refl (tx-back x r) refl;
-      vl = λ f l r. read-as _ _ _ _ _ _ _ (vl-accepted f l r) refl refl (vl-back l);
-      pr = λ x r. read-as _ _ _ _ _ _ _ (pr-accepted x r) refl (pr-found x r) refl;
-      lg = λ f x l r q h. read-as _ _ _ _ _ _ _ (lg-accepted f x l r q h) refl (lg-tx x l r) (lg-list x l);
-      dc = λ f x l r q. read-as _ _ _ _ _ _ _ (dc-accepted f x l r q) refl (dc-tx x l r) (dc-list x l);
-      rd = λ k s h w. read-as _ _ _ _ _ _ _ (rd-accepted k s h w) (rd-is k s h w) refl refl;
-    }
-
--- ---- the same of a message that is told by its mark
-message-none : (f : ℕ) (m : List ℕ) → groupWrong f ≡ 0 → 2 ≤ length m → byMark m (prRefusal m) (lgRefusal f m) (dcRefusal f m) (rdRefusal m) mark ≡ 0 → messageRefusal f m ≡ 0
-unfolding messageRefusal
-message-none f m g h e = both g (both (less-no _ _ _ h) e)
-
-two-pr : (x : Tx) → 2 ≤ length (prBytes x)
-unfolding prBytes
-two-pr x = omega arith
-
-two-lg : (x : Tx) (l : Vl) → 2 ≤ length (lgBytes x l)
-unfolding lgBytes
-two-lg x l = omega arith
-
-two-dc : (x : Tx) (l : Vl) → 2 ≤ length (dcBytes x l)
-unfolding dcBytes
-two-dc x l = omega arith
-
-two-rd : (k s : ℕ) → 2 ≤ length (rdBytes k s)
-unfolding rdBytes
-two-rd k s = omega arith
-
-module _ {A : Type 0} (a b c d e : A) where
-  by-pr : (x : Tx) → byMark (prBytes x) a b c d e ≡ a
-  unfolding byMark isMark prBytes
-  by-pr x = refl
-
-  by-lg : (x : Tx) (l : Vl) → byMark (lgBytes x l) a b c d e ≡ b
-  unfolding byMark isMark lgBytes
-  by-lg x l = refl
-
-  by-dc : (x : Tx) (l : Vl) → byMark (dcBytes x l) a b c d e ≡ c
-  unfolding byMark isMark dcBytes
-  by-dc x l = refl
-
-  by-rd : (k s : ℕ) → byMark (rdBytes k s) a b c d e ≡ d
-  unfolding byMark isMark rdBytes
-  by-rd k s = refl
-
-pub message-is-read : MessageIsRead
-unfolding readMessage messageFound messageTx messageList
-message-is-read =
-    record {
-      pr = λ f x g r. read-as _ _ _ _ _ _ _ (message-none f _ g (two-pr x) (by-pr _ _ _ _ _ x ∙ pr-accepted x r)) (by-pr _ _ _ _ _ x) (by-pr _ _ _ _ _ x ∙ pr-found x r) (by-pr _ _ _ _ _ x);
-      lg = λ f x l r q h. read-as _ _ _ _ _ _ _ (message-none f _ (q .group) (two-lg x l) (by-lg _ _ _ _ _ x l ∙ lg-accepted f x l r q h)) (by-lg _ _ _ _ _ x l) (by-lg _ _ _ _ _ x l ∙ lg-tx x l r) (by-lg _ _ _ _ _ x l ∙ lg-list x l);
-      dc = λ f x l r q. read-as _ _ _ _ _ _ _ (message-none f _ (q .group) (two-dc x l) (by-dc _ _ _ _ _ x l ∙ dc-accepted f x l r q)) (by-dc _ _ _ _ _ x l) (by-dc _ _ _ _ _ x l ∙ dc-tx x l r) (by-dc _ _ _ _ _ x l ∙ dc-list x l);
-      rd = λ f k s g h w. read-as _ _ _ _ _ _ _ (message-none f _ g (two-rd k s) (by-rd _ _ _ _ _ k s ∙ rd-accepted k s h w)) (by-rd _ _ _ _ _ k s ∙ rd-is k s h w) (by-rd _ _ _ _ _ k s) (by-rd _ _ _ _ _ k s);
+      tx = λ x r. rw (tx-accepted x r, tx-back x r);
+      vl = λ f l r. rw (vl-accepted f l r, vl-back l);
+      due = due-back;
+      message = λ f m g r. rw (g, its-mark m) (due-back f m g r);
     }
 
 -- ---- what is accepted, written again, is the same bytes
-tx-same : (s : List ℕ) → Bytes s → txCut s ≡ 0 → length s ≤ txLen s → txBytes (txOf s) ≡ s
-tx-same s h e l = rw (take-all (txLen s) s l) at (tx-again s h e)
+never : {n : ℕ} {k : Mark} → Refused n ≡ Is k → ⊥
+never e = let z : _≡_ {A = ℕ} 0 1 = cc in omega arith
+
+due-told : (k j : Mark) (f : ℕ) (m : List ℕ) → readDue k f m .found ≡ Is j → dueRefusal k f m ≡ 0
+unfolding readDue readingBy refusedReading
+due-told k j f m e = by (dueRefusal k f m) e
+  where
+    by : (n : ℕ) → readingBy n k m .found ≡ Is j → n ≡ 0
+    by zero p = refl
+    by (suc n) p = absurd (never p)
+
+due-parts : (k : Mark) (f : ℕ) (m : List ℕ) → dueRefusal k f m ≡ 0 → (markWrong (markBytes k) m ≡ 0) × (restCut k m ≡ 0) × (length m ≤ messageLen k m)
+unfolding dueRefusal messageCut
+due-parts k f m e =
+    let c = rest-none _ _ e in
+    let t = first-none _ _ c in
+    (first-none _ _ t, rest-none _ _ t, behind-told _ m (first-none _ _ (rest-none _ _ c)))
+
+by-mark : (k : Mark) (m : List ℕ) → Bytes m → (markWrong (markBytes k) m ≡ 0) × (restCut k m ≡ 0) × (length m ≤ messageLen k m) → written (holds k (messageTx k m) (messageList k m) (messageKey k m) (messageStamp k m)) ≡ m
+unfolding restCut messageLen listedBytes messageTx messageList messageKey messageStamp
+by-mark PR m h p = rw tx-in (pr-again m h (p .0) (p .1) (p .2))
+by-mark LG m h p = rw (tx-in, list-in) (listed-again markLG m h (p .0) (p .1) (p .2))
+by-mark DC m h p = rw (tx-in, list-in) (listed-again markDC m h (p .0) (p .1) (p .2))
+by-mark RD m h p = let l : 12 ≤ length m = not-less _ _ _ (p .1) in let b = p .2 in rd-again m h (p .0) (omega arith)
+
+due-again : (k : Mark) (f : ℕ) (m : List ℕ) → Bytes m → dueRefusal k f m ≡ 0 → written (readDue k f m) ≡ m
+due-again k f m h e = rw (due-read k f m _ _ _ _ e refl refl refl refl) (by-mark k m h (due-parts k f m e))
+
+-- an accepted message was read by its mark
+told : (f : ℕ) (m : List ℕ) → Accepted (readMessage f m) → (k : Mark) × ((readMessage f m ≡ readDue k f m) × (dueRefusal k f m ≡ 0))
+unfolding readMessage readingAfter readMarked refusedReading
+told f m (j, e) = by (groupWrong f) (markOf m) e
+  where
+    by : (n : ℕ) (w : Marked) → readingAfter n (readMarked w f m) .found ≡ Is j → (k : Mark) × ((readingAfter n (readMarked w f m) ≡ readDue k f m) × (dueRefusal k f m ≡ 0))
+    by (suc n) w p = absurd (never p)
+    by zero (Refused n) p = absurd (never p)
+    by zero (Is k) p = (k, (refl, due-told k j f m p))
+
+message-again : (f : ℕ) (m : List ℕ) → Bytes m → Accepted (readMessage f m) → written (readMessage f m) ≡ m
+message-again f m h a = let t = told f m a in rw (t .1 .0) (due-again (t .0) f m h (t .1 .1))
+
+tx-told : (n : ℕ) (x : Tx) → txReadingBy n x .wrong ≡ 0 → n ≡ 0
+unfolding txReadingBy
+tx-told zero x e = refl
+tx-told (suc n) x e = e
+
+vl-told : (n : ℕ) (l : Vl) → vlReadingBy n l .wrong ≡ 0 → n ≡ 0
+unfolding vlReadingBy
+vl-told zero x e = refl
+vl-told (suc n) x e = e
+
+tx-written : (s : List ℕ) → Bytes s → txRefusal s ≡ 0 → txBytes (txOf s) ≡ s
+unfolding txRefusal
+tx-written s h e = rw (take-all (txLen s) s (behind-told _ s (first-none _ _ (rest-none _ _ e)))) at (tx-again s h (first-none _ _ e))
+
+vl-written : (f : ℕ) (s : List ℕ) → vlRefusal f s ≡ 0 → vlBytes (vlOf s) ≡ s
+unfolding vlRefusal
+vl-written f s e = let c = rest-none _ _ e in vl-again s (first-none _ _ c) (behind-told _ s (first-none _ _ (rest-none _ _ c)))
 
 pub read-is-written : ReadIsWritten
-unfolding txRefusal vlRefusal prRefusal lgRefusal dcRefusal rdRefusal lgBytes dcBytes
+unfolding readTX txReadingBy readVL vlReadingBy
 read-is-written =
     record {
-      tx = λ s h e. tx-same s h (first-none _ _ e) (behind-told _ s (first-none _ _ (rest-none _ _ e)));
-      vl = λ f s e. let c = rest-none _ _ e in vl-again s (first-none _ _ c) (behind-told _ s (first-none _ _ (rest-none _ _ c)));
-      pr = λ m h e. pr-again m h (first-none _ _ e) (first-none _ _ (rest-none _ _ e));
-      lg = λ f m h e. let c = rest-none _ _ e in listed-again markLG m h (first-none _ _ c) (first-none _ _ (rest-none _ _ c));
-      dc = λ f m h e. let c = rest-none _ _ e in listed-again markDC m h (first-none _ _ c) (first-none _ _ (rest-none _ _ c));
-      rd = λ m h e. rd-again m h (first-none _ _ e) (behind-told _ m (first-none _ _ (rest-none _ _ e)));
+      tx = λ s h e. let z = tx-told (txRefusal s) (txOf s) e in rw (z, tx-in) (tx-written s h z);
+      vl = λ f s e. let z = vl-told (vlRefusal f s) (vlOf s) e in rw (z, list-in) (vl-written f s z);
+      due = λ k f m h a. due-again k f m h (due-told k (a .0) f m (a .1));
+      message = message-again;
     }
 
--- the same of a message that is told by its mark
-by-mark : (f : ℕ) (m : List ℕ) → Bytes m → (p q r s : Bool) → pick p (prRefusal m) (pick q (lgRefusal f m) (pick r (dcRefusal f m) (pick s (rdRefusal m) mark))) ≡ 0
-    → bytesBy (pick p PR (pick q LG (pick r DC (pick s (keyStamp (rdKey m) (rdStamp m)) (Refused (refusalOf mark))))))
-    (pick p (txOf (txPart m)) (pick q (txOf (txPart m)) (pick r (txOf (txPart m)) (pick s noTx noTx))))
-    (pick p noList (pick q (vlOf (vlPart m)) (pick r (vlOf (vlPart m)) (pick s noList noList)))) ≡ m
-by-mark f m h true q r s e = read-is-written .pr m h e
-by-mark f m h false true r s e = read-is-written .lg f m h e
-by-mark f m h false false true s e = read-is-written .dc f m h e
-by-mark f m h false false false true e = read-is-written .rd m h e
-by-mark f m h false false false false e = absurd (omega arith)
-
-pub message-is-written : (f : ℕ) (m : List ℕ) → Bytes m → messageRefusal f m ≡ 0 → bytesBy (messageFound m) (messageTx m) (messageList m) ≡ m
-unfolding messageRefusal messageFound messageTx messageList byMark
-message-is-written f m h e = by-mark f m h (isMark markPR m) (isMark markLG m) (isMark markDC m) (isMark markRD m) (rest-none _ _ (rest-none _ _ e))
-
 -- ---- so each has one form
-told : (n : ℕ) (w : Found) (x : Tx) (l : Vl) (s : List ℕ) → n ≡ 0 → bytesBy w x l ≡ s → bytesOf (readingBy n w x l) ≡ s
-unfolding readingBy
-told n w x l s z e = rw (z, tx-in x, list-in l) e
-
-same-bytes : (r q : Reading) (s t : List ℕ) → bytesOf r ≡ s → bytesOf q ≡ t → r ≡ q → s ≡ t
-same-bytes r q s t a b e = sym a ∙ ap bytesOf e ∙ b
+same-bytes : {A : Type 0} (Taken : A → Type 0) (read : List ℕ → A) (bytes : A → List ℕ) → ((s : List ℕ) → Bytes s → Taken (read s) → bytes (read s) ≡ s) → OneFormOf Taken read
+same-bytes Taken read bytes again s t p q a e = sym (again s p a) ∙ ap bytes e ∙ again t q (rw e at a)
 
 pub one-form : OneForm
-unfolding readTX readVL readPR readLG readDC readRD readMessage
 one-form =
     record {
-      tx = λ s t a b p q e. same-bytes _ _ s t (told _ TX (txOf s) noList s p (read-is-written .tx s a p)) (told _ TX (txOf t) noList t q (read-is-written .tx t b q)) e;
-      vl = λ f s t a b p q e. same-bytes _ _ s t (told _ VL noTx (vlOf s) s p (read-is-written .vl f s p)) (told _ VL noTx (vlOf t) t q (read-is-written .vl f t q)) e;
-      pr = λ s t a b p q e. same-bytes _ _ s t (told _ PR _ noList s p (read-is-written .pr s a p)) (told _ PR _ noList t q (read-is-written .pr t b q)) e;
-      lg = λ f s t a b p q e. same-bytes _ _ s t (told _ LG _ _ s p (read-is-written .lg f s a p)) (told _ LG _ _ t q (read-is-written .lg f t b q)) e;
-      dc = λ f s t a b p q e. same-bytes _ _ s t (told _ DC _ _ s p (read-is-written .dc f s a p)) (told _ DC _ _ t q (read-is-written .dc f t b q)) e;
-      rd = λ s t a b p q e. same-bytes _ _ s t (told _ (keyStamp (rdKey s) (rdStamp s)) noTx noList s p (read-is-written .rd s a p)) (told _ (keyStamp (rdKey t) (rdStamp t)) noTx noList t q (read-is-written .rd t b q)) e;
-      message = λ f s t a b p q e. same-bytes _ _ s t (told _ _ _ _ s p (message-is-written f s a p)) (told _ _ _ _ t q (message-is-written f t b q)) e;
+      tx = same-bytes (λ (r : TxReading). r .wrong ≡ 0) readTX (λ (r : TxReading). txBytes (txIn (r .tx))) (read-is-written .tx);
+      vl = λ f. same-bytes (λ (r : VlReading). r .wrong ≡ 0) (readVL f) (λ (r : VlReading). vlBytes (listIn (r .list))) (λ s h. read-is-written .vl f s);
+      due = λ k f. same-bytes Accepted (readDue k f) written (read-is-written .due k f);
+      message = λ f. same-bytes Accepted (readMessage f) written (message-again f);
     }
 
 -- the theorems' premise can be met: a transaction in order

@@ -1,160 +1,156 @@
--- What a writer's checks leave, and its answer and buffer.
-use Prim.Native.Nat.{ℕ, zero, suc, _+_, _*_, _-_, _≤_}
+-- What a writer's checks are, what they leave where they pass, and its answer and buffer.
+use Prim.Native.Nat.{ℕ, zero, suc, _+_, _≤_}
 use native.Mathlib.Omega.{arith}
+use native.Mathlib.Nat.{zero-add}
 use mathlib.Core.Path.{_≡_, refl, sym, _∙_}
-use mathlib.Core.List.{List, _++_}
-use lib.ListN.{length, take, drop, length-append}
-use lib.Seq.{length-take-le}
-use native.Mathlib.Nat.{sub-zero}
+use mathlib.Core.List.{List}
+use lib.ListN.{length}
+use mir.Syntax.{w8}
+use mir.Val.{Fits}
 use Rattle.terms.specs.Checks.{orElse, ifLess, buffer}
 use Rattle.terms.specs.Refusals.{refusalOf}
-use Rattle.terms.proofs.Checks.{first-none, rest-none, not-less}
+use Rattle.terms.specs.Group.{groupWrong}
+use Rattle.terms.specs.declared.Refusal.{Refusal}
+use Rattle.terms.proofs.Checks.{pass, stop, first-none, rest-none, not-less}
 use Rattle.terms.proofs.Groups.{group-small}
+use Rattle.records.specs.Tx.{txIn, txBytes}
+use Rattle.records.specs.Vl.{listIn, vlBytes}
+use Rattle.records.specs.Contents.{countsWrong, countWrong, txWrong, listWrong}
+use Rattle.records.specs.Writing.{bufferWrong, listedWrong, txUnwritten, vlUnwritten, prUnwritten, listedUnwritten, rdUnwritten, prBytes, listedBytes, rdBytes, wroteBy, bufferBy}
+use Rattle.records.specs.declared.Mark.{Mark}
 use Rattle.records.specs.declared.Transaction.{Transaction}
 use Rattle.records.specs.declared.VoteList.{VoteList}
 use Rattle.records.specs.declared.Written.the-variants.{Wrote, Refused}
-use Rattle.records.specs.Tx.{Tx, txIn, txBytes}
-use Rattle.records.specs.Vl.{Vl, listIn, vlBytes}
-use Rattle.records.specs.Contents.{countsWrong, countWrong, listWrong, logListWrong}
-use Rattle.records.specs.Writing.{bufferWrong, txUnwritten, vlUnwritten, prUnwritten, lgUnwritten, dcUnwritten, rdUnwritten, prBytes, lgBytes, dcBytes, rdBytes, wroteBy, bufferBy}
-use Rattle.writing.specs.Parts.{listedWrong, listedBytes}
-use Rattle.writing.proofs.Laid.{tx-in-long, list-in-long}
+use Rattle.writing.specs.Parts.{laid, Puts, txSize, listSize, TxFits, ListFits, ListedFits, txAfter}
+use Rattle.writing.proofs.Lengths.{tx-in-long, list-in-long, listed-long}
 
 -- ---- the answer and the buffer by the checks' number
-module _ (n w : ℕ) (b d : List ℕ) (p : n ≡ w) where
-  pub refuse : (n ≡ 0 → ⊥) → (Refused (refusalOf n) ≡ wroteBy w b) × (d ≡ bufferBy w b d)
-  unfolding wroteBy bufferBy
-  refuse h = rw (← p) (by n h)
+module _ (b : List ℕ) {n w : ℕ} (p : n ≡ w) where
+  pub refused : {r : Refusal} → (n ≡ 0 → ⊥) → r ≡ refusalOf n → Refused r ≡ wroteBy w b
+  unfolding wroteBy
+  refused h e = rw (← p, e) (by n h)
     where
-      by : (m : ℕ) → (m ≡ 0 → ⊥) → (Refused (refusalOf m) ≡ wroteBy m b) × (d ≡ bufferBy m b d)
+      by : (m : ℕ) → (m ≡ 0 → ⊥) → Refused (refusalOf m) ≡ wroteBy m b
       by zero z = absurd (z refl)
-      by (suc m) z = (refl, refl)
+      by (suc m) z = refl
 
-  pub accept : (m : ℕ) → n ≡ 0 → length b ≡ m → (Wrote m ≡ wroteBy w b) × (b ++ drop m d ≡ bufferBy w b d)
-  unfolding wroteBy bufferBy
-  accept m z l = rw (← p, z, ← l) (refl, refl)
+  pub kept : (d : List ℕ) → (n ≡ 0 → ⊥) → d ≡ bufferBy w b d
+  unfolding bufferBy
+  kept d h = rw (← p) (by n h)
+    where
+      by : (m : ℕ) → (m ≡ 0 → ⊥) → d ≡ bufferBy m b d
+      by zero z = absurd (z refl)
+      by (suc m) z = refl
+
+  module _ {d e : List ℕ} {c : ℕ} (z : n ≡ 0) (x : Puts d 0 b e c) where
+    pub wrote : Wrote c ≡ wroteBy w b
+    unfolding wroteBy
+    wrote = rw (← p, z, x .place, zero-add)
+
+    pub filled : e ≡ bufferBy w b d
+    unfolding bufferBy laid
+    filled = rw (← p, z) (x .is)
 
 -- ---- what passed checks leave
-pub counts-small : (n r w : ℕ) → n ≡ countsWrong r w → n ≡ 0 → (r ≤ 8) × (w ≤ 8)
-unfolding countsWrong
-counts-small n r w p z = (not-less 8 r _ (first-none _ _ (sym p ∙ z)), not-less 8 w _ (first-none _ _ (rest-none _ _ (sym p ∙ z))))
+pub none-first : (a b n : ℕ) → n ≡ orElse a b → n ≡ 0 → a ≡ 0
+none-first a b n e z = first-none a b (sym e ∙ z)
 
-pub count-small : (n c : ℕ) → n ≡ countWrong c → n ≡ 0 → c ≤ 26
+pub none-rest : (a b n : ℕ) → n ≡ orElse a b → n ≡ 0 → b ≡ 0
+none-rest a b n e z = rest-none a b (sym e ∙ z)
+
+module _ (r w n : ℕ) (p : n ≡ countsWrong r w) (z : n ≡ 0) where
+  pub reads-small : r ≤ 8
+  unfolding countsWrong
+  reads-small = not-less 8 r _ (first-none _ _ (sym p ∙ z))
+
+  pub writes-small : w ≤ 8
+  unfolding countsWrong
+  writes-small = not-less 8 w _ (first-none _ _ (rest-none _ _ (sym p ∙ z)))
+
+pub count-small : (c n : ℕ) → n ≡ countWrong c → n ≡ 0 → c ≤ 26
 unfolding countWrong
-count-small n c p z = not-less 26 c _ (rest-none _ _ (sym p ∙ z))
+count-small c n p z = not-less 26 c _ (rest-none _ _ (sym p ∙ z))
 
--- the chains of LG and DC, taken together up to the list's contents
-pub sooner : (a b c d e : ℕ) → orElse (orElse a (orElse b (orElse c d))) e ≡ orElse a (orElse b (orElse c (orElse d e)))
+pub f-small : (f n : ℕ) → n ≡ groupWrong f → n ≡ 0 → f ≤ 5
+f-small f n p z = group-small f n p z .1
+
+pub f-fits : (f n : ℕ) → n ≡ groupWrong f → n ≡ 0 → Fits w8 f
+f-fits f n p z = let h = f-small f n p z in omega arith
+
+pub ruleset small = (reads-small, writes-small, count-small, f-small, f-fits, none-first, none-rest)
+
+pub tx-fits : (at : ℕ) (x : Transaction) (d : List ℕ) (n : ℕ) → n ≡ txAfter at x d → n ≡ 0 → TxFits x at d
+unfolding txAfter
+tx-fits at x d n p z =
+    let e = sym p ∙ z in
+    let j = first-none _ _ e in
+    record { reads = reads-small (x .r) (x .w) _ refl j; writes = writes-small (x .r) (x .w) _ refl j; room = not-less _ _ _ (rest-none _ _ (rest-none _ _ e)) }
+
+pub list-fits : (f : ℕ) (l : VoteList) (d : List ℕ) (n : ℕ) → n ≡ vlUnwritten f l d → n ≡ 0 → ListFits l 0 d
+unfolding vlUnwritten bufferWrong
+list-fits f l d n p z =
+    let e = rest-none _ _ (sym p ∙ z) in
+    let r : length (vlBytes (listIn l)) ≤ length d = not-less _ _ _ (rest-none _ _ (rest-none _ _ e)) in
+    record { count = count-small (l .count) _ refl (first-none _ _ e); room = omega (arith, list-in-long l) }
+
+pub listed-fits : (k : Mark) (f : ℕ) (x : Transaction) (l : VoteList) (d : List ℕ) (n : ℕ) → n ≡ listedUnwritten k f x l d → n ≡ 0 → ListedFits x l d
+unfolding listedUnwritten bufferWrong
+listed-fits k f x l d n p z =
+    let e = rest-none _ _ (sym p ∙ z) in
+    let c = rest-none _ _ e in
+    let j = first-none _ _ e in
+    let r : length (listedBytes k (txIn x) (listIn l)) ≤ length d = not-less _ _ _ (rest-none _ _ (rest-none _ _ (rest-none _ _ c))) in
+    record { reads = reads-small (x .r) (x .w) _ refl j; writes = writes-small (x .r) (x .w) _ refl j; count = count-small (l .count) _ refl (first-none _ _ c); room = omega (arith, listed-long k x l) }
+
+pub rd-fits : (k s : ℕ) (d : List ℕ) (n : ℕ) → n ≡ rdUnwritten k s d → n ≡ 0 → 12 ≤ length d
+unfolding rdUnwritten bufferWrong rdBytes
+rd-fits k s d n p z = not-less _ _ _ (rest-none _ _ (sym p ∙ z))
+
+-- ---- the checks in the code's order: a chain of two parts
+sooner : (a b c : ℕ) → orElse (orElse a b) c ≡ orElse a (orElse b c)
 unfolding orElse
-sooner (suc a) b c d e = refl
-sooner zero (suc b) c d e = refl
-sooner zero zero (suc c) d e = refl
-sooner zero zero zero (suc d) e = refl
-sooner zero zero zero zero e = refl
+sooner zero b c = refl
+sooner (suc a) b c = refl
 
-pub record Small (f : ℕ) (x : Transaction) (l : VoteList) : Type 0 where
-  pub group : f ≤ 5
-  pub reads : x .r ≤ 8
-  pub writes : x .w ≤ 8
-  pub count : l .count ≤ 26
+module _ (at : ℕ) (x : Transaction) (d : List ℕ) (c : ℕ) (p : c ≡ countsWrong (x .r) (x .w)) where
+  pub tx-stops : (c ≡ 0 → ⊥) → c ≡ txAfter at x d
+  unfolding txAfter
+  tx-stops h = stop _ _ _ p h
 
-pub listed-small : (n f : ℕ) (x : Transaction) (l : VoteList) → n ≡ listedWrong f x l → n ≡ 0 → Small f x l
-unfolding listedWrong
-listed-small n f x l p z =
-    let e = sym p ∙ z in
-    let s = counts-small _ (x .r) (x .w) refl (first-none _ _ (rest-none _ _ e)) in
-    record {
-      group = group-small f _ refl (first-none _ _ e) .1;
-      reads = s .0;
-      writes = s .1;
-      count = count-small _ (l .count) refl (first-none _ _ (rest-none _ _ (rest-none _ _ e)));
-    }
+  pub tx-goes : (t m b n : ℕ) → c ≡ 0 → t ≡ txWrong (txIn x) → m ≡ txSize x → b ≡ ifLess (length d) (at + m) buffer → n ≡ orElse t b → n ≡ txAfter at x d
+  unfolding txAfter
+  tx-goes t m b n z u v w e = pass (sym p ∙ z) (cc)
 
--- the whole chain by the part that both share
-pub lg-chain : (n f : ℕ) (x : Transaction) (l : VoteList) (d : List ℕ) → n ≡ orElse (listedWrong f x l) (orElse (logListWrong f (listIn l)) (bufferWrong (lgBytes (txIn x) (listIn l)) d)) → n ≡ lgUnwritten f x l d
-unfolding lgUnwritten listedWrong
-lg-chain n f x l d e = e ∙ sooner _ _ _ _ _
+pub tx-as : (x : Transaction) (d : List ℕ) (n : ℕ) → n ≡ txAfter 0 x d → n ≡ txUnwritten x d
+unfolding txAfter txUnwritten bufferWrong
+tx-as x d n e = rw (tx-in-long x) (rw zero-add at e)
 
-pub dc-chain : (n f : ℕ) (x : Transaction) (l : VoteList) (d : List ℕ) → n ≡ orElse (listedWrong f x l) (orElse (listWrong f (listIn l)) (bufferWrong (dcBytes (txIn x) (listIn l)) d)) → n ≡ dcUnwritten f x l d
-unfolding dcUnwritten listedWrong
-dc-chain n f x l d e = e ∙ sooner _ _ _ _ _
+pub pr-as : (x : Transaction) (d : List ℕ) (n : ℕ) → n ≡ txAfter 2 x d → n ≡ prUnwritten x d
+unfolding txAfter prUnwritten bufferWrong prBytes
+pr-as x d n e = let l : suc (suc (length (txBytes (txIn x)))) ≡ 2 + txSize x = omega (arith, tx-in-long x) in rw l e
 
--- 17 by the record's length
-pub buffer-told : (n m : ℕ) (b d : List ℕ) → n ≡ ifLess (length d) m buffer → length b ≡ m → n ≡ bufferWrong b d
-unfolding bufferWrong
-buffer-told n m b d e h = rw h e
+module _ (f : ℕ) (l : VoteList) (d : List ℕ) (g c z : ℕ) (p : g ≡ groupWrong f) (q : c ≡ countWrong (l .count)) (r : z ≡ orElse g c) where
+  pub list-stops : (z ≡ 0 → ⊥) → z ≡ vlUnwritten f l d
+  unfolding vlUnwritten
+  list-stops h = rw (← sooner (groupWrong f) (countWrong (l .count))) (stop _ _ z (cc) h)
 
-pub buffer-room : (b d : List ℕ) → bufferWrong b d ≡ 0 → length b ≤ length d
-unfolding bufferWrong
-buffer-room b d e = not-less _ _ _ e
+  pub list-goes : (t m b n : ℕ) → z ≡ 0 → t ≡ listWrong f (listIn l) → m ≡ listSize l → b ≡ ifLess (length d) m buffer → n ≡ orElse t b → n ≡ vlUnwritten f l d
+  unfolding vlUnwritten bufferWrong
+  list-goes t m b n h u v w e =
+      let k : orElse (groupWrong f) (countWrong (l .count)) ≡ 0 = cc in
+      rw (list-in-long l, ← sooner (groupWrong f) (countWrong (l .count))) (pass k (cc))
 
--- the records' lengths
-pub pr-long : (x : Transaction) → length (prBytes (txIn x)) ≡ 14 + 10 * (x .r + x .w)
-unfolding prBytes
-pr-long x = omega (arith, tx-in-long x)
+module _ (k : Mark) (f : ℕ) (x : Transaction) (l : VoteList) (d : List ℕ) (g a c i z : ℕ) (p : g ≡ groupWrong f) (q : a ≡ countsWrong (x .r) (x .w)) (r : c ≡ countWrong (l .count)) (o : i ≡ orElse a c) (e : z ≡ orElse g i) where
+  abbrev rest : ℕ
+  rest = orElse (txWrong (txIn x)) (orElse (listedWrong k f (listIn l)) (ifLess (length d) (2 + txSize x + listSize l) buffer))
 
-pub lg-long : (x : Transaction) (l : VoteList) → length (lgBytes (txIn x) (listIn l)) ≡ 19 + 10 * (x .r + x .w) + 2 * l .count
-unfolding lgBytes
-lg-long x l = omega (arith, length-append (txBytes (txIn x)) (vlBytes (listIn l)), tx-in-long x, list-in-long l)
+  listed-as : orElse z rest ≡ listedUnwritten k f x l d
+  unfolding listedUnwritten bufferWrong
+  listed-as = rw (listed-long k x l, ← sooner (countsWrong (x .r) (x .w)), ← sooner (groupWrong f)) (cc)
 
-pub dc-long : (x : Transaction) (l : VoteList) → length (dcBytes (txIn x) (listIn l)) ≡ 19 + 10 * (x .r + x .w) + 2 * l .count
-unfolding dcBytes
-dc-long x l = omega (arith, length-append (txBytes (txIn x)) (vlBytes (listIn l)), tx-in-long x, list-in-long l)
+  pub listed-stops : (z ≡ 0 → ⊥) → z ≡ listedUnwritten k f x l d
+  listed-stops h = stop z _ z refl h ∙ listed-as
 
--- the two marks
-pub lg-as : (x : Tx) (l : Vl) → listedBytes 76 71 x l ≡ lgBytes x l
-unfolding listedBytes lgBytes
-lg-as x l = refl
-
-pub dc-as : (x : Tx) (l : Vl) → listedBytes 68 67 x l ≡ dcBytes x l
-unfolding listedBytes dcBytes
-dc-as x l = refl
-
--- the part that a writer lends
-pub lent : (d : List ℕ) (n : ℕ) → n ≤ length d → length (take (n - 0) d) ≡ n
-lent d n h = rw (sub-zero n) (length-take-le n d h)
-
--- ---- a writer whose checks passed has small counts and room
-pub tx-room : (n : ℕ) (x : Transaction) (d : List ℕ) → n ≡ txUnwritten x d → n ≡ 0 → (x .r ≤ 8) × (x .w ≤ 8) × (12 + 10 * (x .r + x .w) ≤ length d)
-unfolding txUnwritten
-tx-room n x d p z =
-    let e = sym p ∙ z in
-    let s = counts-small _ (x .r) (x .w) refl (first-none _ _ e) in
-    let b = buffer-room (txBytes (txIn x)) d (rest-none _ _ (rest-none _ _ e)) in
-    (s .0, s .1, omega (arith, tx-in-long x))
-
-pub pr-room : (n : ℕ) (x : Transaction) (d : List ℕ) → n ≡ prUnwritten x d → n ≡ 0 → (x .r ≤ 8) × (x .w ≤ 8) × (14 + 10 * (x .r + x .w) ≤ length d)
-unfolding prUnwritten
-pr-room n x d p z =
-    let e = sym p ∙ z in
-    let s = counts-small _ (x .r) (x .w) refl (first-none _ _ e) in
-    let b = buffer-room (prBytes (txIn x)) d (rest-none _ _ (rest-none _ _ e)) in
-    (s .0, s .1, omega (arith, pr-long x))
-
-pub vl-room : (n f : ℕ) (l : VoteList) (d : List ℕ) → n ≡ vlUnwritten f l d → n ≡ 0 → (l .count ≤ 26) × (5 + 2 * l .count ≤ length d)
-unfolding vlUnwritten
-vl-room n f l d p z =
-    let e = sym p ∙ z in
-    let b = buffer-room (vlBytes (listIn l)) d (rest-none _ _ (rest-none _ _ (rest-none _ _ e))) in
-    (count-small _ (l .count) refl (first-none _ _ (rest-none _ _ e)), omega (arith, list-in-long l))
-
-abbrev pub Room : ℕ → Transaction → VoteList → List ℕ → Type 0
-Room f x l d = (x .r ≤ 8) × (x .w ≤ 8) × (l .count ≤ 26) × (19 + 10 * (x .r + x .w) + 2 * l .count ≤ length d)
-
-room : (f c : ℕ) (x : Transaction) (l : VoteList) (b d : List ℕ) → length b ≡ 19 + 10 * (x .r + x .w) + 2 * l .count → orElse (listedWrong f x l) (orElse c (bufferWrong b d)) ≡ 0 → Room f x l d
-room f c x l b d h e =
-    let s = listed-small _ f x l refl (first-none _ _ e) in
-    let r = buffer-room b d (rest-none _ _ (rest-none _ _ e)) in
-    (s .reads, s .writes, s .count, omega arith)
-
-pub lg-room : (n f : ℕ) (x : Transaction) (l : VoteList) (d : List ℕ) → n ≡ lgUnwritten f x l d → n ≡ 0 → Room f x l d
-unfolding lgUnwritten listedWrong
-lg-room n f x l d p z = room f _ x l (lgBytes (txIn x) (listIn l)) d (lg-long x l) (sooner _ _ _ _ _ ∙ sym p ∙ z)
-
-pub dc-room : (n f : ℕ) (x : Transaction) (l : VoteList) (d : List ℕ) → n ≡ dcUnwritten f x l d → n ≡ 0 → Room f x l d
-unfolding dcUnwritten listedWrong
-dc-room n f x l d p z = room f _ x l (dcBytes (txIn x) (listIn l)) d (dc-long x l) (sooner _ _ _ _ _ ∙ sym p ∙ z)
-
-pub rd-room : (n k s : ℕ) (d : List ℕ) → n ≡ rdUnwritten k s d → n ≡ 0 → 12 ≤ length d
-unfolding rdUnwritten rdBytes
-rd-room n k s d p z = buffer-room (rdBytes k s) d (rest-none _ _ (sym p ∙ z))
+  pub listed-goes : (t m s b w v n : ℕ) → z ≡ 0 → t ≡ txWrong (txIn x) → m ≡ txSize x → s ≡ listSize l → b ≡ ifLess (length d) (2 + m + s) buffer
+      → w ≡ listedWrong k f (listIn l) → v ≡ orElse w b → n ≡ orElse t v → n ≡ listedUnwritten k f x l d
+  listed-goes t m s b w v n h y1 y2 y3 y4 y5 y6 y7 = pass {b = rest} h (cc) ∙ listed-as

@@ -5,15 +5,18 @@ use mathlib.Core.List.{List, [], _∷_}
 use mathlib.Core.Logic.{_⊎_}
 use lib.ListN.{length, getD}
 use Rattle.terms.specs.Group.{groupWrong}
-use Rattle.records.specs.Tx.{Tx, txIn, txOf, heldTx, noTx, txBytes, readKey, readVersion, writeKey, writeValue}
-use Rattle.records.specs.Vl.{Vl, listIn, vlOf, heldList, noList, vlBytes}
-use Rattle.records.specs.Contents.{countsWrong, countWrong, txWrong, listWrong, logListWrong, rdWrong}
-use Rattle.records.specs.Cutting.{txPart, vlPart}
-use Rattle.records.specs.Messages.{txRefusal, vlRefusal, prRefusal, lgRefusal, dcRefusal, rdRefusal, messageRefusal, rdKey, rdStamp, readTX, readVL, readPR, readLG, readDC, readRD, readMessage, refusedReading}
-use Rattle.records.specs.Writing.{prBytes, lgBytes, dcBytes, rdBytes}
-use Rattle.records.specs.declared.Found.{Found}
-use Rattle.records.specs.declared.Found.the-variants.{TX, VL, PR, LG, DC, RD, Refused}
+use Rattle.records.specs.Tx.{Tx, txIn, heldTx, noTx, txBytes, readKey, readVersion, writeKey, writeValue}
+use Rattle.records.specs.Vl.{Vl, listIn, heldList, noList, vlBytes}
+use Rattle.records.specs.Contents.{countsWrong, countWrong, txWrong, listWrong, rdWrong}
+use Rattle.records.specs.Messages.{readTX, readVL, readDue, readMessage, refusedReading}
+use Rattle.records.specs.Writing.{prBytes, listedBytes, rdBytes, listedWrong}
+use Rattle.records.specs.declared.Mark.{Mark}
+use Rattle.records.specs.declared.Mark.the-variants.{PR, LG, DC, RD}
+use Rattle.records.specs.declared.Marked.{Marked}
+use Rattle.records.specs.declared.Marked.the-variants.{Is, Refused}
 use Rattle.records.specs.declared.Reading.{Reading}
+use Rattle.records.specs.declared.TxReading.{TxReading}
+use Rattle.records.specs.declared.VlReading.{VlReading}
 
 -- a byte string
 abbrev pub Bytes : List ℕ → Type 0
@@ -41,68 +44,79 @@ pub record ListRight (f : ℕ) (l : Vl) : Type 0 where
   pub count : countWrong (length (l .pairs)) ≡ 0
   pub contents : listWrong f l ≡ 0
 
--- the answer to an accepted record
-abbrev pub holds : Found → Tx → Vl → Reading
-holds w x l = record { found = w; tx = heldTx x; list = heldList l }
+-- ---- what a message says: a PR's transaction, an LG's or a DC's with its list, an RD's key and stamp
+pub data Message : Type 0 where
+  pr : Tx → Message
+  listed : Mark → Tx → Vl → Message
+  rd : ℕ → ℕ → Message
 
-abbrev pub keyStamp : ℕ → ℕ → Found
-keyStamp k s = RD (record { 0 = k }) (record { 0 = s })
+abbrev pub itsMark : Message → Mark
+itsMark (pr x) = PR
+itsMark (listed k x l) = k
+itsMark (rd n s) = RD
 
--- what is written is read back as the same value
+-- its bytes: what `write_pr`, `write_listed` and `write_rd` write
+abbrev pub bytesOf : Message → List ℕ
+bytesOf (pr x) = prBytes x
+bytesOf (listed k x l) = listedBytes k x l
+bytesOf (rd n s) = rdBytes n s
+
+-- in order in its group; a list stands where the mark carries one
+abbrev pub Right : ℕ → Message → Type 0
+Right f (pr x) = TxRight x
+Right f (listed k x l) = TxRight x × ListRight f l × (listedWrong k f l ≡ 0)
+Right f (rd n s) = (rdWrong n s ≡ 0) × (s < 256 ^ 8)
+
+-- what reading it answers
+abbrev pub holds : Mark → Tx → Vl → ℕ → ℕ → Reading
+holds k x l n s = record { found = Is k; tx = heldTx x; list = heldList l; key = record { 0 = n }; stamp = record { 0 = s } }
+
+abbrev pub readingOf : Message → Reading
+readingOf (pr x) = holds PR x noList 0 0
+readingOf (listed k x l) = holds k x l 0 0
+readingOf (rd n s) = holds RD noTx noList n s
+
+-- ---- what is written is read back as the same value: a message where its mark is due, and where any message is
 pub record WrittenIsRead : Type 0 where
-  pub tx : (x : Tx) → TxRight x → readTX (txBytes x) ≡ holds TX x noList
-  pub vl : (f : ℕ) (l : Vl) → ListRight f l → readVL f (vlBytes l) ≡ holds VL noTx l
-  pub pr : (x : Tx) → TxRight x → readPR (prBytes x) ≡ holds PR x noList
-  pub lg : (f : ℕ) (x : Tx) (l : Vl) → TxRight x → ListRight f l → logListWrong f l ≡ 0 → readLG f (lgBytes x l) ≡ holds LG x l
-  pub dc : (f : ℕ) (x : Tx) (l : Vl) → TxRight x → ListRight f l → readDC f (dcBytes x l) ≡ holds DC x l
-  pub rd : (k s : ℕ) → rdWrong k s ≡ 0 → s < 256 ^ 8 → readRD (rdBytes k s) ≡ holds (keyStamp k s) noTx noList
+  pub tx : (x : Tx) → TxRight x → readTX (txBytes x) ≡ record { wrong = 0; tx = heldTx x }
+  pub vl : (f : ℕ) (l : Vl) → ListRight f l → readVL f (vlBytes l) ≡ record { wrong = 0; list = heldList l }
+  pub due : (f : ℕ) (m : Message) → groupWrong f ≡ 0 → Right f m → readDue (itsMark m) f (bytesOf m) ≡ readingOf m
+  pub message : (f : ℕ) (m : Message) → groupWrong f ≡ 0 → Right f m → readMessage f (bytesOf m) ≡ readingOf m
 
--- the same of a message that is told by its mark
-pub record MessageIsRead : Type 0 where
-  pub pr : (f : ℕ) (x : Tx) → groupWrong f ≡ 0 → TxRight x → readMessage f (prBytes x) ≡ holds PR x noList
-  pub lg : (f : ℕ) (x : Tx) (l : Vl) → TxRight x → ListRight f l → logListWrong f l ≡ 0 → readMessage f (lgBytes x l) ≡ holds LG x l
-  pub dc : (f : ℕ) (x : Tx) (l : Vl) → TxRight x → ListRight f l → readMessage f (dcBytes x l) ≡ holds DC x l
-  pub rd : (f k s : ℕ) → groupWrong f ≡ 0 → rdWrong k s ≡ 0 → s < 256 ^ 8 → readMessage f (rdBytes k s) ≡ holds (keyStamp k s) noTx noList
-
--- what is accepted, written again, is the same bytes
-pub record ReadIsWritten : Type 0 where
-  pub tx : (s : List ℕ) → Bytes s → txRefusal s ≡ 0 → txBytes (txOf s) ≡ s
-  pub vl : (f : ℕ) (s : List ℕ) → vlRefusal f s ≡ 0 → vlBytes (vlOf s) ≡ s
-  pub pr : (m : List ℕ) → Bytes m → prRefusal m ≡ 0 → prBytes (txOf (txPart m)) ≡ m
-  pub lg : (f : ℕ) (m : List ℕ) → Bytes m → lgRefusal f m ≡ 0 → lgBytes (txOf (txPart m)) (vlOf (vlPart m)) ≡ m
-  pub dc : (f : ℕ) (m : List ℕ) → Bytes m → dcRefusal f m ≡ 0 → dcBytes (txOf (txPart m)) (vlOf (vlPart m)) ≡ m
-  pub rd : (m : List ℕ) → Bytes m → rdRefusal m ≡ 0 → rdBytes (rdKey m) (rdStamp m) ≡ m
+-- ---- what is accepted, written again, is the same bytes
+abbrev pub Accepted : Reading → Type 0
+Accepted r = (k : Mark) × (r .found ≡ Is k)
 
 -- the bytes of what was read
-abbrev pub bytesBy : Found → Tx → Vl → List ℕ
-bytesBy TX x l = txBytes x
-bytesBy VL x l = vlBytes l
-bytesBy PR x l = prBytes x
-bytesBy LG x l = lgBytes x l
-bytesBy DC x l = dcBytes x l
-bytesBy (RD k s) x l = rdBytes (k .0) (s .0)
-bytesBy (Refused n) x l = []
+abbrev pub writtenBy : Marked → Tx → Vl → ℕ → ℕ → List ℕ
+writtenBy (Is PR) x l n s = prBytes x
+writtenBy (Is LG) x l n s = listedBytes LG x l
+writtenBy (Is DC) x l n s = listedBytes DC x l
+writtenBy (Is RD) x l n s = rdBytes n s
+writtenBy (Refused c) x l n s = []
 
-abbrev pub bytesOf : Reading → List ℕ
-bytesOf r = bytesBy (r .found) (txIn (r .tx)) (listIn (r .list))
+abbrev pub written : Reading → List ℕ
+written r = writtenBy (r .found) (txIn (r .tx)) (listIn (r .list)) (r .key .0) (r .stamp .0)
 
--- one form: byte strings that a reading accepts and reads alike are alike
-abbrev pub OneFormOf : (List ℕ → ℕ) → (List ℕ → Reading) → Type 0
-OneFormOf refusal read = (s t : List ℕ) → Bytes s → Bytes t → refusal s ≡ 0 → refusal t ≡ 0 → read s ≡ read t → s ≡ t
+pub record ReadIsWritten : Type 0 where
+  pub tx : (s : List ℕ) → Bytes s → readTX s .wrong ≡ 0 → txBytes (txIn (readTX s .tx)) ≡ s
+  pub vl : (f : ℕ) (s : List ℕ) → readVL f s .wrong ≡ 0 → vlBytes (listIn (readVL f s .list)) ≡ s
+  pub due : (k : Mark) (f : ℕ) (m : List ℕ) → Bytes m → Accepted (readDue k f m) → written (readDue k f m) ≡ m
+  pub message : (f : ℕ) (m : List ℕ) → Bytes m → Accepted (readMessage f m) → written (readMessage f m) ≡ m
+
+-- ---- one form: byte strings of which one is accepted, and which are read alike, are alike
+abbrev pub OneFormOf : {A : Type 0} → (A → Type 0) → (List ℕ → A) → Type 0
+OneFormOf Taken read = (s t : List ℕ) → Bytes s → Bytes t → Taken (read s) → read s ≡ read t → s ≡ t
 
 pub record OneForm : Type 0 where
-  pub tx : OneFormOf txRefusal readTX
-  pub vl : (f : ℕ) → OneFormOf (vlRefusal f) (readVL f)
-  pub pr : OneFormOf prRefusal readPR
-  pub lg : (f : ℕ) → OneFormOf (lgRefusal f) (readLG f)
-  pub dc : (f : ℕ) → OneFormOf (dcRefusal f) (readDC f)
-  pub rd : OneFormOf rdRefusal readRD
-  pub message : (f : ℕ) → OneFormOf (messageRefusal f) (readMessage f)
+  pub tx : OneFormOf (λ (r : TxReading). r .wrong ≡ 0) readTX
+  pub vl : (f : ℕ) → OneFormOf (λ (r : VlReading). r .wrong ≡ 0) (readVL f)
+  pub due : (k : Mark) (f : ℕ) → OneFormOf Accepted (readDue k f)
+  pub message : (f : ℕ) → OneFormOf Accepted (readMessage f)
 
--- the refusals that bytes alone can have: 1 to 8, and 14
-abbrev pub Listed : ℕ → Type 0
-Listed n = ((1 ≤ n) × (n ≤ 8)) ⊎ (n ≡ 14)
+-- ---- every byte string is accepted, or refused with one of the numbers that bytes alone can have: 1 to 8, and 14
+abbrev pub ReaderNumber : ℕ → Type 0
+ReaderNumber n = ((1 ≤ n) × (n ≤ 8)) ⊎ (n ≡ 14)
 
--- every byte string is accepted, or refused with one of these
 abbrev pub AcceptedOrRefused : Type 0
-AcceptedOrRefused = (f : ℕ) (m : List ℕ) → (messageRefusal f m ≡ 0) ⊎ (Listed (messageRefusal f m) × (readMessage f m ≡ refusedReading (messageRefusal f m)))
+AcceptedOrRefused = (f : ℕ) (m : List ℕ) → Accepted (readMessage f m) ⊎ ((n : ℕ) × (ReaderNumber n × (readMessage f m ≡ refusedReading n)))

@@ -1,27 +1,53 @@
--- The parts that the records are put down in.
-use Prim.Native.Nat.{ℕ}
+-- Bytes put down in a buffer, one part behind the other, and what the checks leave.
+use Prim.Native.Nat.{ℕ, zero, suc, _+_, _*_, _≤_}
+use mathlib.Core.Path.{_≡_}
 use mathlib.Core.List.{List, [], _∷_, _++_}
+use lib.ListN.{length, drop}
+use Rattle.terms.specs.Checks.{orElse, ifLess, buffer}
 use Rattle.records.specs.Numbers.{leBytes}
-use Rattle.records.specs.Tx.{Tx, markTX, txIn, txBytes}
-use Rattle.records.specs.Vl.{Vl, markVL, vlBytes}
-use Rattle.records.specs.Contents.{countsWrong, countWrong, txWrong}
+use Rattle.records.specs.Tx.{markTX, txIn}
+use Rattle.records.specs.Contents.{countsWrong, txWrong}
 use Rattle.records.specs.declared.Transaction.{Transaction}
 use Rattle.records.specs.declared.VoteList.{VoteList}
-use Rattle.terms.specs.Checks.{orElse}
-use Rattle.terms.specs.Group.{groupWrong}
+
+-- p from a place of d on, all else as it was
+unfoldable pub laid : ℕ → List ℕ → List ℕ → List ℕ
+laid zero p d = p ++ drop (length p) d
+laid (suc n) p [] = []
+laid (suc n) p (x ∷ d) = x ∷ laid n p d
+
+-- p put down in d from `at` on gives e; b is the place behind it
+pub record Puts (d : List ℕ) (at : ℕ) (p e : List ℕ) (b : ℕ) : Type 0 where
+  pub place : b ≡ at + length p
+  pub is : e ≡ laid at p d
 
 -- a TX before its reads
 abbrev pub headBytes : ℕ → ℕ → ℕ → List ℕ
 headBytes r w s = markTX ++ (r ∷ w ∷ leBytes 8 s)
 
--- a VL before its pairs
-abbrev pub listHeadBytes : ℕ → ℕ → ℕ → List ℕ
-listHeadBytes k d n = markVL ++ (k ∷ d ∷ n ∷ [])
+-- "Length 12 + 10(r + w)", "Length 5 + 2 × count"
+abbrev pub txSize : Transaction → ℕ
+txSize x = 12 + 10 * (x .r + x .w)
 
--- an LG or a DC, by the two bytes of its mark
-unfoldable pub listedBytes : ℕ → ℕ → Tx → Vl → List ℕ
-listedBytes a b x l = a ∷ b ∷ (txBytes x ++ vlBytes l)
+abbrev pub listSize : VoteList → ℕ
+listSize l = 5 + 2 * l .count
 
--- what both are checked for before the list's contents
-unfoldable pub listedWrong : ℕ → Transaction → VoteList → ℕ
-listedWrong f x l = orElse (groupWrong f) (orElse (countsWrong (x .r) (x .w)) (orElse (countWrong (l .count)) (txWrong (txIn x))))
+-- what passed all checks: there is room from `at` on; a message stands at the front
+pub record TxFits (x : Transaction) (at : ℕ) (d : List ℕ) : Type 0 where
+  pub reads : x .r ≤ 8
+  pub writes : x .w ≤ 8
+  pub room : at + txSize x ≤ length d
+
+pub record ListFits (l : VoteList) (at : ℕ) (d : List ℕ) : Type 0 where
+  pub count : l .count ≤ 26
+  pub room : at + listSize l ≤ length d
+
+pub record ListedFits (x : Transaction) (l : VoteList) (d : List ℕ) : Type 0 where
+  pub reads : x .r ≤ 8
+  pub writes : x .w ≤ 8
+  pub count : l .count ≤ 26
+  pub room : 2 + txSize x + listSize l ≤ length d
+
+-- the refusal of a TX that has `at` bytes before it
+unfoldable pub txAfter : ℕ → Transaction → List ℕ → ℕ
+txAfter at x out = orElse (countsWrong (x .r) (x .w)) (orElse (txWrong (txIn x)) (ifLess (length out) (at + txSize x) buffer))

@@ -4,12 +4,14 @@ ghost use mathlib.Core.List.{[], _∷_, _++_};
 ghost use Prim.Native.Nat.{_+_, _*_, _≤_};
 ghost use lib.ListN.{length, getD};
 ghost use Rattle.terms.specs.Choice.{tab};
+ghost use Rattle.terms.specs.Checks.{orElse, ifLess, buffer};
 ghost use Rattle.records.specs.Numbers.{leBytes};
 ghost use Rattle.records.specs.Tx.{txIn, txBytes, flat, readKey, readVersion, writeKey, writeValue, readsIn, writesIn};
 ghost use Rattle.records.specs.Vl.{listIn, vlBytes, flatPairs, pairsIn};
-ghost use Rattle.writing.specs.Parts.{headBytes, listHeadBytes, listedBytes, listedWrong};
-ghost use Rattle.terms.specs.Checks.{ifLess, buffer};
-ghost use Rattle.records.specs.Writing.{prBytes, lgBytes, dcBytes, rdBytes, txUnwritten, vlUnwritten, prUnwritten, lgUnwritten, dcUnwritten, rdUnwritten, wroteBy, bufferBy};
+ghost use Rattle.records.specs.Cutting.{markBytes};
+ghost use Rattle.records.specs.Writing.{prBytes, listedBytes, rdBytes, listedWrong, txUnwritten, vlUnwritten, prUnwritten, listedUnwritten, rdUnwritten, wroteBy, bufferBy};
+ghost use Rattle.writing.specs.Parts.{Puts, headBytes, txSize, listSize, TxFits, ListFits, ListedFits, txAfter};
+use records::Mark;
 use records::Pair;
 use records::Read;
 use records::Transaction;
@@ -21,116 +23,176 @@ use terms::Key;
 use terms::Refusal;
 use terms::Stamp;
 
-fn put_mark(s: &mut [u8], mark: &[u8; 2])
-    requires { ⌜ length (now s) ≡ 2 ⌝ }
-    ensures { λ r. ⌜ now (s .exit) ≡ getD (now (mark .entry)) 0 0 ∷ getD (now (mark .entry)) 1 0 ∷ [] ⌝ }
+// A byte, put down from `at` on. This and all that follow tell the place behind what they put down.
+fn put_byte(s: &mut [u8], at: usize, a: u8) -> usize
+    requires { ⌜ at + 1 ≤ length (now s) ⌝ }
+    ensures { λ r. ⌜ Puts (now (s .entry)) at (a ∷ []) (now (s .exit)) r ⌝ }
 {
-    s[0] = mark[0];
-    s[1] = mark[1];
+    s[at] = a;
+    at + 1
 }
 
-// A key and what stands with it, in ten bytes.
-fn put_item(s: &mut [u8], key: u16, number: u64)
-    requires { ⌜ length (now s) ≡ 10 ⌝ }
-    ensures { λ r. ⌜ now (s .exit) ≡ leBytes 2 key ++ leBytes 8 number ⌝ }
+fn put_two(s: &mut [u8], at: usize, a: u8, b: u8) -> usize
+    requires { ⌜ at + 2 ≤ length (now s) ⌝ }
+    ensures { λ r. ⌜ Puts (now (s .entry)) at (a ∷ b ∷ []) (now (s .exit)) r ⌝ }
 {
-    records::put_u16(&mut s[0..2], key);
-    records::put_u64(&mut s[2..10], number);
+    let at = put_byte(s, at, a);
+    put_byte(s, at, b)
 }
 
-fn put_reads(s: &mut [u8], a: [Read; 8], n: usize)
-    requires { ⌜ (n ≤ 8) × (length (now s) ≡ n * 10) ⌝ }
-    ensures { λ r. ⌜ now (s .exit) ≡ flat readKey readVersion (tab (readsIn a) 0 n) ⌝ }
+// A fixed two-byte string.
+fn put_string(s: &mut [u8], at: usize, mark: &[u8; 2]) -> usize
+    requires { ⌜ at + 2 ≤ length (now s) ⌝ }
+    ensures { λ r. ⌜ Puts (now (s .entry)) at (getD (now (mark .entry)) 0 0 ∷ getD (now (mark .entry)) 1 0 ∷ []) (now (s .exit)) r ⌝ }
 {
+    put_two(s, at, mark[0], mark[1])
+}
+
+// A message's mark, at the buffer's front.
+fn put_mark(s: &mut [u8], mark: Mark) -> usize
+    requires { ⌜ 2 ≤ length (now s) ⌝ }
+    ensures { λ r. ⌜ Puts (now (s .entry)) 0 (markBytes mark) (now (s .exit)) r × (r ≡ 2) ⌝ }
+{
+    match mark {
+        Mark::PR => put_string(s, 0, b"PR"),
+        Mark::LG => put_string(s, 0, b"LG"),
+        Mark::DC => put_string(s, 0, b"DC"),
+        Mark::RD => put_string(s, 0, b"RD"),
+    }
+}
+
+fn put_key(s: &mut [u8], at: usize, key: u16) -> usize
+    requires { ⌜ at + 2 ≤ length (now s) ⌝ }
+    ensures { λ r. ⌜ Puts (now (s .entry)) at (leBytes 2 key) (now (s .exit)) r ⌝ }
+{
+    records::put_u16(&mut s[at..at + 2], key);
+    at + 2
+}
+
+fn put_number(s: &mut [u8], at: usize, number: u64) -> usize
+    requires { ⌜ at + 8 ≤ length (now s) ⌝ }
+    ensures { λ r. ⌜ Puts (now (s .entry)) at (leBytes 8 number) (now (s .exit)) r ⌝ }
+{
+    records::put_u64(&mut s[at..at + 8], number);
+    at + 8
+}
+
+// A key and what stands with it.
+fn put_item(s: &mut [u8], at: usize, key: u16, number: u64) -> usize
+    requires { ⌜ at + 10 ≤ length (now s) ⌝ }
+    ensures { λ r. ⌜ Puts (now (s .entry)) at (leBytes 2 key ++ leBytes 8 number) (now (s .exit)) r ⌝ }
+{
+    let at = put_key(s, at, key);
+    put_number(s, at, number)
+}
+
+fn put_reads(s: &mut [u8], at: usize, a: [Read; 8], n: usize) -> usize
+    requires { ⌜ (n ≤ 8) × (at + 10 * n ≤ length (now s)) ⌝ }
+    ensures { λ r. ⌜ Puts (now (s .entry)) at (flat readKey readVersion (tab (readsIn a) 0 n)) (now (s .exit)) r × (r ≡ at + 10 * n) ⌝ }
+{
+    let mut next = at;
     let mut j = 0;
     while j < n {
         let p = a[j];
         let k = p.key;
         let v = p.version;
-        let b = j * 10;
-        put_item(&mut s[b..b + 10], k.0, v.0);
+        next = put_item(s, next, k.0, v.0);
         j += 1;
     }
+    next
 }
 
-fn put_writes(s: &mut [u8], a: [Write; 8], n: usize)
-    requires { ⌜ (n ≤ 8) × (length (now s) ≡ n * 10) ⌝ }
-    ensures { λ r. ⌜ now (s .exit) ≡ flat writeKey writeValue (tab (writesIn a) 0 n) ⌝ }
+fn put_writes(s: &mut [u8], at: usize, a: [Write; 8], n: usize) -> usize
+    requires { ⌜ (n ≤ 8) × (at + 10 * n ≤ length (now s)) ⌝ }
+    ensures { λ r. ⌜ Puts (now (s .entry)) at (flat writeKey writeValue (tab (writesIn a) 0 n)) (now (s .exit)) r × (r ≡ at + 10 * n) ⌝ }
 {
+    let mut next = at;
     let mut j = 0;
     while j < n {
         let p = a[j];
         let k = p.key;
-        let b = j * 10;
-        put_item(&mut s[b..b + 10], k.0, p.value);
+        next = put_item(s, next, k.0, p.value);
         j += 1;
     }
+    next
 }
 
 // A TX before its reads.
-fn put_head(s: &mut [u8], r: usize, w: usize, stamp: Stamp)
-    requires { ⌜ (r ≤ 8) × (w ≤ 8) × (length (now s) ≡ 12) ⌝ }
-    ensures { λ u. ⌜ now (s .exit) ≡ headBytes r w (stamp .0) ⌝ }
+fn put_head(s: &mut [u8], at: usize, r: usize, w: usize, stamp: Stamp) -> usize
+    requires { ⌜ (r ≤ 8) × (w ≤ 8) × (at + 12 ≤ length (now s)) ⌝ }
+    ensures { λ n. ⌜ Puts (now (s .entry)) at (headBytes r w (stamp .0)) (now (s .exit)) n ⌝ }
 {
-    put_mark(&mut s[0..2], b"TX");
-    s[2] = r as u8;
-    s[3] = w as u8;
-    records::put_u64(&mut s[4..12], stamp.0);
+    let at = put_string(s, at, b"TX");
+    let at = put_two(s, at, r as u8, w as u8);
+    put_number(s, at, stamp.0)
 }
 
-fn put_tx(s: &mut [u8], x: Transaction)
-    requires { ⌜ (x .r ≤ 8) × (x .w ≤ 8) × (length (now s) ≡ 12 + 10 * (x .r + x .w)) ⌝ }
-    ensures { λ r. ⌜ now (s .exit) ≡ txBytes (txIn x) ⌝ }
+fn put_tx(s: &mut [u8], at: usize, x: Transaction) -> usize
+    requires { ⌜ TxFits x at (now s) ⌝ }
+    ensures { λ r. ⌜ Puts (now (s .entry)) at (txBytes (txIn x)) (now (s .exit)) r × (r ≡ at + txSize x) ⌝ }
 {
-    let stamp = x.stamp;
-    let r = x.r;
-    let w = x.w;
     let reads = x.reads;
     let writes = x.writes;
-    put_head(&mut s[0..12], r, w, stamp);
-    let b = 12 + r * 10;
-    put_reads(&mut s[12..b], reads, r);
-    put_writes(&mut s[b..b + w * 10], writes, w);
+    let at = put_head(s, at, x.r, x.w, x.stamp);
+    let at = put_reads(s, at, reads, x.r);
+    put_writes(s, at, writes, x.w)
 }
 
-fn put_pairs(s: &mut [u8], a: [Pair; 26], n: usize)
-    requires { ⌜ (n ≤ 26) × (length (now s) ≡ 2 * n) ⌝ }
-    ensures { λ r. ⌜ now (s .exit) ≡ flatPairs (tab (pairsIn a) 0 n) ⌝ }
+fn put_pairs(s: &mut [u8], at: usize, a: [Pair; 26], n: usize) -> usize
+    requires { ⌜ (n ≤ 26) × (at + 2 * n ≤ length (now s)) ⌝ }
+    ensures { λ r. ⌜ Puts (now (s .entry)) at (flatPairs (tab (pairsIn a) 0 n)) (now (s .exit)) r ⌝ }
 {
+    let mut next = at;
     let mut j = 0;
     while j < n {
         let p = a[j];
-        s[2 * j] = p.number;
-        s[2 * j + 1] = p.answer;
+        next = put_two(s, next, p.number, p.answer);
         j += 1;
     }
+    next
 }
 
-// A VL before its pairs.
-fn put_list_head(s: &mut [u8], kind: u8, decision: u8, count: usize)
-    requires { ⌜ (count ≤ 26) × (length (now s) ≡ 5) ⌝ }
-    ensures { λ u. ⌜ now (s .exit) ≡ listHeadBytes kind decision count ⌝ }
+fn put_list(s: &mut [u8], at: usize, l: VoteList) -> usize
+    requires { ⌜ ListFits l at (now s) ⌝ }
+    ensures { λ r. ⌜ Puts (now (s .entry)) at (vlBytes (listIn l)) (now (s .exit)) r ⌝ }
 {
-    put_mark(&mut s[0..2], b"VL");
-    s[2] = kind;
-    s[3] = decision;
-    s[4] = count as u8;
-}
-
-fn put_list(s: &mut [u8], l: VoteList)
-    requires { ⌜ (l .count ≤ 26) × (length (now s) ≡ 5 + 2 * l .count) ⌝ }
-    ensures { λ r. ⌜ now (s .exit) ≡ vlBytes (listIn l) ⌝ }
-{
-    let count = l.count;
     let pairs = l.pairs;
-    put_list_head(&mut s[0..5], l.kind, l.decision, count);
-    put_pairs(&mut s[5..5 + 2 * count], pairs, count);
+    let at = put_string(s, at, b"VL");
+    let at = put_two(s, at, l.kind, l.decision);
+    let at = put_byte(s, at, l.count as u8);
+    put_pairs(s, at, pairs, l.count)
+}
+
+fn put_pr(s: &mut [u8], x: Transaction) -> usize
+    requires { ⌜ TxFits x 2 (now s) ⌝ }
+    ensures { λ r. ⌜ Puts (now (s .entry)) 0 (prBytes (txIn x)) (now (s .exit)) r ⌝ }
+{
+    let at = put_mark(s, Mark::PR);
+    put_tx(s, at, x)
+}
+
+// An LG or a DC.
+fn put_listed(s: &mut [u8], mark: Mark, x: Transaction, l: VoteList) -> usize
+    requires { ⌜ ListedFits x l (now s) ⌝ }
+    ensures { λ r. ⌜ Puts (now (s .entry)) 0 (listedBytes mark (txIn x) (listIn l)) (now (s .exit)) r ⌝ }
+{
+    let at = put_mark(s, mark);
+    let at = put_tx(s, at, x);
+    put_list(s, at, l)
+}
+
+fn put_rd(s: &mut [u8], key: Key, stamp: Stamp) -> usize
+    requires { ⌜ 12 ≤ length (now s) ⌝ }
+    ensures { λ r. ⌜ Puts (now (s .entry)) 0 (rdBytes (key .0) (stamp .0)) (now (s .exit)) r ⌝ }
+{
+    let at = put_mark(s, Mark::RD);
+    put_item(s, at, key.0, stamp.0)
 }
 
 // The length of a transaction's record.
 fn tx_size(x: Transaction) -> usize
     requires { ⌜ (x .r ≤ 8) × (x .w ≤ 8) ⌝ }
-    ensures { λ n. ⌜ (n ≡ 12 + 10 * (x .r + x .w)) × (n ≤ 172) ⌝ }
+    ensures { λ n. ⌜ (n ≡ txSize x) × (n ≤ 172) ⌝ }
 {
     12 + 10 * (x.r + x.w)
 }
@@ -138,38 +200,19 @@ fn tx_size(x: Transaction) -> usize
 // The length of a list's record.
 fn list_size(l: VoteList) -> usize
     requires { ⌜ l .count ≤ 26 ⌝ }
-    ensures { λ n. ⌜ (n ≡ 5 + 2 * l .count) × (n ≤ 57) ⌝ }
+    ensures { λ n. ⌜ (n ≡ listSize l) × (n ≤ 57) ⌝ }
 {
     5 + 2 * l.count
 }
 
-fn put_pr(s: &mut [u8], x: Transaction)
-    requires { ⌜ (x .r ≤ 8) × (x .w ≤ 8) × (length (now s) ≡ 14 + 10 * (x .r + x .w)) ⌝ }
-    ensures { λ r. ⌜ now (s .exit) ≡ prBytes (txIn x) ⌝ }
+// The first refusal of two; 0 is none.
+fn first(a: u8, b: u8) -> u8
+    ensures { λ r. ⌜ r ≡ orElse a b ⌝ }
 {
-    put_mark(&mut s[0..2], b"PR");
-    let n = tx_size(x);
-    put_tx(&mut s[2..2 + n], x);
-}
-
-// An LG or a DC, by its mark.
-fn put_listed(s: &mut [u8], mark: &[u8; 2], x: Transaction, l: VoteList)
-    requires { ⌜ (x .r ≤ 8) × (x .w ≤ 8) × (l .count ≤ 26) × (length (now s) ≡ 19 + 10 * (x .r + x .w) + 2 * l .count) ⌝ }
-    ensures { λ r. ⌜ now (s .exit) ≡ listedBytes (getD (now (mark .entry)) 0 0) (getD (now (mark .entry)) 1 0) (txIn x) (listIn l) ⌝ }
-{
-    put_mark(&mut s[0..2], mark);
-    let b = 2 + tx_size(x);
-    let n = list_size(l);
-    put_tx(&mut s[2..b], x);
-    put_list(&mut s[b..b + n], l);
-}
-
-fn put_rd(s: &mut [u8], key: Key, stamp: Stamp)
-    requires { ⌜ length (now s) ≡ 12 ⌝ }
-    ensures { λ r. ⌜ now (s .exit) ≡ rdBytes (key .0) (stamp .0) ⌝ }
-{
-    put_mark(&mut s[0..2], b"RD");
-    put_item(&mut s[2..12], key.0, stamp.0);
+    if a != 0 {
+        return a;
+    }
+    b
 }
 
 // 17 where a record of n bytes has no room.
@@ -182,120 +225,72 @@ fn buffer_wrong(n: usize, out: &[u8]) -> u8
     0
 }
 
-fn tx_unwritten(x: Transaction, out: &[u8]) -> u8
-    ensures { λ r. ⌜ r ≡ txUnwritten x (now (out .entry)) ⌝ }
+// 3, the contents, 17 of a TX that has `at` bytes before it.
+fn tx_unwritten(x: Transaction, at: usize, out: &[u8]) -> u8
+    requires { ⌜ at ≤ 2 ⌝ }
+    ensures { λ r. ⌜ r ≡ txAfter at x (now (out .entry)) ⌝ }
 {
     let counts = contents::counts_wrong(x.r, x.w);
     if counts != 0 {
         return counts;
     }
-    let wrong = contents::tx_wrong(x);
-    if wrong != 0 {
-        return wrong;
-    }
-    buffer_wrong(tx_size(x), out)
+    first(contents::tx_wrong(x), buffer_wrong(at + tx_size(x), out))
 }
 
 fn vl_unwritten(f: u64, l: VoteList, out: &[u8]) -> u8
     ensures { λ r. ⌜ r ≡ vlUnwritten f l (now (out .entry)) ⌝ }
 {
-    let group = terms::group_wrong(f);
-    if group != 0 {
-        return group;
-    }
-    let count = contents::count_wrong(l.count);
-    if count != 0 {
-        return count;
-    }
-    let wrong = contents::list_wrong(Group { f: f as u8 }, l);
-    if wrong != 0 {
-        return wrong;
-    }
-    buffer_wrong(list_size(l), out)
-}
-
-fn pr_unwritten(x: Transaction, out: &[u8]) -> u8
-    ensures { λ r. ⌜ r ≡ prUnwritten x (now (out .entry)) ⌝ }
-{
-    let counts = contents::counts_wrong(x.r, x.w);
-    if counts != 0 {
-        return counts;
-    }
-    let wrong = contents::tx_wrong(x);
-    if wrong != 0 {
-        return wrong;
-    }
-    buffer_wrong(2 + tx_size(x), out)
-}
-
-// What an LG and a DC are checked for alike: all before the list's contents.
-fn listed_wrong(f: u64, x: Transaction, l: VoteList) -> u8
-    ensures { λ r. ⌜ r ≡ listedWrong f x l ⌝ }
-{
-    let group = terms::group_wrong(f);
-    if group != 0 {
-        return group;
-    }
-    let counts = contents::counts_wrong(x.r, x.w);
-    if counts != 0 {
-        return counts;
-    }
-    let count = contents::count_wrong(l.count);
-    if count != 0 {
-        return count;
-    }
-    contents::tx_wrong(x)
-}
-
-fn lg_unwritten(f: u64, x: Transaction, l: VoteList, out: &[u8]) -> u8
-    ensures { λ r. ⌜ r ≡ lgUnwritten f x l (now (out .entry)) ⌝ }
-{
-    let before = listed_wrong(f, x, l);
-    if before != 0 {
-        return before;
-    }
-    let wrong = contents::log_list_wrong(Group { f: f as u8 }, l);
-    if wrong != 0 {
-        return wrong;
-    }
-    buffer_wrong(2 + tx_size(x) + list_size(l), out)
-}
-
-fn dc_unwritten(f: u64, x: Transaction, l: VoteList, out: &[u8]) -> u8
-    ensures { λ r. ⌜ r ≡ dcUnwritten f x l (now (out .entry)) ⌝ }
-{
-    let before = listed_wrong(f, x, l);
+    let before = first(terms::group_wrong(f), contents::count_wrong(l.count));
     if before != 0 {
         return before;
     }
     let wrong = contents::list_wrong(Group { f: f as u8 }, l);
-    if wrong != 0 {
-        return wrong;
+    first(wrong, buffer_wrong(list_size(l), out))
+}
+
+// The list of an LG or a DC: a message with another mark carries none (2).
+fn listed_wrong(mark: Mark, f: u64, l: VoteList) -> u8
+    requires { ⌜ (f ≤ 5) × (l .count ≤ 26) ⌝ }
+    ensures { λ r. ⌜ r ≡ listedWrong mark f (listIn l) ⌝ }
+{
+    match mark {
+        Mark::PR => terms::MARK,
+        Mark::LG => contents::log_list_wrong(Group { f: f as u8 }, l),
+        Mark::DC => contents::list_wrong(Group { f: f as u8 }, l),
+        Mark::RD => terms::MARK,
     }
-    buffer_wrong(2 + tx_size(x) + list_size(l), out)
+}
+
+fn listed_unwritten(mark: Mark, f: u64, x: Transaction, l: VoteList, out: &[u8]) -> u8
+    ensures { λ r. ⌜ r ≡ listedUnwritten mark f x l (now (out .entry)) ⌝ }
+{
+    let counts = first(
+        contents::counts_wrong(x.r, x.w),
+        contents::count_wrong(l.count),
+    );
+    let before = first(terms::group_wrong(f), counts);
+    if before != 0 {
+        return before;
+    }
+    let room = buffer_wrong(2 + tx_size(x) + list_size(l), out);
+    first(contents::tx_wrong(x), first(listed_wrong(mark, f, l), room))
 }
 
 fn rd_unwritten(key: Key, stamp: Stamp, out: &[u8]) -> u8
     ensures { λ r. ⌜ r ≡ rdUnwritten (key .0) (stamp .0) (now (out .entry)) ⌝ }
 {
-    let wrong = contents::rd_wrong(key, stamp);
-    if wrong != 0 {
-        return wrong;
-    }
-    buffer_wrong(12, out)
+    first(contents::rd_wrong(key, stamp), buffer_wrong(12, out))
 }
 
 // A TX by itself.
 pub fn write_tx(x: Transaction, out: &mut [u8]) -> Written
     ensures { λ r. ⌜ (r ≡ wroteBy (txUnwritten x (now (out .entry))) (txBytes (txIn x))) × (now (out .exit) ≡ bufferBy (txUnwritten x (now (out .entry))) (txBytes (txIn x)) (now (out .entry))) ⌝ }
 {
-    let wrong = tx_unwritten(x, out);
+    let wrong = tx_unwritten(x, 0, out);
     if wrong != 0 {
         return Written::Refused(Refusal::of(wrong));
     }
-    let n = tx_size(x);
-    put_tx(&mut out[0..n], x);
-    Written::Wrote(n)
+    Written::Wrote(put_tx(out, 0, x))
 }
 
 // A VL by itself.
@@ -306,45 +301,28 @@ pub fn write_vl(f: u64, l: VoteList, out: &mut [u8]) -> Written
     if wrong != 0 {
         return Written::Refused(Refusal::of(wrong));
     }
-    let n = list_size(l);
-    put_list(&mut out[0..n], l);
-    Written::Wrote(n)
+    Written::Wrote(put_list(out, 0, l))
 }
 
 pub fn write_pr(x: Transaction, out: &mut [u8]) -> Written
     ensures { λ r. ⌜ (r ≡ wroteBy (prUnwritten x (now (out .entry))) (prBytes (txIn x))) × (now (out .exit) ≡ bufferBy (prUnwritten x (now (out .entry))) (prBytes (txIn x)) (now (out .entry))) ⌝ }
 {
-    let wrong = pr_unwritten(x, out);
+    let wrong = tx_unwritten(x, 2, out);
     if wrong != 0 {
         return Written::Refused(Refusal::of(wrong));
     }
-    let n = 2 + tx_size(x);
-    put_pr(&mut out[0..n], x);
-    Written::Wrote(n)
+    Written::Wrote(put_pr(out, x))
 }
 
-pub fn write_lg(f: u64, x: Transaction, l: VoteList, out: &mut [u8]) -> Written
-    ensures { λ r. ⌜ (r ≡ wroteBy (lgUnwritten f x l (now (out .entry))) (lgBytes (txIn x) (listIn l))) × (now (out .exit) ≡ bufferBy (lgUnwritten f x l (now (out .entry))) (lgBytes (txIn x) (listIn l)) (now (out .entry))) ⌝ }
+// An LG or a DC, by its mark.
+pub fn write_listed(mark: Mark, f: u64, x: Transaction, l: VoteList, out: &mut [u8]) -> Written
+    ensures { λ r. ⌜ (r ≡ wroteBy (listedUnwritten mark f x l (now (out .entry))) (listedBytes mark (txIn x) (listIn l))) × (now (out .exit) ≡ bufferBy (listedUnwritten mark f x l (now (out .entry))) (listedBytes mark (txIn x) (listIn l)) (now (out .entry))) ⌝ }
 {
-    let wrong = lg_unwritten(f, x, l, out);
+    let wrong = listed_unwritten(mark, f, x, l, out);
     if wrong != 0 {
         return Written::Refused(Refusal::of(wrong));
     }
-    let n = 2 + tx_size(x) + list_size(l);
-    put_listed(&mut out[0..n], b"LG", x, l);
-    Written::Wrote(n)
-}
-
-pub fn write_dc(f: u64, x: Transaction, l: VoteList, out: &mut [u8]) -> Written
-    ensures { λ r. ⌜ (r ≡ wroteBy (dcUnwritten f x l (now (out .entry))) (dcBytes (txIn x) (listIn l))) × (now (out .exit) ≡ bufferBy (dcUnwritten f x l (now (out .entry))) (dcBytes (txIn x) (listIn l)) (now (out .entry))) ⌝ }
-{
-    let wrong = dc_unwritten(f, x, l, out);
-    if wrong != 0 {
-        return Written::Refused(Refusal::of(wrong));
-    }
-    let n = 2 + tx_size(x) + list_size(l);
-    put_listed(&mut out[0..n], b"DC", x, l);
-    Written::Wrote(n)
+    Written::Wrote(put_listed(out, mark, x, l))
 }
 
 pub fn write_rd(key: Key, stamp: Stamp, out: &mut [u8]) -> Written
@@ -354,6 +332,5 @@ pub fn write_rd(key: Key, stamp: Stamp, out: &mut [u8]) -> Written
     if wrong != 0 {
         return Written::Refused(Refusal::of(wrong));
     }
-    put_rd(&mut out[0..12], key, stamp);
-    Written::Wrote(12)
+    Written::Wrote(put_rd(out, key, stamp))
 }

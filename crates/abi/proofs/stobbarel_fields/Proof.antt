@@ -1,5 +1,5 @@
 use mathlib.Core.Path.{_∙_, ap}
-use Rattle.lent.specs.Lent.{foundNumber, fieldsOf}
+use Rattle.arrays.specs.Arrays.{foundNumber, fieldsOf}
 use borrow.Author.Needs.{needs}
 use Rattle.abi.proofs.stobbarel_fields.Statement.{statement}
 use Rattle.abi.proofs.stobbarel_fields.Tie as tie

@@ -1,12 +1,12 @@
 use mathlib.Core.Path.{_∙_, ap}
-use Rattle.lent.specs.Lent.{foundNumber}
+use Rattle.arrays.specs.Arrays.{foundNumber}
 use native.Mathlib.Omega.{arith}
 use borrow.Author.Needs.{needs}
 use Rattle.abi.proofs.stobbarel_reading.Statement.{statement}
 use Rattle.abi.proofs.stobbarel_reading.Tie as tie
 use Rattle.abi.proofs.stobbarel_reading.Reads as reads
 use Rattle.abi.proofs.stobbarel_reading.Lts as lts
-use Rattle.lent.proofs.found_number.Reads as found-number-reads
+use Rattle.arrays.proofs.found_number.Reads as found-number-reads
 use Rattle.reading.proofs.read.Reads as read-reads
 
 read-requires : tie.Need-read-requires

@@ -1,5 +1,6 @@
 use mathlib.Core.Path.{_∙_, ap}
 use Rattle.abi.specs.Rows.{answerRow}
+use native.Mathlib.Omega.{arith}
 use borrow.Author.Needs.{needs}
 use Rattle.abi.proofs.stobbarel_receive.Statement.{statement}
 use Rattle.abi.proofs.stobbarel_receive.Tie as tie

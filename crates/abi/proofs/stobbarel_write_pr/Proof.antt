@@ -9,15 +9,15 @@ tx-requires c κs = search needs
 write-pr-requires : tie.Need-write-pr-requires
 write-pr-requires c κs = search needs
 
-told-requires : tie.Need-told-requires
-told-requires c κs = search needs
+wrote-requires : tie.Need-wrote-requires
+wrote-requires c κs = search needs
 
 same-length : tie.Need-same-length
 same-length c = search needs
 
 returns : tie.Need-returns
-returns c = rw (← c .before .before .before .before .before .before .tx .ensures) (left-by _ _ _ _ _ _ _ (c .told .ensures .0) (c .told .ensures .1) (c .before .before .before .before .write-pr .ensures .0) (c .before .before .before .before .write-pr .ensures .1))
+returns c = rw (← c .before .before .before .before .before .before .tx .ensures) (left-by _ _ _ _ _ _ _ (c .wrote .ensures .0) (c .wrote .ensures .1) (c .before .before .before .before .write-pr .ensures .0) (c .before .before .before .before .write-pr .ensures .1))
 
 pub stobbarel-write-pr-spec : {M : Type 1} → statement M
 stobbarel-write-pr-spec =
-    tie.close (tie.spec tx-requires write-pr-requires told-requires same-length returns)
+    tie.close (tie.spec tx-requires write-pr-requires wrote-requires same-length returns)

@@ -4,10 +4,10 @@ use Rattle.abi.proofs.values.Statement.{statement}
 use Rattle.abi.proofs.values.Tie as tie
 use Rattle.abi.proofs.values.Reads as reads
 use Rattle.abi.proofs.values.Lts as lts
-use Rattle.abi.proofs.decision_number.Reads as decision-number-reads
 use Rattle.records.proofs.widened.Reads as widened-reads
 use Rattle.rules.proofs.Vote.number.Reads as Vote-number-reads
 use Rattle.rules.proofs.Vote.reason.Reads as reason-reads
+use Rattle.terms.proofs.Decision.number.Reads as Decision-number-reads
 use Rattle.terms.proofs.Refusal.number.Reads as Refusal-number-reads
 
 enum-known-a : tie.Need-enum-known-a
@@ -28,14 +28,20 @@ widened-requires-2 c κs = search needs
 enum-known-a-2 : tie.Need-enum-known-a-2
 enum-known-a-2 c = search needs
 
-decision-number-requires : tie.Need-decision-number-requires
-decision-number-requires c κs = search needs
+number-requires-2 : tie.Need-number-requires-2
+number-requires-2 c κs = search needs
+
+widened-requires-3 : tie.Need-widened-requires-3
+widened-requires-3 c κs = search needs
 
 enum-known-a-3 : tie.Need-enum-known-a-3
 enum-known-a-3 c = search needs
 
-decision-number-requires-2 : tie.Need-decision-number-requires-2
-decision-number-requires-2 c κs = search needs
+number-requires-3 : tie.Need-number-requires-3
+number-requires-3 c κs = search needs
+
+widened-requires-4 : tie.Need-widened-requires-4
+widened-requires-4 c κs = search needs
 
 enum-told : tie.Need-enum-told
 enum-told c = search needs
@@ -46,20 +52,20 @@ enum-known-a-4 c = search needs
 enum-known-a-5 : tie.Need-enum-known-a-5
 enum-known-a-5 c = search needs
 
-number-requires-2 : tie.Need-number-requires-2
-number-requires-2 c κs = search needs
+number-requires-4 : tie.Need-number-requires-4
+number-requires-4 c κs = search needs
 
-widened-requires-3 : tie.Need-widened-requires-3
-widened-requires-3 c κs = search needs
+widened-requires-5 : tie.Need-widened-requires-5
+widened-requires-5 c κs = search needs
 
 returns : tie.Need-returns
 returns c = rw (c .before .before .before .before .before .a .given .1, c .before .before .widened .ensures .0, c .before .before .before .number .ensures, c .widened2 .ensures .0, c .before .reason .ensures)
 
 returns-2 : tie.Need-returns-2
-returns-2 c = rw (c .before .before .a2 .given .1, c .decision-number .ensures)
+returns-2 c = rw (c .before .before .before .a2 .given .1, c .widened3 .ensures .0, c .before .number2 .ensures)
 
 returns-3 : tie.Need-returns-3
-returns-3 c = rw (c .before .before .a3 .given .1, c .decision-number2 .ensures)
+returns-3 c = rw (c .before .before .before .a3 .given .1, c .widened4 .ensures .0, c .before .number3 .ensures)
 
 returns-4 : tie.Need-returns-4
 returns-4 c = rw (c .enum-told .given .1)
@@ -68,7 +74,7 @@ returns-5 : tie.Need-returns-5
 returns-5 c = rw (c .before .a4 .given .1)
 
 returns-6 : tie.Need-returns-6
-returns-6 c = rw (c .before .before .before .a5 .given .1, c .widened3 .ensures .0, c .before .number2 .ensures)
+returns-6 c = rw (c .before .before .before .a5 .given .1, c .widened5 .ensures .0, c .before .number4 .ensures)
 
 pub values-spec : {M : Type 1} → statement M
 values-spec =
@@ -80,14 +86,16 @@ values-spec =
     reason-requires
     widened-requires-2
     enum-known-a-2
-    decision-number-requires
+    number-requires-2
+    widened-requires-3
     enum-known-a-3
-    decision-number-requires-2
+    number-requires-3
+    widened-requires-4
     enum-told
     enum-known-a-4
     enum-known-a-5
-    number-requires-2
-    widened-requires-3
+    number-requires-4
+    widened-requires-5
     returns
     returns-2
     returns-3

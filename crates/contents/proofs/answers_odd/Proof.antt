@@ -1,6 +1,7 @@
 use borrow.Author.Tests.{eq-eqb, ne-eqb, lt-ltb, le-ltb}
 use Rattle.records.specs.Contents.{answerOdd}
 use Rattle.records.specs.Vl.{pairsIn}
+use Rattle.terms.proofs.Checks.{tells, tells-not}
 use Rattle.terms.proofs.Scans.{Rest, begin, found, go, end}
 use Rattle.terms.specs.Choice.{any, tab}
 use Prim.Native.Nat.{_-_}
@@ -25,10 +26,10 @@ array-copy-out-p : tie.Need-array-copy-out-p Inv-loop μ-loop
 array-copy-out-p c = search needs
 
 returns : tie.Need-returns Inv-loop μ-loop
-returns c = found (c .before .before .before .before .loop .inv) (omega arith) (rw (eq-eqb _ _ (c .if1 .taken)))
+returns c = tells _ (found (c .before .before .before .before .loop .inv) (omega arith) (rw (eq-eqb _ _ (c .if1 .taken))))
 
 returns-2 : tie.Need-returns-2 Inv-loop μ-loop
-returns-2 c = found (c .before .before .before .before .before .before .loop .inv) (omega arith) (rw (ne-eqb _ _ (c .before .before .if1 .left), lt-ltb _ _ (c .if2 .taken)))
+returns-2 c = tells _ (found (c .before .before .before .before .before .before .loop .inv) (omega arith) (rw (ne-eqb _ _ (c .before .before .if1 .left), lt-ltb _ _ (c .if2 .taken))))
 
 add-j : tie.Need-add-j Inv-loop μ-loop
 add-j c = search needs
@@ -40,7 +41,7 @@ loop-again : tie.Need-loop-again Inv-loop μ-loop
 loop-again c = go (c .before .before .before .before .before .before .loop .inv) (omega arith) (rw (ne-eqb _ _ (c .before .before .if1 .left), le-ltb _ _ (c .if2 .left)))
 
 returns-3 : tie.Need-returns-3 Inv-loop μ-loop
-returns-3 c = end (c .before .loop .inv) (omega arith)
+returns-3 c = tells-not _ (end (c .before .loop .inv) (omega arith))
 
 pub answers-odd-spec : {M : Type 1} → statement M
 answers-odd-spec =

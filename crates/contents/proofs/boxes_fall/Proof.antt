@@ -1,5 +1,6 @@
-use Rattle.records.specs.Contents.{boxOf}
+use Rattle.records.specs.Contents.{pairBox}
 use Rattle.records.specs.Vl.{pairsIn}
+use Rattle.terms.proofs.Checks.{tells, tells-not}
 use Rattle.terms.proofs.Scans.{Rise, rise-begin, rise-falls, rise-go, rise-end}
 use Rattle.terms.specs.Choice.{falls, tab}
 use Prim.Native.Nat.{_-_}
@@ -9,7 +10,7 @@ use Rattle.contents.proofs.boxes_fall.Statement.{statement}
 use Rattle.contents.proofs.boxes_fall.Tie as tie
 
 abbrev Inv-loop : tie.InvT-loop
-Inv-loop n a lo₀ j₀ lo j = Rise boxOf (pairsIn a) n (falls boxOf 0 (tab (pairsIn a) 0 n)) lo j
+Inv-loop n a lo₀ j₀ lo j = Rise pairBox (pairsIn a) n (falls pairBox 0 (tab (pairsIn a) 0 n)) lo j
 
 abbrev μ-loop : tie.MeasureT-loop
 μ-loop n a lo₀ j₀ lo j = n - j
@@ -27,7 +28,7 @@ wide-requires : tie.Need-wide-requires Inv-loop μ-loop
 wide-requires c κs = search needs
 
 returns : tie.Need-returns Inv-loop μ-loop
-returns c = rise-falls (c .before .before .before .before .loop .inv) (omega arith) (omega arith)
+returns c = tells _ (rise-falls (c .before .before .before .before .loop .inv) (omega arith) (omega arith))
 
 add-lo : tie.Need-add-lo Inv-loop μ-loop
 add-lo c = search needs
@@ -42,7 +43,7 @@ loop-again : tie.Need-loop-again Inv-loop μ-loop
 loop-again c = rw (c .before .wide .ensures .0) (rise-go (c .before .before .before .before .loop .inv) (omega arith) (omega arith))
 
 returns-2 : tie.Need-returns-2 Inv-loop μ-loop
-returns-2 c = rise-end (c .before .loop .inv) (omega arith)
+returns-2 c = tells-not _ (rise-end (c .before .loop .inv) (omega arith))
 
 pub boxes-fall-spec : {M : Type 1} → statement M
 boxes-fall-spec =

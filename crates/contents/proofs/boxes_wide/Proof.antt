@@ -4,6 +4,7 @@ use Prim.Native.Nat.{ℕ, _-_}
 use lib.Dec.{leb}
 use Rattle.records.specs.declared.Pair.{Pair}
 use Rattle.records.specs.Vl.{pairsIn}
+use Rattle.terms.proofs.Checks.{tells, tells-not}
 use Rattle.terms.proofs.Scans.{Rest, begin, found, go, end}
 use Rattle.terms.specs.Choice.{any, tab}
 use native.Mathlib.Omega.{arith}
@@ -36,7 +37,7 @@ wide-requires : tie.Need-wide-requires Inv-loop μ-loop
 wide-requires c κs = search needs
 
 returns : tie.Need-returns Inv-loop μ-loop
-returns c = rw (c .before .before .before .before .before .n .ensures) at (found (c .before .before .before .before .loop .inv) (omega arith) (rw (← c .before .wide .ensures .0) (le-leb _ _ (c .if1 .taken))))
+returns c = tells _ (rw (c .before .before .before .before .before .n .ensures) at (found (c .before .before .before .before .loop .inv) (omega arith) (rw (← c .before .wide .ensures .0) (le-leb _ _ (c .if1 .taken)))))
 
 add-j : tie.Need-add-j Inv-loop μ-loop
 add-j c = search needs
@@ -48,7 +49,7 @@ loop-again : tie.Need-loop-again Inv-loop μ-loop
 loop-again c = go (c .before .before .before .before .loop .inv) (omega arith) (rw (← c .before .wide .ensures .0) (lt-leb _ _ (c .if1 .left)))
 
 returns-2 : tie.Need-returns-2 Inv-loop μ-loop
-returns-2 c = rw (c .before .before .n .ensures) at (end (c .before .loop .inv) (omega arith))
+returns-2 c = tells-not _ (rw (c .before .before .n .ensures) at (end (c .before .loop .inv) (omega arith)))
 
 pub boxes-wide-spec : {M : Type 1} → statement M
 boxes-wide-spec =

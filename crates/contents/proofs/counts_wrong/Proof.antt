@@ -1,29 +1,40 @@
-use mathlib.Core.Path.{sym}
+use Rattle.terms.specs.Checks.{when, ifLess, ifSame}
 use Rattle.records.specs.Contents.{countsWrong}
-use Rattle.terms.proofs.Checks.{pass, halt, less-no, less-yes, same-no, same-yes}
-use native.Mathlib.Omega.{arith}
+use Rattle.contents.proofs.Chains.{neither}
 use borrow.Author.Needs.{needs}
 use Rattle.contents.proofs.counts_wrong.Statement.{statement}
 use Rattle.contents.proofs.counts_wrong.Tie as tie
 
+refuse-if-requires : tie.Need-refuse-if-requires
+refuse-if-requires c κs = search needs
+
+refuse-if-requires-2 : tie.Need-refuse-if-requires-2
+refuse-if-requires-2 c κs = search needs
+
+refuse-if-requires-3 : tie.Need-refuse-if-requires-3
+refuse-if-requires-3 c κs = search needs
+
+refuse-if-requires-4 : tie.Need-refuse-if-requires-4
+refuse-if-requires-4 c κs = search needs
+
+first-requires : tie.Need-first-requires
+first-requires c κs = search needs
+
+first-requires-2 : tie.Need-first-requires-2
+first-requires-2 c κs = search needs
+
 returns : tie.Need-returns
-unfolding countsWrong
-returns c = halt _ _ _ (less-yes _ _ _ (omega arith)) (omega arith)
-
-returns-2 : tie.Need-returns-2
-unfolding countsWrong
-returns-2 c = pass (less-no _ _ _ (omega arith)) (halt _ _ _ (less-yes _ _ _ (omega arith)) (omega arith))
-
-add-if3 : tie.Need-add-if3
-add-if3 c = search needs
-
-returns-3 : tie.Need-returns-3
-unfolding countsWrong
-returns-3 c = pass (less-no _ _ _ (omega arith)) (pass (less-no _ _ _ (omega arith)) (sym (same-yes _ _ _ (c .if3 .taken))))
-
-returns-4 : tie.Need-returns-4
-unfolding countsWrong
-returns-4 c = pass (less-no _ _ _ (omega arith)) (pass (less-no _ _ _ (omega arith)) (sym (same-no _ _ _ (c .if3 .left))))
+unfolding countsWrong when ifLess ifSame
+returns c = let e = neither (c .before .before .before .before .before .before .args .r) (c .before .before .before .before .before .before .args .w) 3 in cc
 
 pub counts-wrong-spec : {M : Type 1} → statement M
-counts-wrong-spec = tie.close (tie.spec returns returns-2 add-if3 returns-3 returns-4)
+counts-wrong-spec =
+    tie.close
+    (tie.spec
+    refuse-if-requires
+    refuse-if-requires-2
+    refuse-if-requires-3
+    refuse-if-requires-4
+    first-requires
+    first-requires-2
+    returns)

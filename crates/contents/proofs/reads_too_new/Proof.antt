@@ -1,6 +1,7 @@
 use borrow.Author.Tests.{le-leb, lt-leb}
 use Rattle.records.specs.Contents.{tooNew}
 use Rattle.records.specs.Tx.{readsIn}
+use Rattle.terms.proofs.Checks.{tells, tells-not}
 use Rattle.terms.proofs.Scans.{Rest, begin, found, go, end}
 use Rattle.terms.specs.Choice.{any, tab}
 use Prim.Native.Nat.{_-_}
@@ -25,7 +26,7 @@ array-copy-out-p : tie.Need-array-copy-out-p Inv-loop μ-loop
 array-copy-out-p c = search needs
 
 returns : tie.Need-returns Inv-loop μ-loop
-returns c = found (c .before .before .before .before .before .before .loop .inv) (omega arith) (le-leb _ _ (c .if1 .taken))
+returns c = tells _ (found (c .before .before .before .before .before .before .loop .inv) (omega arith) (le-leb _ _ (c .if1 .taken)))
 
 add-j : tie.Need-add-j Inv-loop μ-loop
 add-j c = search needs
@@ -37,7 +38,7 @@ loop-again : tie.Need-loop-again Inv-loop μ-loop
 loop-again c = go (c .before .before .before .before .before .before .loop .inv) (omega arith) (lt-leb _ _ (c .if1 .left))
 
 returns-2 : tie.Need-returns-2 Inv-loop μ-loop
-returns-2 c = end (c .before .loop .inv) (omega arith)
+returns-2 c = tells-not _ (end (c .before .loop .inv) (omega arith))
 
 pub reads-too-new-spec : {M : Type 1} → statement M
 reads-too-new-spec =

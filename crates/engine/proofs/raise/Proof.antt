@@ -1,4 +1,4 @@
-use Rattle.engine.proofs.Marks.{keep-mark, new-mark}
+use Rattle.engine.proofs.Raised.{keep-mark, new-mark}
 use native.Mathlib.Omega.{arith}
 use borrow.Author.Needs.{needs}
 use Rattle.engine.proofs.raise.Statement.{statement}

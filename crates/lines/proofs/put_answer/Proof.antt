@@ -47,8 +47,8 @@ put-text-requires-3 c κs = search needs
 enum-known-answer-4 : tie.Need-enum-known-answer-4
 enum-known-answer-4 c = search needs
 
-put-four-requires : tie.Need-put-four-requires
-put-four-requires c κs = search needs
+put-found-requires : tie.Need-put-found-requires
+put-found-requires c κs = search needs
 
 enum-known-answer-5 : tie.Need-enum-known-answer-5
 enum-known-answer-5 c = search needs
@@ -109,7 +109,7 @@ same-length-5 c = search needs
 
 returns-5 : tie.Need-returns-5
 unfolding answerText
-returns-5 c = rw (c .before .before .before .before .before .answer4 .given .1) (c .before .before .put-four .ensures)
+returns-5 c = rw (c .before .before .before .before .before .answer4 .given .1) (c .before .before .put-found .ensures)
 
 same-length-6 : tie.Need-same-length-6
 same-length-6 c = search needs
@@ -140,7 +140,7 @@ put-answer-spec =
     slice-aggregate-put-text-3
     put-text-requires-3
     enum-known-answer-4
-    put-four-requires
+    put-found-requires
     enum-known-answer-5
     slice-aggregate-put-text-4
     put-text-requires-4

@@ -1,6 +1,5 @@
-use Rattle.lines.proofs.Putting.{puts-both, puts-word, puts-as}
-use Rattle.lines.proofs.Texts.{line-as}
-use Rattle.lines.specs.Lines.{blank, lineEnd}
+use Rattle.lines.proofs.Putting.{puts-word, puts-apart, puts-within}
+use Rattle.lines.specs.Lines.{lineEnd, lineOf}
 use native.Mathlib.Omega.{arith}
 use borrow.Author.Needs.{needs}
 use Rattle.lines.proofs.put_line.Statement.{statement}
@@ -37,6 +36,7 @@ same-length : tie.Need-same-length
 same-length c = search needs
 
 returns : tie.Need-returns
+unfolding lineOf
 returns c =
     let end = c .before .before in
     let said = end .before .before .before .before .before in
@@ -44,10 +44,9 @@ returns c =
     let mark = w2 .before .before .before .before .before in
     let w1 = mark .before .before .before .before in
     let number = w1 .before .before .before .before .before in
-    let a = puts-word blank (number .put-decimal .ensures) (w1 .put-text .ensures) (omega arith) in
-    let b = puts-word blank (puts-both a (mark .put-mark .ensures) (omega arith)) (w2 .put-text2 .ensures) (omega arith) in
-    let d = puts-word lineEnd (puts-both b (said .put-said .ensures) (omega arith)) (end .put-text3 .ensures) (omega arith) in
-    let line = puts-as {n = 112} (line-as _ _ _) d (omega arith) in
+    let answer = puts-word lineEnd (said .put-said .ensures) (end .put-text3 .ensures) (omega arith) in
+    let rest = puts-apart (mark .put-mark .ensures) (w2 .put-text2 .ensures) answer (omega arith) in
+    let line = puts-within {n = 112} (puts-apart (number .put-decimal .ensures) (w1 .put-text .ensures) rest (omega arith)) (omega arith) in
     (line .place, line .written, line .short)
 
 pub put-line-spec : {M : Type 1} → statement M

@@ -1,16 +1,15 @@
-use mathlib.Core.Path.{sym}
+use Rattle.terms.specs.Checks.{ifLess, when}
 use Rattle.records.specs.Cutting.{behindWrong}
-use Rattle.terms.proofs.Checks.{less-no, less-yes}
+use borrow.Author.Needs.{needs}
 use Rattle.reading.proofs.behind_wrong.Statement.{statement}
 use Rattle.reading.proofs.behind_wrong.Tie as tie
 
-returns : tie.Need-returns
-unfolding behindWrong
-returns c = sym (less-yes _ _ _ (c .if1 .taken))
+refuse-if-requires : tie.Need-refuse-if-requires
+refuse-if-requires c κs = search needs
 
-returns-2 : tie.Need-returns-2
-unfolding behindWrong
-returns-2 c = sym (less-no _ _ _ (c .if1 .left))
+returns : tie.Need-returns
+unfolding behindWrong ifLess when
+returns c = c .refuse-if .ensures
 
 pub behind-wrong-spec : {M : Type 1} → statement M
-behind-wrong-spec = tie.close (tie.spec returns returns-2)
+behind-wrong-spec = tie.close (tie.spec refuse-if-requires returns)

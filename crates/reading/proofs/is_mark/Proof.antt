@@ -14,19 +14,15 @@ returns : tie.Need-returns
 unfolding isMark
 returns c = rw (ne-eqb _ _ (c .if1 .taken))
 
-shared-slice-read-if2 : tie.Need-shared-slice-read-if2
-shared-slice-read-if2 c = search needs
+shared-slice-read-result : tie.Need-shared-slice-read-result
+shared-slice-read-result c = search needs
 
-element-copy-out-if2 : tie.Need-element-copy-out-if2
-element-copy-out-if2 c = search needs
+element-copy-out-result : tie.Need-element-copy-out-result
+element-copy-out-result c = search needs
 
 returns-2 : tie.Need-returns-2
 unfolding isMark
-returns-2 c = rw (eq-eqb _ _ (c .before .before .before .if1 .left), ne-eqb _ _ (c .if2 .taken))
-
-returns-3 : tie.Need-returns-3
-unfolding isMark
-returns-3 c = rw (eq-eqb _ _ (c .before .before .before .if1 .left), eq-eqb _ _ (c .if2 .left))
+returns-2 c = rw (eq-eqb _ _ (c .before .before .if1 .left))
 
 pub is-mark-spec : {M : Type 1} → statement M
 is-mark-spec =
@@ -35,7 +31,6 @@ is-mark-spec =
     shared-slice-read-if1
     element-copy-out-if1
     returns
-    shared-slice-read-if2
-    element-copy-out-if2
-    returns-2
-    returns-3)
+    shared-slice-read-result
+    element-copy-out-result
+    returns-2)

@@ -1,8 +1,8 @@
 use mathlib.Core.Path.{sym, _∙_}
 use Rattle.records.specs.Messages.{readTX, txRefusal}
-use Rattle.terms.proofs.Checks.{pass, stop}
+use Rattle.terms.proofs.Checks.{pass, stop, links}
 use Rattle.reading.proofs.Cuts.{tx-long, tx-there, behind-at}
-use Rattle.reading.proofs.Answers.{refused-by, read-by, passed-on, taken-tx}
+use Rattle.reading.proofs.Answers.{tx-none, tx-by, wrong-tx}
 use borrow.Author.Needs.{needs}
 use Rattle.reading.proofs.read_tx.Statement.{statement}
 use Rattle.reading.proofs.read_tx.Tie as tie
@@ -10,66 +10,50 @@ use Rattle.reading.proofs.read_tx.Tie as tie
 tx-cut-requires : tie.Need-tx-cut-requires
 tx-cut-requires c κs = search needs
 
-refused-requires : tie.Need-refused-requires
-refused-requires c κs = search needs
+no-tx-requires : tie.Need-no-tx-requires
+no-tx-requires c κs = search needs
+
+tx-reading-requires : tie.Need-tx-reading-requires
+tx-reading-requires c κs = search needs
 
 returns : tie.Need-returns
 unfolding readTX txRefusal
-returns c = c .refused .ensures ∙ refused-by _ _ _ _ _ (stop _ _ _ (c .before .before .tx-cut .ensures) (c .before .if1 .taken)) (c .before .if1 .taken)
+returns c = c .tx-reading .ensures ∙ tx-none _ _ _ _ (stop _ _ _ (c .before .before .before .tx-cut .ensures) (c .before .before .if1 .taken)) (c .before .before .if1 .taken)
+
+transaction-of-requires : tie.Need-transaction-of-requires
+transaction-of-requires c κs = tx-there _ _ (c .before .tx-cut .ensures) (c .if1 .left)
 
 tx-len-requires : tie.Need-tx-len-requires
-tx-len-requires c κs = tx-long _ _ (c .before .tx-cut .ensures) (c .if1 .left)
+tx-len-requires c κs = tx-long _ _ (c .before .before .tx-cut .ensures) (c .before .if1 .left)
 
 behind-wrong-requires : tie.Need-behind-wrong-requires
 behind-wrong-requires c κs = search needs
 
-refused-requires-2 : tie.Need-refused-requires-2
-refused-requires-2 c κs = search needs
+tx-wrong-requires : tie.Need-tx-wrong-requires
+tx-wrong-requires c κs = search needs
+
+first-requires : tie.Need-first-requires
+first-requires c κs = search needs
+
+tx-reading-requires-2 : tie.Need-tx-reading-requires-2
+tx-reading-requires-2 c κs = search needs
 
 returns-2 : tie.Need-returns-2
 unfolding readTX txRefusal
-returns-2 c = c .refused2 .ensures ∙ refused-by _ _ _ _ _ (pass (sym (c .before .before .before .before .before .tx-cut .ensures) ∙ c .before .before .before .before .if1 .left) (stop _ _ _ (c .before .before .behind-wrong .ensures ∙ behind-at _ (c .before .before .before .tx-len .ensures)) (c .before .if2 .taken))) (c .before .if2 .taken)
-
-read-part-requires : tie.Need-read-part-requires
-read-part-requires c κs = tx-there _ _ (c .before .before .before .before .tx-cut .ensures) (c .before .before .before .if1 .left)
-
-enum-told : tie.Need-enum-told
-enum-told c = search needs
-
-enum-told-2 : tie.Need-enum-told-2
-enum-told-2 c = search needs
-
-refused-by-requires : tie.Need-refused-by-requires
-refused-by-requires c κs = search needs
-
-returns-3 : tie.Need-returns-3
-unfolding readTX txRefusal
-returns-3 c = let t = passed-on _ _ _ _ (c .before .before .before .read-part .ensures) (c .before .enum-told2 .given .1) in
-    c .refused-by .ensures ∙ refused-by _ _ _ _ _ (pass (sym (c .before .before .before .before .before .before .before .before .tx-cut .ensures) ∙ c .before .before .before .before .before .before .before .if1 .left) (pass (sym (c .before .before .before .before .before .behind-wrong .ensures ∙ behind-at _ (c .before .before .before .before .before .before .tx-len .ensures)) ∙ c .before .before .before .before .if2 .left) (t .0))) (t .1)
-
-no-list-requires : tie.Need-no-list-requires
-no-list-requires c κs = search needs
-
-returns-4 : tie.Need-returns-4
-unfolding readTX txRefusal
-returns-4 c = let t = taken-tx _ _ _ _ (c .before .before .before .before .read-part .ensures) (c .before .before .enum-told .given .1) in
-    read-by _ _ _ _ _ _ (pass (sym (c .before .before .before .before .before .before .before .before .before .tx-cut .ensures) ∙ c .before .before .before .before .before .before .before .before .if1 .left) (pass (sym (c .before .before .before .before .before .before .behind-wrong .ensures ∙ behind-at _ (c .before .before .before .before .before .before .before .tx-len .ensures)) ∙ c .before .before .before .before .before .if2 .left) (t .0))) (t .1) (c .no-list .ensures)
+returns-2 c = c .tx-reading2 .ensures ∙ tx-by _ _ _ _ (pass (sym (c .before .before .before .before .before .before .before .tx-cut .ensures) ∙ c .before .before .before .before .before .before .if1 .left) (links (c .before .first .ensures) (c .before .before .before .behind-wrong .ensures ∙ behind-at _ (c .before .before .before .before .tx-len .ensures)) (wrong-tx _ _ _ (c .before .before .before .before .before .transaction-of .ensures .0) (c .before .before .tx-wrong .ensures)))) (c .before .before .before .before .before .transaction-of .ensures .0)
 
 pub read-tx-spec : {M : Type 1} → statement M
 read-tx-spec =
     tie.close
     (tie.spec
     tx-cut-requires
-    refused-requires
+    no-tx-requires
+    tx-reading-requires
     returns
+    transaction-of-requires
     tx-len-requires
     behind-wrong-requires
-    refused-requires-2
-    returns-2
-    read-part-requires
-    enum-told
-    enum-told-2
-    refused-by-requires
-    returns-3
-    no-list-requires
-    returns-4)
+    tx-wrong-requires
+    first-requires
+    tx-reading-requires-2
+    returns-2)

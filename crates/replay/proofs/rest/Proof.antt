@@ -1,8 +1,8 @@
-use Rattle.replay.proofs.Running.{Running, running-first, running-end, same-long, running-cut, running-stop, running-more, has-room, fits, gp-long, config-is}
-use Rattle.lines.proofs.Putting.{line-put}
-use lib.ListN.{length}
 use Prim.Native.Nat.{_-_}
 use mathlib.Core.Path.{_≡_, refl, sym, _∙_}
+use lib.ListN.{length}
+use Rattle.lines.proofs.Putting.{line-put}
+use Rattle.replay.proofs.Running.{Running, running-first, running-end, same-long, running-cut, running-stop, running-more, has-room, fits, gp-long}
 use native.Mathlib.Omega.{arith}
 use borrow.Author.Needs.{needs}
 use Rattle.replay.proofs.rest.Statement.{statement}
@@ -10,41 +10,25 @@ use Rattle.replay.proofs.rest.Tie as tie
 use Rattle.replay.proofs.rest.Reads as reads
 use Rattle.replay.proofs.rest.Lts as lts
 use Rattle.lines.proofs.put_line.Reads as put-line-reads
-use Rattle.records.proofs.u64_at.Reads as u64-at-reads
 use Rattle.reading.proofs.behind.Reads as behind-reads
 use Rattle.replay.proofs.clock_next.Reads as clock-next-reads
 use Rattle.replay.proofs.front_of.Reads as front-of-reads
 use Rattle.replay.proofs.record_cut.Reads as record-cut-reads
 use Rattle.replay.proofs.refused.Reads as refused-reads
 use Rattle.replay.proofs.stops.Reads as stops-reads
+use Rattle.replay.proofs.told_of.Reads as told-of-reads
 use Rattle.replay.proofs.turn.Reads as turn-reads
-use Rattle.records.proofs.widened.Reads as widened-reads
 
 abbrev Inv-loop : tie.InvT-loop
-Inv-loop table₀ marks₀ input out₀ first f capacity delta clock₀ number₀ at₀ n₀ table marks out clock number at n =
+Inv-loop table₀ marks₀ input out₀ first clock₀ number₀ at₀ n₀ table marks out clock number at n =
     Running input out₀ first number at clock n table marks out × (length table ≡ length table₀)
 
 abbrev μ-loop : tie.MeasureT-loop
-μ-loop table₀ marks₀ input out₀ first f capacity delta clock₀ number₀ at₀ n₀ table marks out clock number at n =
+μ-loop table₀ marks₀ input out₀ first clock₀ number₀ at₀ n₀ table marks out clock number at n =
     length input - at
 
-shared-slice-read-widened : tie.Need-shared-slice-read-widened Inv-loop μ-loop
-shared-slice-read-widened c = let h = gp-long _ (c .before .before .before .before .pre .0) in omega arith
-
-widened-requires : tie.Need-widened-requires Inv-loop μ-loop
-widened-requires c κs = search needs
-
-shared-slice-read-widened-2 : tie.Need-shared-slice-read-widened-2 Inv-loop μ-loop
-shared-slice-read-widened-2 c = let h = gp-long _ (c .before .before .before .before .before .before .pre .0) in omega arith
-
-widened-requires-2 : tie.Need-widened-requires-2 Inv-loop μ-loop
-widened-requires-2 c κs = search needs
-
-u64-at-requires : tie.Need-u64-at-requires Inv-loop μ-loop
-u64-at-requires c κs = let h = gp-long _ (c .before .before .before .before .before .before .before .pre .0) in omega arith
-
 loop-holds : tie.Need-loop-holds Inv-loop μ-loop
-loop-holds c = (running-first (c .before .before .before .before .before .before .before .before .pre), refl)
+loop-holds c = (running-first (c .before .before .before .pre), refl)
 
 behind-requires : tie.Need-behind-requires Inv-loop μ-loop
 behind-requires c κs = search needs
@@ -70,11 +54,14 @@ returns c = running-cut (c .before .before .before .before .before .before .befo
 front-of-requires : tie.Need-front-of-requires Inv-loop μ-loop
 front-of-requires c κs = sym (c .before .record-cut .ensures) ∙ c .if1 .left
 
+told-of-requires : tie.Need-told-of-requires Inv-loop μ-loop
+told-of-requires c κs = gp-long _ (c .before .before .before .before .before .before .before .before .before .before .before .pre .0)
+
 turn-requires : tie.Need-turn-requires Inv-loop μ-loop
-turn-requires c κs = let a = c .before .before .front-of .ensures .2 in omega arith
+turn-requires c κs = let a = c .before .before .before .front-of .ensures .2 in omega arith
 
 put-line-requires-2 : tie.Need-put-line-requires-2 Inv-loop μ-loop
-put-line-requires-2 c κs = has-room (c .before .before .before .before .before .before .before .before .before .before .before .loop .inv .0) (c .before .before .before .before .before .before .before .before .before .before .loop-test .taken)
+put-line-requires-2 c κs = has-room (c .before .before .before .before .before .before .before .before .before .before .before .before .loop .inv .0) (c .before .before .before .before .before .before .before .before .before .before .before .loop-test .taken)
 
 stops-requires : tie.Need-stops-requires Inv-loop μ-loop
 stops-requires c κs = search needs
@@ -83,25 +70,25 @@ same-length-3 : tie.Need-same-length-3 Inv-loop μ-loop
 same-length-3 c = search needs
 
 same-length-4 : tie.Need-same-length-4 Inv-loop μ-loop
-same-length-4 c = same-long (c .before .before .before .before .before .before .before .before .before .before .before .before .before .before .before .before .loop .inv .0) (running-stop (c .before .before .before .before .before .before .before .before .before .before .before .before .before .before .before .before .loop .inv .0) (c .before .before .before .before .before .before .before .before .before .before .before .before .before .before .before .loop-test .taken) _ (c .before .before .before .before .before .before .before .before .before .before .before .before .before .before .behind .ensures) _ (c .before .before .before .before .before .before .before .before .before .before .before .before .before .record-cut .ensures) (c .before .before .before .before .before .before .before .before .before .before .before .before .if1 .left) _ (c .before .before .before .before .before .before .before .before .before .before .before .front-of .ensures) _ (config-is _ _ _ _ _ (c .before .before .before .before .before .before .before .before .before .before .before .before .before .before .before .before .before .before .before .before .widened .ensures .0) (c .before .before .before .before .before .before .before .before .before .before .before .before .before .before .before .before .before .before .widened2 .ensures .0) (c .before .before .before .before .before .before .before .before .before .before .before .before .before .before .before .before .before .u64-at .ensures)) _ (c .before .before .before .before .before .before .before .before .turn .ensures .0) _ _ (line-put (c .before .before .before .before .put-line2 .ensures)) (sym (c .before .stops .ensures) ∙ c .if2 .taken))
+same-length-4 c = same-long (c .before .before .before .before .before .before .before .before .before .before .before .before .before .before .before .before .before .loop .inv .0) (running-stop (c .before .before .before .before .before .before .before .before .before .before .before .before .before .before .before .before .before .loop .inv .0) (c .before .before .before .before .before .before .before .before .before .before .before .before .before .before .before .before .loop-test .taken) _ (c .before .before .before .before .before .before .before .before .before .before .before .before .before .before .before .behind .ensures) _ (c .before .before .before .before .before .before .before .before .before .before .before .before .before .before .record-cut .ensures) (c .before .before .before .before .before .before .before .before .before .before .before .before .before .if1 .left) _ (c .before .before .before .before .before .before .before .before .before .before .before .before .front-of .ensures) _ (c .before .before .before .before .before .before .before .before .before .told-of .ensures) _ (c .before .before .before .before .before .before .before .before .turn .ensures .0) _ _ (line-put (c .before .before .before .before .put-line2 .ensures)) (sym (c .before .stops .ensures) ∙ c .if2 .taken))
 
 returns-2 : tie.Need-returns-2 Inv-loop μ-loop
-returns-2 c = running-stop (c .before .before .before .before .before .before .before .before .before .before .before .before .before .before .before .before .loop .inv .0) (c .before .before .before .before .before .before .before .before .before .before .before .before .before .before .before .loop-test .taken) _ (c .before .before .before .before .before .before .before .before .before .before .before .before .before .before .behind .ensures) _ (c .before .before .before .before .before .before .before .before .before .before .before .before .before .record-cut .ensures) (c .before .before .before .before .before .before .before .before .before .before .before .before .if1 .left) _ (c .before .before .before .before .before .before .before .before .before .before .before .front-of .ensures) _ (config-is _ _ _ _ _ (c .before .before .before .before .before .before .before .before .before .before .before .before .before .before .before .before .before .before .before .before .widened .ensures .0) (c .before .before .before .before .before .before .before .before .before .before .before .before .before .before .before .before .before .before .widened2 .ensures .0) (c .before .before .before .before .before .before .before .before .before .before .before .before .before .before .before .before .before .u64-at .ensures)) _ (c .before .before .before .before .before .before .before .before .turn .ensures .0) _ _ (line-put (c .before .before .before .before .put-line2 .ensures)) (sym (c .before .stops .ensures) ∙ c .if2 .taken)
+returns-2 c = running-stop (c .before .before .before .before .before .before .before .before .before .before .before .before .before .before .before .before .before .loop .inv .0) (c .before .before .before .before .before .before .before .before .before .before .before .before .before .before .before .before .loop-test .taken) _ (c .before .before .before .before .before .before .before .before .before .before .before .before .before .before .before .behind .ensures) _ (c .before .before .before .before .before .before .before .before .before .before .before .before .before .before .record-cut .ensures) (c .before .before .before .before .before .before .before .before .before .before .before .before .before .if1 .left) _ (c .before .before .before .before .before .before .before .before .before .before .before .before .front-of .ensures) _ (c .before .before .before .before .before .before .before .before .before .told-of .ensures) _ (c .before .before .before .before .before .before .before .before .turn .ensures .0) _ _ (line-put (c .before .before .before .before .put-line2 .ensures)) (sym (c .before .stops .ensures) ∙ c .if2 .taken)
 
 clock-next-requires : tie.Need-clock-next-requires Inv-loop μ-loop
-clock-next-requires c κs = c .before .before .before .before .before .before .before .before .before .before .before .front-of .ensures .2
+clock-next-requires c κs = c .before .before .before .before .before .before .before .before .before .before .before .before .front-of .ensures .2
 
 add-at : tie.Need-add-at Inv-loop μ-loop
-add-at c = let h = fits (c .before .before .before .before .before .before .before .before .before .before .before .before .before .before .before .before .before .loop .inv .0) (c .before .before .before .before .before .before .before .before .before .before .before .before .before .before .before .before .loop-test .taken) _ (c .before .before .before .before .before .before .before .before .before .before .before .before .before .before .before .behind .ensures) _ (c .before .before .before .before .before .before .before .before .before .before .before .before .before .before .record-cut .ensures) (c .before .before .before .before .before .before .before .before .before .before .before .before .before .if1 .left) _ (c .before .before .before .before .before .before .before .before .before .before .before .before .front-of .ensures) _ (config-is _ _ _ _ _ (c .before .before .before .before .before .before .before .before .before .before .before .before .before .before .before .before .before .before .before .before .before .widened .ensures .0) (c .before .before .before .before .before .before .before .before .before .before .before .before .before .before .before .before .before .before .before .widened2 .ensures .0) (c .before .before .before .before .before .before .before .before .before .before .before .before .before .before .before .before .before .before .u64-at .ensures)) _ (c .before .before .before .before .before .before .before .before .before .turn .ensures .0) _ _ (line-put (c .before .before .before .before .before .put-line2 .ensures)) in let f = c .before .before .before .before .before .before .before .before .before .before .before .before .before .before .before .before .before .loop .inv .0 .few in omega arith
+add-at c = let h = fits (c .before .before .before .before .before .before .before .before .before .before .before .before .before .before .before .before .before .before .loop .inv .0) (c .before .before .before .before .before .before .before .before .before .before .before .before .before .before .before .before .before .loop-test .taken) _ (c .before .before .before .before .before .before .before .before .before .before .before .before .before .before .before .before .behind .ensures) _ (c .before .before .before .before .before .before .before .before .before .before .before .before .before .before .before .record-cut .ensures) (c .before .before .before .before .before .before .before .before .before .before .before .before .before .before .if1 .left) _ (c .before .before .before .before .before .before .before .before .before .before .before .before .before .front-of .ensures) _ (c .before .before .before .before .before .before .before .before .before .before .told-of .ensures) _ (c .before .before .before .before .before .before .before .before .before .turn .ensures .0) _ _ (line-put (c .before .before .before .before .before .put-line2 .ensures)) in let f = c .before .before .before .before .before .before .before .before .before .before .before .before .before .before .before .before .before .before .loop .inv .0 .few in omega arith
 
 add-number : tie.Need-add-number Inv-loop μ-loop
-add-number c = let a = c .before .before .before .before .before .before .before .before .before .before .before .before .before .before .before .before .before .loop .inv .0 .counted in let b = c .before .before .before .before .before .before .before .before .before .before .before .before .before .before .before .before .before .loop .inv .0 .within in let f = c .before .before .before .before .before .before .before .before .before .before .before .before .before .before .before .before .before .loop .inv .0 .few in omega arith
+add-number c = let a = c .before .before .before .before .before .before .before .before .before .before .before .before .before .before .before .before .before .before .loop .inv .0 .counted in let b = c .before .before .before .before .before .before .before .before .before .before .before .before .before .before .before .before .before .before .loop .inv .0 .within in let f = c .before .before .before .before .before .before .before .before .before .before .before .before .before .before .before .before .before .before .loop .inv .0 .few in omega arith
 
 loop-less : tie.Need-loop-less Inv-loop μ-loop
-loop-less c = let a = c .before .before .before .before .before .before .before .before .before .before .before .before .front-of .ensures .2 in let b = c .before .before .before .before .before .before .before .before .before .before .before .before .before .before .before .before .loop-test .taken in omega arith
+loop-less c = let a = c .before .before .before .before .before .before .before .before .before .before .before .before .before .front-of .ensures .2 in let b = c .before .before .before .before .before .before .before .before .before .before .before .before .before .before .before .before .before .loop-test .taken in omega arith
 
 loop-again : tie.Need-loop-again Inv-loop μ-loop
-loop-again c = (running-more (c .before .before .before .before .before .before .before .before .before .before .before .before .before .before .before .before .before .loop .inv .0) (c .before .before .before .before .before .before .before .before .before .before .before .before .before .before .before .before .loop-test .taken) _ (c .before .before .before .before .before .before .before .before .before .before .before .before .before .before .before .behind .ensures) _ (c .before .before .before .before .before .before .before .before .before .before .before .before .before .before .record-cut .ensures) (c .before .before .before .before .before .before .before .before .before .before .before .before .before .if1 .left) _ (c .before .before .before .before .before .before .before .before .before .before .before .before .front-of .ensures) _ (config-is _ _ _ _ _ (c .before .before .before .before .before .before .before .before .before .before .before .before .before .before .before .before .before .before .before .before .before .widened .ensures .0) (c .before .before .before .before .before .before .before .before .before .before .before .before .before .before .before .before .before .before .before .widened2 .ensures .0) (c .before .before .before .before .before .before .before .before .before .before .before .before .before .before .before .before .before .before .u64-at .ensures)) _ (c .before .before .before .before .before .before .before .before .before .turn .ensures .0) _ _ (line-put (c .before .before .before .before .before .put-line2 .ensures)) (sym (c .before .before .stops .ensures) ∙ c .before .if2 .left) _ _ _ (c .clock-next .ensures) (c .before .before .before .before .before .before .before .before .before .turn .ensures .1) (c .before .before .before .before .before .before .before .before .before .turn .ensures .2), search needs)
+loop-again c = (running-more (c .before .before .before .before .before .before .before .before .before .before .before .before .before .before .before .before .before .before .loop .inv .0) (c .before .before .before .before .before .before .before .before .before .before .before .before .before .before .before .before .before .loop-test .taken) _ (c .before .before .before .before .before .before .before .before .before .before .before .before .before .before .before .before .behind .ensures) _ (c .before .before .before .before .before .before .before .before .before .before .before .before .before .before .before .record-cut .ensures) (c .before .before .before .before .before .before .before .before .before .before .before .before .before .before .if1 .left) _ (c .before .before .before .before .before .before .before .before .before .before .before .before .before .front-of .ensures) _ (c .before .before .before .before .before .before .before .before .before .before .told-of .ensures) _ (c .before .before .before .before .before .before .before .before .before .turn .ensures .0) _ _ (line-put (c .before .before .before .before .before .put-line2 .ensures)) (sym (c .before .before .stops .ensures) ∙ c .before .if2 .left) _ _ _ (c .clock-next .ensures) (c .before .before .before .before .before .before .before .before .before .turn .ensures .1) (c .before .before .before .before .before .before .before .before .before .turn .ensures .2), search needs)
 
 same-length-5 : tie.Need-same-length-5 Inv-loop μ-loop
 same-length-5 c = c .before .loop .inv .1
@@ -118,11 +105,6 @@ rest-spec =
     (tie.spec
     Inv-loop
     μ-loop
-    shared-slice-read-widened
-    widened-requires
-    shared-slice-read-widened-2
-    widened-requires-2
-    u64-at-requires
     loop-holds
     behind-requires
     record-cut-requires
@@ -132,6 +114,7 @@ rest-spec =
     same-length-2
     returns
     front-of-requires
+    told-of-requires
     turn-requires
     put-line-requires-2
     stops-requires

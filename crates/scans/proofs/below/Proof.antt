@@ -12,10 +12,10 @@ writes-key-requires : tie.Need-writes-key-requires
 writes-key-requires c κs = search needs
 
 returns : tie.Need-returns
-returns c = c .writes-key .ensures ∙ below-yes (c .before .before .before .before .before .before .before .args .b .now) (c .before .before .before .before .before .before .before .args .p) (omega arith)
+returns c = let a = c .before .before .before .before .before .before .before .before .args in c .writes-key .ensures ∙ below-yes (a .b .now) (a .p) (omega arith)
 
 returns-2 : tie.Need-returns-2
-returns-2 c = below-no (c .before .before .before .before .before .before .args .b .now) (c .before .before .before .before .before .before .args .p) (omega arith)
+returns-2 c = let a = c .before .before .before .before .before .before .before .args in below-no (a .b .now) (a .p) (omega arith)
 
 pub below-spec : {M : Type 1} → statement M
 below-spec = tie.close (tie.spec stamp-of-requires writes-key-requires returns returns-2)

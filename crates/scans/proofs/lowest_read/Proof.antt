@@ -8,7 +8,7 @@ use Rattle.scans.proofs.lowest_read.Statement.{statement}
 use Rattle.scans.proofs.lowest_read.Tie as tie
 
 abbrev Inv-loop : tie.InvT-loop
-Inv-loop b m low₀ j₀ low j = Low (readAt b 12) m low j
+Inv-loop b m low₀ j₀ low j = Low (readAt b 12) m (low .0) j
 
 abbrev μ-loop : tie.MeasureT-loop
 μ-loop b m low₀ j₀ low j = m - j

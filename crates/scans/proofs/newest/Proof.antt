@@ -1,7 +1,7 @@
 use mathlib.Core.Path.{refl}
 use Prim.Native.Nat.{_-_}
 use Rattle.table.specs.Table.{entryAt}
-use Rattle.scans.proofs.Newer.{Newer, newer-begin, newer-more, newer-end}
+use Rattle.scans.proofs.Written.{Newer, newer-begin, newer-more, newer-end}
 use native.Mathlib.Omega.{arith}
 use borrow.Author.Needs.{needs}
 use Rattle.scans.proofs.newest.Statement.{statement}

@@ -1,5 +1,5 @@
 use mathlib.Core.Path.{sym, _∙_}
-use Rattle.scans.proofs.Newer.{next-committed, next-open, next-dead}
+use Rattle.scans.proofs.Written.{next-committed, next-open, next-dead}
 use borrow.Author.Needs.{needs}
 use Rattle.scans.proofs.next.Statement.{statement}
 use Rattle.scans.proofs.next.Tie as tie
@@ -7,20 +7,20 @@ use Rattle.scans.proofs.next.Tie as tie
 shared-slice-read-if1 : tie.Need-shared-slice-read-if1
 shared-slice-read-if1 c = search needs
 
-better-requires : tie.Need-better-requires
-better-requires c κs = search needs
+newer-requires : tie.Need-newer-requires
+newer-requires c κs = search needs
 
 returns : tie.Need-returns
-returns c = let a = c .before .before .before .before .before .before .args in next-committed (a .k .0) (a .s .0) (a .e .now) (a .x) (c .before .if1 .taken) (c .better .ensures)
+returns c = let a = c .before .before .before .before .before .before .args in next-committed (a .k .0) (a .s .0) (a .e .now) (a .x) (c .before .if1 .taken) (c .newer .ensures)
 
 live-requires : tie.Need-live-requires
 live-requires c κs = search needs
 
-better-requires-2 : tie.Need-better-requires-2
-better-requires-2 c κs = search needs
+newer-requires-2 : tie.Need-newer-requires-2
+newer-requires-2 c κs = search needs
 
 returns-2 : tie.Need-returns-2
-returns-2 c = let a = c .before .before .before .before .before .before .before .before .args in next-open (a .k .0) (a .s .0) (a .e .now) (a .x) (c .before .before .before .if1 .left) (sym (c .before .before .live .ensures) ∙ c .before .if2 .taken) (c .better2 .ensures)
+returns-2 c = let a = c .before .before .before .before .before .before .before .before .args in next-open (a .k .0) (a .s .0) (a .e .now) (a .x) (c .before .before .before .if1 .left) (sym (c .before .before .live .ensures) ∙ c .before .if2 .taken) (c .newer2 .ensures)
 
 returns-3 : tie.Need-returns-3
 returns-3 c = let a = c .before .before .before .before .before .before .before .args in next-dead (a .k .0) (a .s .0) (a .e .now) (a .x) (c .before .before .if1 .left) (sym (c .before .live .ensures) ∙ c .if2 .left)
@@ -30,9 +30,9 @@ next-spec =
     tie.close
     (tie.spec
     shared-slice-read-if1
-    better-requires
+    newer-requires
     returns
     live-requires
-    better-requires-2
+    newer-requires-2
     returns-2
     returns-3)

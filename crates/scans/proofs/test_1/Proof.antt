@@ -1,4 +1,4 @@
-use Rattle.scans.proofs.Outcomes.{test1-is}
+use Rattle.rules.specs.Tests.{test1}
 use borrow.Author.Needs.{needs}
 use Rattle.scans.proofs.test_1.Statement.{statement}
 use Rattle.scans.proofs.test_1.Tie as tie
@@ -10,7 +10,8 @@ ahead-requires : tie.Need-ahead-requires
 ahead-requires c κs = search needs
 
 returns : tie.Need-returns
-returns c = let a = c .before .before .before .args in test1-is (a .b .now) (a .clock) (a .delta) (c .before .stamp-of .ensures) (c .ahead .ensures)
+unfolding test1
+returns c = cc
 
 pub test-1-spec : {M : Type 1} → statement M
 test-1-spec = tie.close (tie.spec stamp-of-requires ahead-requires returns)

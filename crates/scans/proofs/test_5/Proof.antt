@@ -3,9 +3,10 @@ use mathlib.Core.List.{[]}
 use Rattle.terms.proofs.Scans.{Rest, found, go, end}
 use Rattle.records.specs.Tx.{writeAt, writesFrom, txOf}
 use Rattle.rules.specs.Bodies.{stampOf, writesOf}
+use Rattle.rules.specs.Table.{boxWith}
 use Rattle.rules.specs.Tests.{test5}
 use Rattle.table.proofs.Bodies.{begin-as}
-use Rattle.scans.specs.Scans.{boxOf, marked}
+use Rattle.scans.specs.Scans.{marked}
 use Rattle.scans.proofs.Outcomes.{marked-yes, marked-no}
 use native.Mathlib.Omega.{arith}
 use borrow.Author.Needs.{needs}
@@ -13,7 +14,7 @@ use Rattle.scans.proofs.test_5.Statement.{statement}
 use Rattle.scans.proofs.test_5.Tie as tie
 
 abbrev Inv-loop : tie.InvT-loop
-Inv-loop marks b s m j₀ j = Rest (marked marks (stampOf b)) (writeAt b (writesFrom b)) m (test5 (boxOf [] marks) b) j
+Inv-loop marks b s m j₀ j = Rest (marked marks (stampOf b)) (writeAt b (writesFrom b)) m (test5 (boxWith [] marks) b) j
 
 abbrev μ-loop : tie.MeasureT-loop
 μ-loop marks b s m j₀ j = m - j
@@ -35,7 +36,7 @@ mark-at-requires : tie.Need-mark-at-requires Inv-loop μ-loop
 mark-at-requires c κs = search needs
 
 returns : tie.Need-returns Inv-loop μ-loop
-returns c = found (c .before .before .before .before .loop .inv) (omega arith) (rw (← c .before .before .write-at .ensures) (marked-yes (c .before .before .before .before .before .before .before .before .before .args .marks .now) (stampOf (c .before .before .before .before .before .before .before .before .before .args .b .now)) (c .before .before .write-at .result) (c .before .mark-at .ensures) (rw (← c .before .before .before .before .before .before .stamp-of .ensures) (c .if1 .taken))))
+returns c = let a = c .before .before .before .before .before .before .before .before .before .before .args in found (c .before .before .before .before .before .loop .inv) (omega arith) (rw (← c .before .before .before .write-at .ensures) (marked-yes (a .marks .now) (stampOf (a .b .now)) (c .before .before .before .write-at .result) (c .before .before .mark-at .ensures) (rw (← c .before .before .before .before .before .before .before .stamp-of .ensures) (c .if1 .taken))))
 
 add-j : tie.Need-add-j Inv-loop μ-loop
 add-j c = search needs
@@ -44,7 +45,7 @@ loop-less : tie.Need-loop-less Inv-loop μ-loop
 loop-less c = search needs
 
 loop-again : tie.Need-loop-again Inv-loop μ-loop
-loop-again c = go (c .before .before .before .before .loop .inv) (omega arith) (rw (← c .before .before .write-at .ensures) (marked-no (c .before .before .before .before .before .before .before .before .before .args .marks .now) (stampOf (c .before .before .before .before .before .before .before .before .before .args .b .now)) (c .before .before .write-at .result) (c .before .mark-at .ensures) (rw (← c .before .before .before .before .before .before .stamp-of .ensures) (c .if1 .left))))
+loop-again c = let a = c .before .before .before .before .before .before .before .before .before .before .args in go (c .before .before .before .before .before .loop .inv) (omega arith) (rw (← c .before .before .before .write-at .ensures) (marked-no (a .marks .now) (stampOf (a .b .now)) (c .before .before .before .write-at .result) (c .before .before .mark-at .ensures) (rw (← c .before .before .before .before .before .before .before .stamp-of .ensures) (c .if1 .left))))
 
 returns-2 : tie.Need-returns-2 Inv-loop μ-loop
 returns-2 c = end (c .before .loop .inv) (omega arith)

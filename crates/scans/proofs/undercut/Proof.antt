@@ -14,10 +14,10 @@ any-below-requires : tie.Need-any-below-requires
 any-below-requires c κs = search needs
 
 returns : tie.Need-returns
-returns c = c .any-below .ensures ∙ under-yes (c .before .before .before .before .before .before .args .a .now) (c .before .before .before .before .before .before .args .b .now) (rw (← c .before .before .before .stamp-of .ensures, ← c .before .before .stamp-of2 .ensures) (c .before .if1 .taken))
+returns c = let a = c .before .before .before .before .before .before .before .before .args in c .any-below .ensures ∙ under-yes (a .a .now) (a .b .now) (rw (← c .before .before .before .before .before .stamp-of .ensures, ← c .before .before .before .before .stamp-of2 .ensures) (c .before .if1 .taken))
 
 returns-2 : tie.Need-returns-2
-returns-2 c = under-no (c .before .before .before .before .before .args .a .now) (c .before .before .before .before .before .args .b .now) (rw (← c .before .before .stamp-of .ensures, ← c .before .stamp-of2 .ensures) (c .if1 .left))
+returns-2 c = let a = c .before .before .before .before .before .before .before .args in under-no (a .a .now) (a .b .now) (rw (← c .before .before .before .before .stamp-of .ensures, ← c .before .before .before .stamp-of2 .ensures) (c .if1 .left))
 
 pub undercut-spec : {M : Type 1} → statement M
 undercut-spec =

@@ -2,17 +2,17 @@ use Prim.Native.Nat.{_-_}
 use Rattle.records.specs.Tx.{writeAt, writesFrom, txOf}
 use Rattle.rules.specs.Bodies.{writesOf}
 use Rattle.rules.specs.Calls.{valueAt}
-use Rattle.scans.proofs.Newer.{First, first-begin, first-found, first-go, first-end}
+use Rattle.scans.proofs.Written.{First, first-begin, first-found, first-go, first-end}
 use native.Mathlib.Omega.{arith}
 use borrow.Author.Needs.{needs}
 use Rattle.scans.proofs.value_of.Statement.{statement}
 use Rattle.scans.proofs.value_of.Tie as tie
 
 abbrev Inv-loop : tie.InvT-loop
-Inv-loop e k m j₀ j = First (k .0) (writeAt e (writesFrom e)) m (valueAt (k .0) (writesOf e)) j
+Inv-loop b k m j₀ j = First (k .0) (writeAt b (writesFrom b)) m (valueAt (k .0) (writesOf b)) j
 
 abbrev μ-loop : tie.MeasureT-loop
-μ-loop e k m j₀ j = m - j
+μ-loop b k m j₀ j = m - j
 
 write-count-requires : tie.Need-write-count-requires Inv-loop μ-loop
 write-count-requires c κs = search needs

@@ -1,4 +1,3 @@
-use Prim.Native.Nat.{_<_}
 use Rattle.sheet.proofs.Sheets.{small-box, after-refused, after-repeat, after-joined}
 use native.Mathlib.Omega.{arith}
 use borrow.Author.Needs.{needs}
@@ -9,19 +8,19 @@ answer-wrong-requires : tie.Need-answer-wrong-requires
 answer-wrong-requires c κs = search needs
 
 returns : tie.Need-returns
-returns c = after-refused _ _ _ _ _ (c .before .answer-wrong .ensures) (c .if1 .taken)
+returns c = after-refused _ _ _ _ (λ e. c .if1 .taken (cc))
 
 on-sheet-requires : tie.Need-on-sheet-requires
-on-sheet-requires c κs = let h : c .before .before .args .number < 26 = small-box _ _ _ _ _ (c .before .answer-wrong .ensures) (c .if1 .left) in omega arith
+on-sheet-requires c κs = omega (arith, small-box _ _ _ _ _ (c .before .answer-wrong .ensures) (c .if1 .left) .0)
 
 returns-2 : tie.Need-returns-2
-returns-2 c = after-repeat _ _ _ _ _ (c .before .before .before .answer-wrong .ensures) (c .before .before .if1 .left) (cc)
+returns-2 c = after-repeat _ _ _ _ (cc) (cc)
 
 join-requires : tie.Need-join-requires
-join-requires c κs = let h : c .before .before .before .before .args .number < 26 = small-box _ _ _ _ _ (c .before .before .before .answer-wrong .ensures) (c .before .before .if1 .left) in (omega arith, cc)
+join-requires c κs = (omega (arith, small-box _ _ _ _ _ (c .before .before .before .answer-wrong .ensures) (c .before .before .if1 .left) .0), cc)
 
 returns-3 : tie.Need-returns-3
-returns-3 c = after-joined _ _ _ _ _ (c .before .before .before .before .answer-wrong .ensures) (c .before .before .before .if1 .left) _ (cc) (c .join .ensures)
+returns-3 c = after-joined _ _ _ _ (cc) _ (cc) (cc)
 
 pub added-spec : {M : Type 1} → statement M
 added-spec =

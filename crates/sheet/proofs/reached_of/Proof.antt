@@ -25,7 +25,7 @@ abort-proof-requires : tie.Need-abort-proof-requires
 abort-proof-requires c κs = search needs
 
 returns : tie.Need-returns
-returns c = reached-votes _ _ (rw (c .before .before .before .before .before .before .before .before .n .ensures) at (c .before .before .before .before .before .before .before .counted .ensures)) (rw (c .before .before .before .before .before .before .before .before .n .ensures) at (c .before .before .before .before .before .before .counted2 .ensures)) (c .before .before .before .before .if1 .taken) (c .before .before .before .commit-list .ensures) (c .before .before .abort-list .ensures) (c .before .commit-proof .ensures) (c .abort-proof .ensures)
+returns c = reached-votes _ _ _ (cc) (cc)
 
 log-proof-requires : tie.Need-log-proof-requires
 log-proof-requires c κs = search needs
@@ -34,7 +34,7 @@ log-proof-requires-2 : tie.Need-log-proof-requires-2
 log-proof-requires-2 c κs = search needs
 
 returns-2 : tie.Need-returns-2
-returns-2 c = reached-logs _ _ (rw (c .before .before .before .before .before .before .n .ensures) at (c .before .before .before .before .before .counted .ensures)) (rw (c .before .before .before .before .before .before .n .ensures) at (c .before .before .before .before .counted2 .ensures)) (c .before .before .if1 .left) (c .before .log-proof .ensures) (c .log-proof2 .ensures)
+returns-2 c = reached-logs _ _ _ (c .before .before .if1 .left) (cc)
 
 pub reached-of-spec : {M : Type 1} → statement M
 reached-of-spec =

@@ -1,5 +1,4 @@
-use Prim.Native.Nat.{_<_, _≤_}
-use Rattle.sheet.proofs.Sheets.{small-group, small-box, reply-refused, reply-repeat, reply-reached}
+use Rattle.sheet.proofs.Sheets.{small-box, reply-refused, reply-repeat, reply-reached}
 use native.Mathlib.Omega.{arith}
 use borrow.Author.Needs.{needs}
 use Rattle.sheet.proofs.reply_to.Statement.{statement}
@@ -12,25 +11,25 @@ of-requires : tie.Need-of-requires
 of-requires c κs = search needs
 
 returns : tie.Need-returns
-returns c = rw (c .of .ensures) (reply-refused _ _ _ _ _ (c .before .before .answer-wrong .ensures) (c .before .if1 .taken))
+returns c = rw (c .of .ensures, c .before .before .answer-wrong .ensures) (reply-refused _ _ _ _ (λ e. c .before .if1 .taken (cc)))
 
 on-sheet-requires : tie.Need-on-sheet-requires
-on-sheet-requires c κs = let h : c .before .before .args .number < 26 = small-box _ _ _ _ _ (c .before .answer-wrong .ensures) (c .if1 .left) in omega arith
+on-sheet-requires c κs = omega (arith, small-box _ _ _ _ _ (c .before .answer-wrong .ensures) (c .if1 .left) .0)
 
 returns-2 : tie.Need-returns-2
-returns-2 c = reply-repeat _ _ _ _ _ (c .before .before .before .answer-wrong .ensures) (c .before .before .if1 .left) (cc)
+returns-2 c = reply-repeat _ _ _ _ (cc) (cc)
 
 join-requires : tie.Need-join-requires
-join-requires c κs = let h : c .before .before .before .before .args .number < 26 = small-box _ _ _ _ _ (c .before .before .before .answer-wrong .ensures) (c .before .before .if1 .left) in (omega arith, cc)
+join-requires c κs = (omega (arith, small-box _ _ _ _ _ (c .before .before .before .answer-wrong .ensures) (c .before .before .if1 .left) .0), cc)
 
 cast-t11 : tie.Need-cast-t11
-cast-t11 c = let h : c .before .before .before .before .before .args .f ≤ 5 = small-group _ _ _ _ _ (c .before .before .before .before .answer-wrong .ensures) (c .before .before .before .if1 .left) in search needs
+cast-t11 c = let g = small-box _ _ _ _ _ (c .before .before .before .before .answer-wrong .ensures) (c .before .before .before .if1 .left) in search needs
 
 reached-of-requires : tie.Need-reached-of-requires
-reached-of-requires c κs = small-group _ _ _ _ _ (c .before .before .before .before .answer-wrong .ensures) (c .before .before .before .if1 .left)
+reached-of-requires c κs = small-box _ _ _ _ _ (c .before .before .before .before .answer-wrong .ensures) (c .before .before .before .if1 .left) .1
 
 returns-3 : tie.Need-returns-3
-returns-3 c = reply-reached _ _ _ _ _ (c .before .before .before .before .before .answer-wrong .ensures) (c .before .before .before .before .if1 .left) _ _ (cc) (c .before .join .ensures) (c .reached-of .ensures)
+returns-3 c = reply-reached _ _ _ _ (cc) _ (cc) (cc)
 
 pub reply-to-spec : {M : Type 1} → statement M
 reply-to-spec =

@@ -1,7 +1,5 @@
-use mathlib.Core.Path.{sym}
+use Rattle.terms.specs.Checks.{when, ifSame, ifLess}
 use Rattle.sheet.specs.Sheets.{sheetDamaged}
-use Rattle.terms.proofs.Checks.{pass, halt, when-no, when-yes, same-no, same-yes, less-no, less-yes}
-use native.Mathlib.Omega.{arith}
 use borrow.Author.Needs.{needs}
 use Rattle.sheet.proofs.sheet_damaged.Statement.{statement}
 use Rattle.sheet.proofs.sheet_damaged.Tie as tie
@@ -9,50 +7,61 @@ use Rattle.sheet.proofs.sheet_damaged.Tie as tie
 n-requires : tie.Need-n-requires
 n-requires c κs = search needs
 
-returns : tie.Need-returns
-unfolding sheetDamaged
-returns c = halt _ _ _ (same-yes _ _ _ (c .if1 .taken)) (omega arith)
+refuse-if-requires : tie.Need-refuse-if-requires
+refuse-if-requires c κs = search needs
 
-returns-2 : tie.Need-returns-2
-unfolding sheetDamaged
-returns-2 c = pass (same-no _ _ _ (c .before .before .if1 .left)) (halt _ _ _ (less-yes _ _ _ (c .if2 .taken)) (omega arith))
+refuse-if-requires-2 : tie.Need-refuse-if-requires-2
+refuse-if-requires-2 c κs = search needs
 
 mask-wide-requires : tie.Need-mask-wide-requires
 mask-wide-requires c κs = search needs
 
-returns-3 : tie.Need-returns-3
-unfolding sheetDamaged
-returns-3 c = pass (same-no _ _ _ (c .before .before .before .before .if1 .left)) (pass (less-no _ _ _ (c .before .before .if2 .left)) (halt _ _ _ (when-yes _ _ (cc)) (omega arith)))
+refuse-if-requires-3 : tie.Need-refuse-if-requires-3
+refuse-if-requires-3 c κs = search needs
 
 mask-wide-requires-2 : tie.Need-mask-wide-requires-2
 mask-wide-requires-2 c κs = search needs
 
-returns-4 : tie.Need-returns-4
-unfolding sheetDamaged
-returns-4 c = pass (same-no _ _ _ (c .before .before .before .before .before .before .if1 .left)) (pass (less-no _ _ _ (c .before .before .before .before .if2 .left)) (pass (when-no _ _ (cc)) (halt _ _ _ (when-yes _ _ (cc)) (omega arith))))
+refuse-if-requires-4 : tie.Need-refuse-if-requires-4
+refuse-if-requires-4 c κs = search needs
 
 both-requires : tie.Need-both-requires
 both-requires c κs = search needs
 
-returns-5 : tie.Need-returns-5
-unfolding sheetDamaged
-returns-5 c = pass (same-no _ _ _ (c .before .before .before .before .before .before .before .before .if1 .left)) (pass (less-no _ _ _ (c .before .before .before .before .before .before .if2 .left)) (pass (when-no _ _ (cc)) (pass (when-no _ _ (cc)) (sym (when-yes _ _ (cc))))))
+refuse-if-requires-5 : tie.Need-refuse-if-requires-5
+refuse-if-requires-5 c κs = search needs
 
-returns-6 : tie.Need-returns-6
-unfolding sheetDamaged
-returns-6 c = pass (same-no _ _ _ (c .before .before .before .before .before .before .before .before .if1 .left)) (pass (less-no _ _ _ (c .before .before .before .before .before .before .if2 .left)) (pass (when-no _ _ (cc)) (pass (when-no _ _ (cc)) (sym (when-no _ _ (cc))))))
+first-requires : tie.Need-first-requires
+first-requires c κs = search needs
+
+first-requires-2 : tie.Need-first-requires-2
+first-requires-2 c κs = search needs
+
+first-requires-3 : tie.Need-first-requires-3
+first-requires-3 c κs = search needs
+
+first-requires-4 : tie.Need-first-requires-4
+first-requires-4 c κs = search needs
+
+returns : tie.Need-returns
+unfolding sheetDamaged when ifSame ifLess
+returns c = cc
 
 pub sheet-damaged-spec : {M : Type 1} → statement M
 sheet-damaged-spec =
     tie.close
     (tie.spec
     n-requires
-    returns
-    returns-2
+    refuse-if-requires
+    refuse-if-requires-2
     mask-wide-requires
-    returns-3
+    refuse-if-requires-3
     mask-wide-requires-2
-    returns-4
+    refuse-if-requires-4
     both-requires
-    returns-5
-    returns-6)
+    refuse-if-requires-5
+    first-requires
+    first-requires-2
+    first-requires-3
+    first-requires-4
+    returns)

@@ -1,5 +1,3 @@
-use Prim.Native.Nat.{_≤_}
-use mathlib.Core.Path.{sym, _∙_}
 use Rattle.sheet.specs.Sheets.{sheetWrong}
 use Rattle.terms.proofs.Checks.{pass, stop}
 use Rattle.terms.proofs.Groups.{group-small}
@@ -15,14 +13,14 @@ unfolding sheetWrong
 returns c = stop _ _ _ (c .before .group-wrong .ensures) (c .if1 .taken)
 
 cast-t5 : tie.Need-cast-t5
-cast-t5 c = let h : c .before .before .args .f ≤ 5 = group-small _ _ (c .before .group-wrong .ensures) (c .if1 .left) .1 in search needs
+cast-t5 c = let g = group-small _ _ (c .before .group-wrong .ensures) (c .if1 .left) in search needs
 
 sheet-damaged-requires : tie.Need-sheet-damaged-requires
 sheet-damaged-requires c κs = group-small _ _ (c .before .group-wrong .ensures) (c .if1 .left) .1
 
 returns-2 : tie.Need-returns-2
 unfolding sheetWrong
-returns-2 c = pass (sym (c .before .before .group-wrong .ensures) ∙ c .before .if1 .left) (c .sheet-damaged .ensures)
+returns-2 c = pass (cc) (cc)
 
 pub sheet-wrong-spec : {M : Type 1} → statement M
 sheet-wrong-spec =

@@ -1,55 +1,59 @@
-use mathlib.Core.Path.{sym, _∙_}
-use Rattle.table.proofs.Bodies.{rows-there}
-use Rattle.steps.proofs.Rules.{dc-full, dc-room, dc-held, dc-differs}
+use mathlib.Core.Path.{sym, _∙_, ap}
+use Rattle.steps.specs.Step.{dcBy}
+use Rattle.steps.proofs.Rules.{dc-rows, dc-same-row, dc-other-row}
+use native.Mathlib.Omega.{arith}
 use borrow.Author.Needs.{needs}
 use Rattle.steps.proofs.dc_proved.Statement.{statement}
 use Rattle.steps.proofs.dc_proved.Tie as tie
+use Rattle.steps.proofs.dc_proved.Reads as reads
+use Rattle.steps.proofs.dc_proved.Lts as lts
+use Rattle.steps.proofs.dc_other.Reads as dc-other-reads
+use Rattle.steps.proofs.dc_same.Reads as dc-same-reads
+use Rattle.steps.proofs.dc_unheld.Reads as dc-unheld-reads
+use Rattle.steps.proofs.look_up.Reads as look-up-reads
 
-place-of-requires : tie.Need-place-of-requires
-place-of-requires c κs = search needs
+look-up-requires : tie.Need-look-up-requires
+look-up-requires c κs = search needs
 
-row-requires : tie.Need-row-requires
-row-requires c κs = search needs
+enum-told : tie.Need-enum-told
+enum-told c = search needs
 
-entry-of-requires : tie.Need-entry-of-requires
-entry-of-requires c κs = search needs
+dc-unheld-requires : tie.Need-dc-unheld-requires
+dc-unheld-requires c κs = search needs
 
-has-body-requires : tie.Need-has-body-requires
-has-body-requires c κs = rw (c .before .row .ensures .0) (rows-there (c .before .before .before .before .before .before .pre .0) (c .before .before .before .place-of .result) (c .before .before .if1 .taken))
+enum-known-held : tie.Need-enum-known-held
+enum-known-held c = search needs
 
 dc-same-requires : tie.Need-dc-same-requires
 dc-same-requires c κs = search needs
 
-returns : tie.Need-returns
-returns c = c .dc-same .ensures ∙ dc-held _ _ _ _ (c .before .before .before .before .before .before .place-of .ensures .0) _ (c .before .before .before .before .row .ensures .0) (c .before .before .before .before .before .if1 .taken) _ _ _ (c .before .before .before .entry-of .ensures) (sym (c .before .if2 .taken) ∙ c .before .before .has-body .ensures)
+enum-known-held-2 : tie.Need-enum-known-held-2
+enum-known-held-2 c = search needs
 
 dc-other-requires : tie.Need-dc-other-requires
 dc-other-requires c κs = search needs
 
+returns : tie.Need-returns
+unfolding dcBy
+returns c marks = c .dc-unheld .ensures _ ∙ dc-rows _ _ _ _ (c .before .before .before .look-up .ensures .0) _ (c .before .enum-told .given .1) _ marks _
+
 returns-2 : tie.Need-returns-2
-returns-2 c = c .dc-other .ensures ∙ dc-differs _ _ _ _ (c .before .before .before .before .before .before .place-of .ensures .0) _ (c .before .before .before .before .row .ensures .0) (c .before .before .before .before .before .if1 .taken) _ _ _ (c .before .before .before .entry-of .ensures) (sym (c .before .if2 .left) ∙ c .before .before .has-body .ensures)
+returns-2 c marks = c .dc-same .ensures (c .before .before .before .before .before .before .before .args .b .now) ∙ dc-same-row (c .before .before .before .before .before .before .before .args .t .now) (c .before .before .before .before .before .before .before .args .n) (c .before .before .before .before .before .before .before .args .b .now) _ (c .before .before .before .before .look-up .ensures .0) _ (c .before .before .before .before .before .before .before .args .told) marks _ (c .before .before .held .given .1)
 
 returns-3 : tie.Need-returns-3
-returns-3 c = dc-full _ _ _ _ (c .before .before .place-of .ensures .0) _ _ (c .before .if1 .left) (c .before .before .place-of .ensures .1) (c .if3 .taken)
-
-dc-new-requires : tie.Need-dc-new-requires
-dc-new-requires c κs = search needs
-
-returns-4 : tie.Need-returns-4
-returns-4 c = c .dc-new .ensures ∙ dc-room _ _ _ _ (c .before .before .before .place-of .ensures .0) _ _ (c .before .before .if1 .left) (c .before .before .before .place-of .ensures .1) (c .before .if3 .left)
+returns-3 c marks = c .dc-other .ensures (c .before .before .before .before .before .before .before .args .b .now) ∙ dc-other-row (c .before .before .before .before .before .before .before .args .t .now) (c .before .before .before .before .before .before .before .args .n) (c .before .before .before .before .before .before .before .args .b .now) _ (c .before .before .before .before .look-up .ensures .0) _ (c .before .before .before .before .before .before .before .args .told) marks _ (c .before .before .held2 .given .1)
 
 pub dc-proved-spec : {M : Type 1} → statement M
 dc-proved-spec =
     tie.close
     (tie.spec
-    place-of-requires
-    row-requires
-    entry-of-requires
-    has-body-requires
+    look-up-requires
+    enum-told
+    dc-unheld-requires
+    enum-known-held
     dc-same-requires
-    returns
+    enum-known-held-2
     dc-other-requires
+    returns
     returns-2
-    returns-3
-    dc-new-requires
-    returns-4)
+    returns-3)

@@ -1,11 +1,19 @@
-use mathlib.Core.Path.{_∙_}
-use Rattle.steps.proofs.Held.{lg-decided, lg-open}
+use mathlib.Core.Path.{sym, _∙_, ap}
+use Rattle.steps.proofs.Entries.{lg-decided, lg-open}
+use native.Mathlib.Omega.{arith}
 use borrow.Author.Needs.{needs}
 use Rattle.steps.proofs.lg_held.Statement.{statement}
 use Rattle.steps.proofs.lg_held.Tie as tie
+use Rattle.steps.proofs.lg_held.Reads as reads
+use Rattle.steps.proofs.lg_held.Lts as lts
+use Rattle.steps.proofs.Step.keep.Reads as keep-reads
+use Rattle.steps.proofs.lg_undecided.Reads as lg-undecided-reads
 
 enum-known-decided : tie.Need-enum-known-decided
 enum-known-decided c = search needs
+
+keep-requires : tie.Need-keep-requires
+keep-requires c κs = search needs
 
 enum-told : tie.Need-enum-told
 enum-told c = search needs
@@ -14,11 +22,12 @@ lg-undecided-requires : tie.Need-lg-undecided-requires
 lg-undecided-requires c κs = search needs
 
 returns : tie.Need-returns
-returns c = lg-decided _ _ _ _ _ (c .before .decided .given .1)
+returns c b = c .keep .ensures ∙ lg-decided _ _ _ _ _ _ (c .before .before .decided .given .1)
 
 returns-2 : tie.Need-returns-2
-returns-2 c = c .lg-undecided .ensures ∙ lg-open _ _ _ _ (c .before .enum-told .given .1)
+returns-2 c b = c .lg-undecided .ensures b ∙ lg-open _ _ _ _ _ (c .before .enum-told .given .1)
 
 pub lg-held-spec : {M : Type 1} → statement M
 lg-held-spec =
-    tie.close (tie.spec enum-known-decided enum-told lg-undecided-requires returns returns-2)
+    tie.close
+    (tie.spec enum-known-decided keep-requires enum-told lg-undecided-requires returns returns-2)

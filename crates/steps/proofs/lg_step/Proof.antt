@@ -1,43 +1,59 @@
-use mathlib.Core.Path.{sym, _∙_}
-use Rattle.table.proofs.Bodies.{rows-there}
-use Rattle.steps.proofs.Rules.{lg-unknown, lg-other, lg-same}
+use mathlib.Core.Path.{sym, _∙_, ap}
+use Rattle.steps.specs.Step.{lgBy}
+use Rattle.steps.proofs.Rules.{lg-looked}
+use native.Mathlib.Omega.{arith}
 use borrow.Author.Needs.{needs}
 use Rattle.steps.proofs.lg_step.Statement.{statement}
 use Rattle.steps.proofs.lg_step.Tie as tie
+use Rattle.steps.proofs.lg_step.Reads as reads
+use Rattle.steps.proofs.lg_step.Lts as lts
+use Rattle.steps.proofs.Step.refuse.Reads as refuse-reads
+use Rattle.steps.proofs.lg_held.Reads as lg-held-reads
+use Rattle.steps.proofs.look_up.Reads as look-up-reads
 
-place-of-requires : tie.Need-place-of-requires
-place-of-requires c κs = search needs
+look-up-requires : tie.Need-look-up-requires
+look-up-requires c κs = search needs
 
-row-requires : tie.Need-row-requires
-row-requires c κs = search needs
+enum-told : tie.Need-enum-told
+enum-told c = search needs
 
-has-body-requires : tie.Need-has-body-requires
-has-body-requires c κs = rw (c .row .ensures .0) (rows-there (c .before .before .before .before .before .pre .0) (c .before .before .place-of .result) (c .before .if1 .taken))
+refuse-requires : tie.Need-refuse-requires
+refuse-requires c κs = search needs
 
-entry-of-requires : tie.Need-entry-of-requires
-entry-of-requires c κs = search needs
+enum-known-held : tie.Need-enum-known-held
+enum-known-held c = search needs
 
 lg-held-requires : tie.Need-lg-held-requires
 lg-held-requires c κs = search needs
 
+enum-told-2 : tie.Need-enum-told-2
+enum-told-2 c = search needs
+
+refuse-requires-2 : tie.Need-refuse-requires-2
+refuse-requires-2 c κs = search needs
+
 returns : tie.Need-returns
-returns c = c .lg-held .ensures ∙ lg-same _ _ _ _ (c .before .before .before .before .before .before .place-of .ensures .0) _ (c .before .before .before .before .row .ensures .0) (c .before .before .before .before .before .if1 .taken) _ _ _ _ (c .before .entry-of .ensures) (sym (c .before .before .if2 .taken) ∙ c .before .before .before .has-body .ensures)
+unfolding lgBy
+returns c marks = c .refuse .ensures ∙ lg-looked _ _ _ (c .before .before .before .look-up .ensures .0) _ (c .before .enum-told .given .1) _ marks _
 
 returns-2 : tie.Need-returns-2
-returns-2 c = lg-other _ _ _ _ (c .before .before .before .before .place-of .ensures .0) _ (c .before .before .row .ensures .0) (c .before .before .before .if1 .taken) _ _ _ (sym (c .if2 .left) ∙ c .before .has-body .ensures)
+returns-2 c marks = c .lg-held .ensures _ ∙ lg-looked _ _ _ (c .before .before .before .before .look-up .ensures .0) _ (c .before .before .held .given .1) _ marks _
 
 returns-3 : tie.Need-returns-3
-returns-3 c = lg-unknown _ _ _ _ (c .before .place-of .ensures .0) _ _ _ (c .if1 .left) (c .before .place-of .ensures .1)
+unfolding lgBy
+returns-3 c marks = c .refuse2 .ensures ∙ lg-looked _ _ _ (c .before .before .before .look-up .ensures .0) _ (c .before .enum-told2 .given .1) _ marks _
 
 pub lg-step-spec : {M : Type 1} → statement M
 lg-step-spec =
     tie.close
     (tie.spec
-    place-of-requires
-    row-requires
-    has-body-requires
-    entry-of-requires
+    look-up-requires
+    enum-told
+    refuse-requires
+    enum-known-held
     lg-held-requires
+    enum-told-2
+    refuse-requires-2
     returns
     returns-2
     returns-3)

@@ -1,7 +1,20 @@
-use Rattle.steps.proofs.Held.{lg-few, lg-log}
+use mathlib.Core.Path.{sym, _∙_, ap}
+use Rattle.rules.specs.Calls.{logAct}
+use Rattle.table.specs.Table.{entryWith, stateIn}
+use Rattle.steps.specs.Step.{changeBy, stepBy}
+use Rattle.steps.proofs.Rules.{lg-few, lg-enough}
+use native.Mathlib.Omega.{arith}
 use borrow.Author.Needs.{needs}
 use Rattle.steps.proofs.lg_unlogged.Statement.{statement}
 use Rattle.steps.proofs.lg_unlogged.Tie as tie
+use Rattle.steps.proofs.lg_unlogged.Reads as reads
+use Rattle.steps.proofs.lg_unlogged.Lts as lts
+use Rattle.steps.proofs.Step.put.Reads as put-reads
+use Rattle.steps.proofs.Step.refuse.Reads as refuse-reads
+use Rattle.steps.proofs.decision_of.Reads as decision-of-reads
+use Rattle.steps.proofs.group_of.Reads as group-of-reads
+use Rattle.steps.proofs.log_need.Reads as log-need-reads
+use Rattle.steps.proofs.tally.Reads as tally-reads
 
 decision-of-requires : tie.Need-decision-of-requires
 decision-of-requires c κs = search needs
@@ -9,15 +22,34 @@ decision-of-requires c κs = search needs
 tally-requires : tie.Need-tally-requires
 tally-requires c κs = search needs
 
+group-of-requires : tie.Need-group-of-requires
+group-of-requires c κs = search needs
+
 log-need-requires : tie.Need-log-need-requires
 log-need-requires c κs = search needs
 
+refuse-requires : tie.Need-refuse-requires
+refuse-requires c κs = search needs
+
 returns : tie.Need-returns
-returns c = lg-few _ _ _ _ _ _ _ (c .before .before .tally .ensures .0) (c .before .before .before .decision-of .ensures) (c .before .log-need .ensures) (c .if1 .taken)
+returns c b = c .refuse .ensures ∙ lg-few _ _ _ _ _ (c .before .before .before .before .tally .ensures .0) (c .before .before .before .before .before .decision-of .ensures) _ _ _ (c .before .before .log-need .ensures ∙ (rw (c .before .before .before .group-of .ensures))) (c .before .if1 .taken)
+
+put-requires : tie.Need-put-requires
+put-requires c κs = search needs
 
 returns-2 : tie.Need-returns-2
-returns-2 c = lg-log _ _ _ _ _ _ _ (c .before .before .tally .ensures .0) (c .before .before .before .decision-of .ensures) (c .before .log-need .ensures) (c .if1 .left)
+unfolding stepBy changeBy logAct stateIn entryWith
+returns-2 c b = c .put .ensures ∙ lg-enough _ _ _ _ _ (c .before .before .before .before .tally .ensures .0) (c .before .before .before .before .before .decision-of .ensures) _ _ _ (c .before .before .log-need .ensures ∙ (rw (c .before .before .before .group-of .ensures))) (c .before .if1 .left)
 
 pub lg-unlogged-spec : {M : Type 1} → statement M
 lg-unlogged-spec =
-    tie.close (tie.spec decision-of-requires tally-requires log-need-requires returns returns-2)
+    tie.close
+    (tie.spec
+    decision-of-requires
+    tally-requires
+    group-of-requires
+    log-need-requires
+    refuse-requires
+    returns
+    put-requires
+    returns-2)

@@ -1,14 +1,27 @@
-use mathlib.Core.Path.{_∙_}
-use Rattle.steps.proofs.Voting.{pr-commit, pr-abort, pr-waiting, pr-unvoted}
+use mathlib.Core.Path.{sym, _∙_, ap}
+use Rattle.steps.proofs.Entries.{pr-commit, pr-abort, pr-waiting, pr-unvoted}
+use native.Mathlib.Omega.{arith}
 use borrow.Author.Needs.{needs}
 use Rattle.steps.proofs.pr_undecided.Statement.{statement}
 use Rattle.steps.proofs.pr_undecided.Tie as tie
+use Rattle.steps.proofs.pr_undecided.Reads as reads
+use Rattle.steps.proofs.pr_undecided.Lts as lts
+use Rattle.scans.proofs.first_vote.Reads as first-vote-reads
+use Rattle.scans.proofs.waiting_rule.Reads as waiting-rule-reads
+use Rattle.steps.proofs.Step.keep.Reads as keep-reads
+use Rattle.steps.proofs.cast.Reads as cast-reads
 
 enum-told : tie.Need-enum-told
 enum-told c = search needs
 
+keep-requires : tie.Need-keep-requires
+keep-requires c κs = search needs
+
 enum-told-2 : tie.Need-enum-told-2
 enum-told-2 c = search needs
+
+keep-requires-2 : tie.Need-keep-requires-2
+keep-requires-2 c κs = search needs
 
 enum-told-3 : tie.Need-enum-told-3
 enum-told-3 c = search needs
@@ -29,23 +42,25 @@ cast-requires-2 : tie.Need-cast-requires-2
 cast-requires-2 c κs = search needs
 
 returns : tie.Need-returns
-returns c = pr-commit _ _ _ _ _ (c .enum-told .given .1)
+returns c = c .keep .ensures ∙ pr-commit _ _ _ _ _ _ (c .before .enum-told .given .1)
 
 returns-2 : tie.Need-returns-2
-returns-2 c = pr-abort _ _ _ _ _ _ (c .enum-told2 .given .1)
+returns-2 c = c .keep2 .ensures ∙ pr-abort _ _ _ _ _ _ _ (c .before .enum-told2 .given .1)
 
 returns-3 : tie.Need-returns-3
-returns-3 c = c .cast .ensures ∙ pr-waiting _ _ _ _ _ _ (c .before .before .enum-told3 .given .1) (c .before .waiting-rule .ensures)
+returns-3 c = c .cast .ensures ∙ pr-waiting _ _ _ _ _ _ _ (c .before .before .enum-told3 .given .1) (c .before .waiting-rule .ensures)
 
 returns-4 : tie.Need-returns-4
-returns-4 c = c .cast2 .ensures ∙ pr-unvoted _ _ _ _ _ _ (c .before .before .enum-told4 .given .1) (c .before .first-vote .ensures)
+returns-4 c = c .cast2 .ensures ∙ pr-unvoted _ _ _ _ _ _ _ (c .before .before .enum-told4 .given .1) (c .before .first-vote .ensures)
 
 pub pr-undecided-spec : {M : Type 1} → statement M
 pr-undecided-spec =
     tie.close
     (tie.spec
     enum-told
+    keep-requires
     enum-told-2
+    keep-requires-2
     enum-told-3
     waiting-rule-requires
     cast-requires

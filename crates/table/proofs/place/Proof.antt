@@ -2,7 +2,8 @@ use Prim.Native.Nat.{_+_, _-_}
 use mathlib.Core.Path.{sym, _∙_}
 use Rattle.terms.specs.Choice.{tab}
 use Rattle.table.specs.Table.{entryAt, place}
-use Rattle.table.proofs.Looking.{Seek, seek-begin, place-found, place-go, place-next, stamp-there}
+use Rattle.table.proofs.Bodies.{row-fits}
+use Rattle.table.proofs.Looking.{Seek, seek-begin, place-found, place-go, place-next}
 use native.Mathlib.Omega.{arith}
 use borrow.Author.Needs.{needs}
 use Rattle.table.proofs.place.Statement.{statement}
@@ -25,7 +26,7 @@ sub-loop : tie.Need-sub-loop Inv-loop μ-loop
 sub-loop c = search needs
 
 has-stamp-requires : tie.Need-has-stamp-requires Inv-loop μ-loop
-has-stamp-requires c κs = stamp-there (c .before .before .before .pre) (c .before .loop .at) (omega arith)
+has-stamp-requires c κs = row-fits (c .before .before .before .pre) (c .before .loop .at) (omega arith)
 
 returns : tie.Need-returns Inv-loop μ-loop
 returns c = let t = c .before .before .before .before .before .args .t .now in (place-found t (c .before .before .before .loop .inv) (omega arith) (sym (c .before .has-stamp .ensures) ∙ c .if1 .taken), omega arith)
@@ -34,7 +35,7 @@ add-has-stamp : tie.Need-add-has-stamp Inv-loop μ-loop
 add-has-stamp c = search needs
 
 has-stamp-requires-2 : tie.Need-has-stamp-requires-2 Inv-loop μ-loop
-has-stamp-requires-2 c κs = stamp-there (c .before .before .before .before .before .pre) (c .before .before .before .loop .at + 1) (omega arith)
+has-stamp-requires-2 c κs = row-fits (c .before .before .before .before .before .pre) (c .before .before .before .loop .at + 1) (omega arith)
 
 add-result : tie.Need-add-result Inv-loop μ-loop
 add-result c = search needs
@@ -46,7 +47,7 @@ add-has-stamp-2 : tie.Need-add-has-stamp-2 Inv-loop μ-loop
 add-has-stamp-2 c = search needs
 
 has-stamp-requires-3 : tie.Need-has-stamp-requires-3 Inv-loop μ-loop
-has-stamp-requires-3 c κs = stamp-there (c .before .before .before .before .before .before .before .pre) (c .before .before .before .before .before .loop .at + 2) (omega arith)
+has-stamp-requires-3 c κs = row-fits (c .before .before .before .before .before .before .before .pre) (c .before .before .before .before .before .loop .at + 2) (omega arith)
 
 add-result-2 : tie.Need-add-result-2 Inv-loop μ-loop
 add-result-2 c = search needs
@@ -58,7 +59,7 @@ add-has-stamp-3 : tie.Need-add-has-stamp-3 Inv-loop μ-loop
 add-has-stamp-3 c = search needs
 
 has-stamp-requires-4 : tie.Need-has-stamp-requires-4 Inv-loop μ-loop
-has-stamp-requires-4 c κs = stamp-there (c .before .before .before .before .before .before .before .before .before .pre) (c .before .before .before .before .before .before .before .loop .at + 3) (omega arith)
+has-stamp-requires-4 c κs = row-fits (c .before .before .before .before .before .before .before .before .before .pre) (c .before .before .before .before .before .before .before .loop .at + 3) (omega arith)
 
 add-result-3 : tie.Need-add-result-3 Inv-loop μ-loop
 add-result-3 c = search needs

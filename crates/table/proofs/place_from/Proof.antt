@@ -2,7 +2,8 @@ use Prim.Native.Nat.{_+_, _-_}
 use mathlib.Core.Path.{sym, _∙_}
 use Rattle.terms.specs.Choice.{tab}
 use Rattle.table.specs.Table.{entryAt, place}
-use Rattle.table.proofs.Looking.{Seek, seek-from, seek-end, place-found, place-go, stamp-there}
+use Rattle.table.proofs.Bodies.{row-fits}
+use Rattle.table.proofs.Looking.{Seek, seek-from, seek-end, place-found, place-go}
 use native.Mathlib.Omega.{arith}
 use borrow.Author.Needs.{needs}
 use Rattle.table.proofs.place_from.Statement.{statement}
@@ -21,7 +22,7 @@ loop-holds : tie.Need-loop-holds Inv-loop μ-loop
 loop-holds c = seek-from (omega arith)
 
 has-stamp-requires : tie.Need-has-stamp-requires Inv-loop μ-loop
-has-stamp-requires c κs = stamp-there (c .before .before .before .pre .0) (c .before .loop .at) (omega arith)
+has-stamp-requires c κs = row-fits (c .before .before .before .pre .0) (c .before .loop .at) (omega arith)
 
 returns : tie.Need-returns Inv-loop μ-loop
 returns c = (place-found (c .before .before .before .before .before .args .t .now) (c .before .before .before .loop .inv) (omega arith) (sym (c .before .has-stamp .ensures) ∙ c .if1 .taken), omega arith)

@@ -7,19 +7,19 @@ use Rattle.table.proofs.put_body.Statement.{statement}
 use Rattle.table.proofs.put_body.Tie as tie
 
 abbrev Inv-loop : tie.InvT-loop
-Inv-loop e₀ body i₀ e i = Copied e₀ body e i
+Inv-loop s₀ body i₀ s i = Copied s₀ body s i
 
 abbrev μ-loop : tie.MeasureT-loop
-μ-loop e₀ body i₀ e i = length body - i
+μ-loop s₀ body i₀ s i = length body - i
 
 loop-holds : tie.Need-loop-holds Inv-loop μ-loop
 loop-holds c = copy-none (c .pre)
 
-shared-slice-read-e : tie.Need-shared-slice-read-e Inv-loop μ-loop
-shared-slice-read-e c = search needs
+shared-slice-read-s : tie.Need-shared-slice-read-s Inv-loop μ-loop
+shared-slice-read-s c = search needs
 
-slice-write-e : tie.Need-slice-write-e Inv-loop μ-loop
-slice-write-e c = search needs
+slice-write-s : tie.Need-slice-write-s Inv-loop μ-loop
+slice-write-s c = search needs
 
 add-i : tie.Need-add-i Inv-loop μ-loop
 add-i c = search needs
@@ -43,8 +43,8 @@ put-body-spec =
     Inv-loop
     μ-loop
     loop-holds
-    shared-slice-read-e
-    slice-write-e
+    shared-slice-read-s
+    slice-write-s
     add-i
     loop-less
     loop-again

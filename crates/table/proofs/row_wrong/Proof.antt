@@ -1,59 +1,65 @@
 use mathlib.Core.Path.{sym, _∙_}
 use Rattle.terms.proofs.Checks.{pass, stop, halt, less-no, less-yes}
 use Rattle.table.specs.Table.{rowWrong}
+use Rattle.table.proofs.Bodies.{reads-at, writes-at}
 use native.Mathlib.Omega.{arith}
 use borrow.Author.Needs.{needs}
 use Rattle.table.proofs.row_wrong.Statement.{statement}
 use Rattle.table.proofs.row_wrong.Tie as tie
-use Rattle.table.proofs.row_wrong.Reads as reads
-use Rattle.table.proofs.row_wrong.Lts as lts
-use Rattle.table.proofs.vote_wrong.Reads as vote-wrong-reads
+
+add-if1 : tie.Need-add-if1
+add-if1 c = search needs
 
 shared-slice-read-if1 : tie.Need-shared-slice-read-if1
 shared-slice-read-if1 c = search needs
 
 returns : tie.Need-returns
 unfolding rowWrong
-returns c = halt _ _ _ (less-yes _ _ _ (c .if1 .taken)) (omega arith)
+returns c = rw (reads-at (c .before .before .before .args .e .now)) (halt _ _ _ (less-yes _ _ _ (c .if1 .taken)) (omega arith))
+
+add-if2 : tie.Need-add-if2
+add-if2 c = search needs
 
 shared-slice-read-if2 : tie.Need-shared-slice-read-if2
 shared-slice-read-if2 c = search needs
 
 returns-2 : tie.Need-returns-2
 unfolding rowWrong
-returns-2 c = pass (less-no _ _ _ (c .before .before .if1 .left)) (halt _ _ _ (less-yes _ _ _ (c .if2 .taken)) (omega arith))
+returns-2 c = rw (reads-at (c .before .before .before .before .before .args .e .now), writes-at (c .before .before .before .before .before .args .e .now)) (pass (less-no _ _ _ (c .before .before .if1 .left)) (halt _ _ _ (less-yes _ _ _ (c .if2 .taken)) (omega arith)))
 
 vote-wrong-requires : tie.Need-vote-wrong-requires
 vote-wrong-requires c κs = search needs
 
 returns-3 : tie.Need-returns-3
 unfolding rowWrong
-returns-3 c = pass (less-no _ _ _ (c .before .before .before .before .if1 .left)) (pass (less-no _ _ _ (c .before .before .if2 .left)) (stop _ _ _ (c .before .vote-wrong .ensures) (c .if3 .taken)))
+returns-3 c = rw (reads-at (c .before .before .before .before .before .before .before .args .e .now), writes-at (c .before .before .before .before .before .before .before .args .e .now)) (pass (less-no _ _ _ (c .before .before .before .before .if1 .left)) (pass (less-no _ _ _ (c .before .before .if2 .left)) (stop _ _ _ (c .before .vote-wrong .ensures) (c .if3 .taken))))
 
 shared-slice-read-if4 : tie.Need-shared-slice-read-if4
 shared-slice-read-if4 c = search needs
 
 returns-4 : tie.Need-returns-4
 unfolding rowWrong
-returns-4 c = pass (less-no _ _ _ (c .before .before .before .before .before .before .if1 .left)) (pass (less-no _ _ _ (c .before .before .before .before .if2 .left)) (pass (sym (c .before .before .before .vote-wrong .ensures) ∙ c .before .before .if3 .left) (halt _ _ _ (less-yes _ _ _ (c .if4 .taken)) (omega arith))))
+returns-4 c = rw (reads-at (c .before .before .before .before .before .before .before .before .before .args .e .now), writes-at (c .before .before .before .before .before .before .before .before .before .args .e .now)) (pass (less-no _ _ _ (c .before .before .before .before .before .before .if1 .left)) (pass (less-no _ _ _ (c .before .before .before .before .if2 .left)) (pass (sym (c .before .before .before .vote-wrong .ensures) ∙ c .before .before .if3 .left) (halt _ _ _ (less-yes _ _ _ (c .if4 .taken)) (omega arith)))))
 
 shared-slice-read-if5 : tie.Need-shared-slice-read-if5
 shared-slice-read-if5 c = search needs
 
 returns-5 : tie.Need-returns-5
 unfolding rowWrong
-returns-5 c = pass (less-no _ _ _ (c .before .before .before .before .before .before .before .before .if1 .left)) (pass (less-no _ _ _ (c .before .before .before .before .before .before .if2 .left)) (pass (sym (c .before .before .before .before .before .vote-wrong .ensures) ∙ c .before .before .before .before .if3 .left) (pass (less-no _ _ _ (c .before .before .if4 .left)) (sym (less-yes _ _ _ (c .if5 .taken))))))
+returns-5 c = rw (reads-at (c .before .before .before .before .before .before .before .before .before .before .before .args .e .now), writes-at (c .before .before .before .before .before .before .before .before .before .before .before .args .e .now)) (pass (less-no _ _ _ (c .before .before .before .before .before .before .before .before .if1 .left)) (pass (less-no _ _ _ (c .before .before .before .before .before .before .if2 .left)) (pass (sym (c .before .before .before .before .before .vote-wrong .ensures) ∙ c .before .before .before .before .if3 .left) (pass (less-no _ _ _ (c .before .before .if4 .left)) (sym (less-yes _ _ _ (c .if5 .taken)))))))
 
 returns-6 : tie.Need-returns-6
 unfolding rowWrong
-returns-6 c = pass (less-no _ _ _ (c .before .before .before .before .before .before .before .before .if1 .left)) (pass (less-no _ _ _ (c .before .before .before .before .before .before .if2 .left)) (pass (sym (c .before .before .before .before .before .vote-wrong .ensures) ∙ c .before .before .before .before .if3 .left) (pass (less-no _ _ _ (c .before .before .if4 .left)) (sym (less-no _ _ _ (c .if5 .left))))))
+returns-6 c = rw (reads-at (c .before .before .before .before .before .before .before .before .before .before .before .args .e .now), writes-at (c .before .before .before .before .before .before .before .before .before .before .before .args .e .now)) (pass (less-no _ _ _ (c .before .before .before .before .before .before .before .before .if1 .left)) (pass (less-no _ _ _ (c .before .before .before .before .before .before .if2 .left)) (pass (sym (c .before .before .before .before .before .vote-wrong .ensures) ∙ c .before .before .before .before .if3 .left) (pass (less-no _ _ _ (c .before .before .if4 .left)) (sym (less-no _ _ _ (c .if5 .left)))))))
 
 pub row-wrong-spec : {M : Type 1} → statement M
 row-wrong-spec =
     tie.close
     (tie.spec
+    add-if1
     shared-slice-read-if1
     returns
+    add-if2
     shared-slice-read-if2
     returns-2
     vote-wrong-requires

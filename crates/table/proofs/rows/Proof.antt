@@ -1,6 +1,7 @@
 use Prim.Native.Nat.{_-_}
 use lib.ListN.{length, length-drop, drop}
 use lib.Seq.{take-all}
+use Rattle.table.specs.Table.{headLen}
 use native.Mathlib.Omega.{arith}
 use borrow.Author.Needs.{needs}
 use Rattle.table.proofs.rows.Statement.{statement}
@@ -16,7 +17,7 @@ part-result-end : tie.Need-part-result-end
 part-result-end c = search needs
 
 returns : tie.Need-returns
-returns c = take-all (length (c .before .args .t .now) - 1) (drop 1 (c .before .args .t .now)) (simp length-drop (omega arith))
+returns c = take-all (length (c .before .args .t .now) - headLen) (drop headLen (c .before .args .t .now)) (simp length-drop (omega arith))
 
 pub rows-spec : {M : Type 1} → statement M
 rows-spec = tie.close (tie.spec sub-result part-result-start part-result-end returns)

@@ -1,5 +1,6 @@
 use Rattle.table.specs.Table.{stored}
 use native.Mathlib.Nat.{add-sub-cancel-left}
+use native.Mathlib.Omega.{arith}
 use borrow.Author.Needs.{needs}
 use Rattle.table.proofs.store.Statement.{statement}
 use Rattle.table.proofs.store.Tie as tie
@@ -28,18 +29,6 @@ part-put-row-start c = search needs
 part-put-row-end : tie.Need-part-put-row-end
 part-put-row-end c = search needs
 
-number-requires : tie.Need-number-requires
-number-requires c κs = search needs
-
-reason-requires : tie.Need-reason-requires
-reason-requires c κs = search needs
-
-settled-code-requires : tie.Need-settled-code-requires
-settled-code-requires c κs = search needs
-
-settled-code-requires-2 : tie.Need-settled-code-requires-2
-settled-code-requires-2 c κs = search needs
-
 put-row-requires : tie.Need-put-row-requires
 put-row-requires c κs = search needs
 
@@ -51,7 +40,7 @@ same-length c = search needs
 
 returns : tie.Need-returns
 unfolding stored
-returns c = rw (c .before .before .put-row .ensures, add-sub-cancel-left, c .before .before .before .before .before .before .before .before .new-count .ensures, c .before .before .before .before .before .before .number .ensures, c .before .before .before .before .before .reason .ensures, c .before .before .before .before .settled-code .ensures, c .before .before .before .settled-code2 .ensures)
+returns c = rw (c .before .before .put-row .ensures, add-sub-cancel-left, c .before .before .before .before .new-count .ensures)
 
 pub store-spec : {M : Type 1} → statement M
 store-spec =
@@ -65,10 +54,6 @@ store-spec =
     sub-put-row
     part-put-row-start
     part-put-row-end
-    number-requires
-    reason-requires
-    settled-code-requires
-    settled-code-requires-2
     put-row-requires
     slice-write-t
     same-length

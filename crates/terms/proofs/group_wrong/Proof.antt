@@ -1,21 +1,22 @@
-use mathlib.Core.Path.{sym}
+use Rattle.terms.specs.Checks.{when, ifLess}
 use Rattle.terms.specs.Group.{groupWrong}
-use Rattle.terms.proofs.Checks.{pass, halt, less-no, less-yes}
-use native.Mathlib.Omega.{arith}
+use borrow.Author.Needs.{needs}
 use Rattle.terms.proofs.group_wrong.Statement.{statement}
 use Rattle.terms.proofs.group_wrong.Tie as tie
 
+refuse-if-requires : tie.Need-refuse-if-requires
+refuse-if-requires c κs = search needs
+
+refuse-if-requires-2 : tie.Need-refuse-if-requires-2
+refuse-if-requires-2 c κs = search needs
+
+first-requires : tie.Need-first-requires
+first-requires c κs = search needs
+
 returns : tie.Need-returns
-unfolding groupWrong
-returns c = halt _ _ _ (less-yes _ _ _ (omega arith)) (omega arith)
-
-returns-2 : tie.Need-returns-2
-unfolding groupWrong
-returns-2 c = pass (less-no _ _ _ (omega arith)) (sym (less-yes _ _ _ (omega arith)))
-
-returns-3 : tie.Need-returns-3
-unfolding groupWrong
-returns-3 c = pass (less-no _ _ _ (omega arith)) (sym (less-no _ _ _ (omega arith)))
+unfolding groupWrong when ifLess
+returns c = cc
 
 pub group-wrong-spec : {M : Type 1} → statement M
-group-wrong-spec = tie.close (tie.spec returns returns-2 returns-3)
+group-wrong-spec =
+    tie.close (tie.spec refuse-if-requires refuse-if-requires-2 first-requires returns)

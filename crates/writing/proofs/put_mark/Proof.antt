@@ -1,35 +1,24 @@
-use Rattle.records.proofs.Bytes.{sets-all}
-use lib.ListN.{getD}
-use mathlib.Core.List.{[], _∷_}
+use Rattle.writing.proofs.Laid.{puts-as}
+use Rattle.records.specs.Cutting.{markPR, markLG, markDC, markRD}
 use borrow.Author.Needs.{needs}
 use Rattle.writing.proofs.put_mark.Statement.{statement}
 use Rattle.writing.proofs.put_mark.Tie as tie
 
-element-copy-out-s : tie.Need-element-copy-out-s
-element-copy-out-s c = search needs
-
-slice-write-s : tie.Need-slice-write-s
-slice-write-s c = search needs
-
-element-copy-out-s-2 : tie.Need-element-copy-out-s-2
-element-copy-out-s-2 c = search needs
-
-slice-write-s-2 : tie.Need-slice-write-s-2
-slice-write-s-2 c = search needs
-
-same-length : tie.Need-same-length
-same-length c = search needs
-
 returns : tie.Need-returns
-returns c = sets-all (c .before .before .args .s .now) (getD (c .before .before .args .mark .now) 0 0 ∷ getD (c .before .before .args .mark .now) 1 0 ∷ []) (c .before .before .pre)
+returns c = (puts-as {p = markPR} (cc) (search needs), search needs)
+
+returns-2 : tie.Need-returns-2
+returns-2 c = (puts-as {p = markLG} (cc) (search needs), search needs)
+
+returns-3 : tie.Need-returns-3
+returns-3 c = (puts-as {p = markDC} (cc) (search needs), search needs)
+
+returns-4 : tie.Need-returns-4
+returns-4 c = (puts-as {p = markRD} (cc) (search needs), search needs)
 
 pub put-mark-spec : {M : Type 1} → statement M
 put-mark-spec =
     tie.close
-    (tie.spec
-    element-copy-out-s
-    slice-write-s
-    element-copy-out-s-2
-    slice-write-s-2
-    same-length
-    returns)
+    (tie.spec (λ c. search needs) (λ c κs. search needs) (λ c. search needs) (λ c κs. search needs) (λ c. search needs)
+    (λ c κs. search needs) (λ c. search needs) (λ c κs. search needs) (λ c. search needs) returns (λ c. search needs)
+    returns-2 (λ c. search needs) returns-3 (λ c. search needs) returns-4)

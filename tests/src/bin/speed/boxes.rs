@@ -1,9 +1,8 @@
 //! The three boxes that are timed: the engine, the model's own box, and the flat one.
 
 use crate::flat;
-use crate::model::{self, Answer, Settings, Store};
-
-const ROW: usize = 176;
+use crate::model::{self, row_at, Answer, Settings, Store, MARKS};
+use stobbarel::layout::{DECIDED_AT, LOG_AT};
 
 #[allow(improper_ctypes, clashing_extern_declarations)]
 extern "C" {
@@ -34,12 +33,12 @@ pub struct Lent {
 impl Lent {
     #[inline(always)]
     fn undo(&mut self, undo: Undo) {
-        let end = 1 + ROW * self.table[0] as usize;
+        let last = row_at(self.table[0] as usize - 1);
         match undo {
             Undo::Nothing => {}
             Undo::Entry => self.table[0] -= 1,
-            Undo::Log => self.table[end - 2] = 0,
-            Undo::Decision => self.table[end - 1] = 0,
+            Undo::Log => self.table[last + LOG_AT] = 0,
+            Undo::Decision => self.table[last + DECIDED_AT] = 0,
             Undo::Mark(key) => self.marks[key] = 0,
         }
     }
@@ -99,7 +98,7 @@ impl Timed for Own {
 
     #[inline(always)]
     fn call(&mut self, settings: &Settings, message: &[u8]) -> Answer {
-        match model::read_message(message, settings, &[b"PR", b"LG", b"DC", b"RD"], model::PAPER) {
+        match model::read_message(message, settings, &MARKS, model::PAPER) {
             Ok(read) => self.0.act(read, settings),
             Err(number) => Answer::Refused(number),
         }

@@ -1,11 +1,11 @@
 //! The calls that are timed, and the tables they are made on: entries as they come from votes and decisions.
 
 use crate::boxes::{Lent, Undo};
-use crate::model::{self, entries_of, transaction_bytes, Answer, Decision, Entry, Settings, Transaction};
+use crate::model::{self, entries_of, transaction_bytes, Answer, Decision, Entry, Settings, Transaction, MARKS};
 use crate::random::Random;
+use stobbarel::layout::table_len;
 
 pub const SETTINGS: Settings = Settings { f: 5, capacity: 255, clock: 1_000_000, delta: 1000 };
-const ROW: usize = 176;
 /// Entry i has stamp FIRST + STEP * i.
 const FIRST: u64 = 1000;
 const STEP: u64 = 10;
@@ -95,8 +95,7 @@ fn listed(mark: &[u8; 2], tx: &Transaction, decision: u8) -> Vec<u8> {
 }
 
 fn send(lent: &mut Lent, message: &[u8]) -> Answer {
-    let due: [&[u8; 2]; 4] = [b"PR", b"LG", b"DC", b"RD"];
-    model::call(&mut lent.table, &mut lent.marks, &SETTINGS, message, &due, &mut Vec::new())
+    model::call(&mut lent.table, &mut lent.marks, &SETTINGS, message, &MARKS, &mut Vec::new())
 }
 
 fn held(lent: &Lent) -> Vec<Entry> {
@@ -105,7 +104,7 @@ fn held(lent: &Lent) -> Vec<Entry> {
 
 /// So many entries, each with so many reads and writes: of sixteen, eleven committed, one aborted, four undecided with vote commit.
 fn filled(random: &mut Random, count: usize, many: usize) -> Lent {
-    let mut lent = Lent { table: vec![0; 1 + 255 * ROW], marks: vec![0; 512] };
+    let mut lent = Lent { table: vec![0; table_len(255)], marks: vec![0; 512] };
     for i in 0..count {
         let tx = body(random, &held(&lent), FIRST + STEP * i as u64, many);
         assert_eq!(send(&mut lent, &prepared(&tx)), Answer::Commit);

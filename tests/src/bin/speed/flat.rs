@@ -1,12 +1,7 @@
 //! The paper's rules over the lent table itself, in ordinary Rust that copies and allocates nothing: what the engine does, unproved.
 
-use crate::model::{Answer, Decision, Settings, THRESHOLDS};
-
-const ROW: usize = 176;
-const VOTE: usize = 172;
-const REASON: usize = 173;
-const LOG: usize = 174;
-const DECISION: usize = 175;
+use crate::model::{row_at, Answer, Decision, Settings, THRESHOLDS};
+use stobbarel::layout::{table_len, BODY_AT, DECIDED_AT, HEAD, LOG_AT, REASON_AT, ROW, VOTE_AT};
 
 fn u64_at(bytes: &[u8], at: usize) -> u64 {
     u64::from_le_bytes(bytes[at..at + 8].try_into().expect("eight bytes"))
@@ -17,7 +12,7 @@ fn pair(bytes: &[u8]) -> (u16, u64) {
     (u16::from_le_bytes([bytes[0], bytes[1]]), u64_at(bytes, 2))
 }
 
-/// A TX, at the front of a row or inside a message.
+/// A TX, in a row or inside a message.
 #[derive(Clone, Copy)]
 struct Body<'a>(&'a [u8]);
 
@@ -43,26 +38,50 @@ impl<'a> Body<'a> {
     }
 }
 
+const NONE: u8 = 0;
+const COMMIT: u8 = 1;
+const ABORT: u8 = 2;
+const WAITING: u8 = 3;
+
+/// What stands in a row beside the body.
+#[derive(Clone, Copy)]
+struct Codes {
+    vote: u8,
+    reason: u8,
+    log: u8,
+    decided: u8,
+}
+
 /// A row of the table.
 #[derive(Clone, Copy)]
 struct Row<'a>(&'a [u8; ROW]);
 
 impl<'a> Row<'a> {
     fn body(self) -> Body<'a> {
-        Body(self.0)
+        Body(&self.0[BODY_AT..])
+    }
+
+    fn codes(self) -> Codes {
+        Codes { vote: self.0[VOTE_AT], reason: self.0[REASON_AT], log: self.0[LOG_AT], decided: self.0[DECIDED_AT] }
     }
 
     fn same(self, tx: Body) -> bool {
-        self.0[..self.body().length()] == *tx.0
+        let body = self.body();
+        body.0[..body.length()] == *tx.0
     }
 
     fn in_order(self) -> bool {
-        let reason = if self.0[VOTE] == 3 { (1..=6).contains(&self.0[REASON]) } else { self.0[REASON] == 0 };
-        self.0[2] <= 8 && self.0[3] <= 8 && self.0[VOTE] <= 3 && reason && self.0[LOG] <= 2 && self.0[DECISION] <= 2
+        let (codes, counts) = (self.codes(), &self.0[BODY_AT + 2..BODY_AT + 4]);
+        let reason = if codes.vote == ABORT { (1..=6).contains(&codes.reason) } else { codes.reason == 0 };
+        counts[0] <= 8 && counts[1] <= 8 && codes.vote <= WAITING && reason && codes.log <= 2 && codes.decided <= 2
+    }
+
+    fn decided(self) -> u8 {
+        self.0[DECIDED_AT]
     }
 
     fn live(self) -> bool {
-        self.0[DECISION] == 1 || self.0[DECISION] == 0 && matches!(self.0[VOTE], 1 | 2)
+        self.decided() == COMMIT || self.decided() == NONE && matches!(self.0[VOTE_AT], COMMIT | WAITING)
     }
 }
 
@@ -116,12 +135,12 @@ impl<'a> Rows<'a> {
 
     /// The codes of vote and reason.
     fn waiting_rule(self, tx: Body) -> (u8, u8) {
-        let mut vote = 2;
+        let mut vote = COMMIT;
         for (key, version) in tx.reads().filter(|(_, version)| *version != 0) {
             match self.held(version) {
-                Some(row) if row.0[DECISION] == 0 => vote = 1,
-                Some(row) if row.0[DECISION] == 1 && row.body().writes_key(key) => {}
-                _ => return (3, 6),
+                Some(row) if row.decided() == NONE => vote = WAITING,
+                Some(row) if row.decided() == COMMIT && row.body().writes_key(key) => {}
+                _ => return (ABORT, 6),
             }
         }
         (vote, 0)
@@ -129,7 +148,7 @@ impl<'a> Rows<'a> {
 
     fn first_vote(self, marks: &[u64], tx: Body, settings: &Settings) -> (u8, u8) {
         match self.failing_test(marks, tx, settings) {
-            Some(reason) => (3, reason),
+            Some(reason) => (ABORT, reason),
             None => self.waiting_rule(tx),
         }
     }
@@ -251,14 +270,11 @@ impl List<'_> {
 
 // ---- a box
 
-/// What a call makes of a row: the codes of vote, reason, log and decision, beside the message's body.
-type Codes = [u8; 4];
-
 /// The table stays, or a row becomes the message's body with these codes.
 type Step = (Answer, Option<(usize, Codes)>);
 
 fn decision(code: u8) -> Decision {
-    if code == 1 {
+    if code == COMMIT {
         Decision::Commit
     } else {
         Decision::Abort
@@ -267,9 +283,9 @@ fn decision(code: u8) -> Decision {
 
 fn told(vote: u8, reason: u8) -> Answer {
     match vote {
-        1 => Answer::Wait,
-        2 => Answer::Commit,
-        _ => Answer::Abort(reason),
+        COMMIT => Answer::Commit,
+        ABORT => Answer::Abort(reason),
+        _ => Answer::Wait,
     }
 }
 
@@ -283,22 +299,22 @@ fn prepare(rows: Rows, marks: &[u64], tx: Body, settings: &Settings) -> Step {
             return keep(Answer::Refused(13));
         }
         let (vote, reason) = rows.first_vote(marks, tx, settings);
-        return (told(vote, reason), Some((rows.0.len(), [vote, reason, 0, 0])));
+        return (told(vote, reason), Some((rows.0.len(), Codes { vote, reason, log: NONE, decided: NONE })));
     };
     let held = Row(&rows.0[place]);
     if !held.same(tx) {
         return keep(Answer::Refused(9));
     }
-    let [vote, reason, log, decided] = [held.0[VOTE], held.0[REASON], held.0[LOG], held.0[DECISION]];
-    if decided != 0 {
-        return keep(Answer::Decided(decision(decided)));
+    let codes = held.codes();
+    if codes.decided != NONE {
+        return keep(Answer::Decided(decision(codes.decided)));
     }
-    let (vote, reason) = match vote {
-        0 => rows.first_vote(marks, tx, settings),
-        1 => rows.waiting_rule(tx),
-        _ => return keep(told(vote, reason)),
+    let (vote, reason) = match codes.vote {
+        NONE => rows.first_vote(marks, tx, settings),
+        WAITING => rows.waiting_rule(tx),
+        cast => return keep(told(cast, codes.reason)),
     };
-    (told(vote, reason), Some((place, [vote, reason, log, 0])))
+    (told(vote, reason), Some((place, Codes { vote, reason, ..codes })))
 }
 
 fn log(rows: Rows, tx: Body, list: &List, settings: &Settings) -> Step {
@@ -309,23 +325,24 @@ fn log(rows: Rows, tx: Body, list: &List, settings: &Settings) -> Step {
     if !held.same(tx) {
         return keep(Answer::Refused(9));
     }
-    if held.0[DECISION] != 0 {
-        return keep(Answer::Decided(decision(held.0[DECISION])));
+    let codes = held.codes();
+    if codes.decided != NONE {
+        return keep(Answer::Decided(decision(codes.decided)));
     }
-    if held.0[LOG] != 0 {
-        return keep(Answer::Logged(decision(held.0[LOG])));
+    if codes.log != NONE {
+        return keep(Answer::Logged(decision(codes.log)));
     }
     if !list.meets(settings, true) {
         return keep(Answer::Refused(11));
     }
-    (Answer::Logged(decision(list.decision)), Some((place, [held.0[VOTE], held.0[REASON], list.decision, 0])))
+    (Answer::Logged(decision(list.decision)), Some((place, Codes { log: list.decision, ..codes })))
 }
 
 fn decide(rows: Rows, tx: Body, list: &List, settings: &Settings) -> Step {
     if !list.meets(settings, false) {
         return keep(Answer::Refused(11));
     }
-    let alone = [0, 0, 0, list.decision];
+    let alone = Codes { vote: NONE, reason: 0, log: NONE, decided: list.decision };
     let Some(place) = rows.place(tx.stamp()) else {
         if rows.0.len() as u64 >= settings.capacity {
             return keep(Answer::Refused(13));
@@ -333,12 +350,12 @@ fn decide(rows: Rows, tx: Body, list: &List, settings: &Settings) -> Step {
         return (Answer::Done, Some((rows.0.len(), alone)));
     };
     let held = Row(&rows.0[place]);
-    match (held.same(tx), held.0[DECISION]) {
-        (true, 0) => (Answer::Done, Some((place, [held.0[VOTE], held.0[REASON], held.0[LOG], list.decision]))),
+    match (held.same(tx), held.decided()) {
+        (true, NONE) => (Answer::Done, Some((place, Codes { decided: list.decision, ..held.codes() }))),
         (true, decided) if decided == list.decision => keep(Answer::Done),
         (true, _) => keep(Answer::Refused(12)),
-        (false, _) if list.decision == 2 => keep(Answer::Refused(9)),
-        (false, 1) => keep(Answer::Refused(12)),
+        (false, _) if list.decision == ABORT => keep(Answer::Refused(9)),
+        (false, COMMIT) => keep(Answer::Refused(12)),
         (false, _) => (Answer::Done, Some((place, alone))),
     }
 }
@@ -359,17 +376,17 @@ fn read(rows: Rows, marks: &mut [u64], message: &[u8], settings: &Settings) -> R
     }
     let mark = &mut marks[key as usize];
     *mark = stamp.max(*mark);
-    let committed = rows.newest(key, stamp, |row| row.0[DECISION] == 1);
-    let undecided = rows.newest(key, stamp, |row| row.0[DECISION] == 0 && row.live());
+    let committed = rows.newest(key, stamp, |row| row.decided() == COMMIT);
+    let undecided = rows.newest(key, stamp, |row| row.decided() == NONE && row.live());
     Ok(Answer::Found { committed, undecided })
 }
 
 /// The rows of a lent table, or 16.
 fn taken(table: &[u8], capacity: usize) -> Result<Rows<'_>, u8> {
-    if table.len() < 1 + capacity * ROW || table[0] as usize > capacity {
+    if table.len() < table_len(capacity) || table[0] as usize > capacity {
         return Err(16);
     }
-    let rows = Rows(&table[1..].as_chunks().0[..table[0] as usize]);
+    let rows = Rows(&table[HEAD..].as_chunks().0[..table[0] as usize]);
     if rows.all().all(Row::in_order) {
         Ok(rows)
     } else {
@@ -410,9 +427,9 @@ fn tried(table: &mut [u8], marks: &mut [u64], settings: &Settings, message: &[u8
     let ((answer, stored), length) = step(rows, marks, message, settings)?;
     if let Some((place, codes)) = stored {
         table[0] = table[0].max(place as u8 + 1);
-        let row = &mut table[1 + place * ROW..][..ROW];
-        row[..length].copy_from_slice(&message[2..2 + length]);
-        row[VOTE..].copy_from_slice(&codes);
+        let row = &mut table[row_at(place)..][..ROW];
+        (row[VOTE_AT], row[REASON_AT], row[LOG_AT], row[DECIDED_AT]) = (codes.vote, codes.reason, codes.log, codes.decided);
+        row[BODY_AT..BODY_AT + length].copy_from_slice(&message[2..2 + length]);
     }
     Ok(answer)
 }

@@ -49,8 +49,7 @@ fn times<B: Timed>(timed: &mut B, call: &Call) -> u32 {
 /// The call's answer and what it leaves are due, and it can be made again.
 fn check<B: Timed>(timed: &mut B, call: &Call) {
     let mut due = call.lent.clone();
-    let all: [&[u8; 2]; 4] = [b"PR", b"LG", b"DC", b"RD"];
-    let answer = model::call(&mut due.table, &mut due.marks, &SETTINGS, &call.message, &all, &mut Vec::new());
+    let answer = model::call(&mut due.table, &mut due.marks, &SETTINGS, &call.message, &model::MARKS, &mut Vec::new());
     assert_eq!(answer, call.due);
     for _ in 0..2 {
         let said = timed.call(&SETTINGS, &call.message);
@@ -65,7 +64,6 @@ fn check<B: Timed>(timed: &mut B, call: &Call) {
 /// The flat box held against the model on every kind of message and table, before it is timed.
 fn check_flat(count: u64) {
     let mut random = random::Random::new(11);
-    let all: [&[u8; 2]; 4] = [b"PR", b"LG", b"DC", b"RD"];
     let mut done = 0;
     while done < count {
         let mut run = mix::Run::new(&mut random);
@@ -78,7 +76,7 @@ fn check_flat(count: u64) {
             let mut table = broken.unwrap_or_else(|| run.table.clone());
             let (mut got, mut got_marks, mut marks) = (table.clone(), run.marks.clone(), run.marks.clone());
             let answer = flat::receive(&mut got, &mut got_marks, &settings, &message);
-            let due = model::call(&mut table, &mut marks, &settings, &message, &all, &mut Vec::new());
+            let due = model::call(&mut table, &mut marks, &settings, &message, &model::MARKS, &mut Vec::new());
             assert_eq!((answer, &got, &got_marks), (due, &table, &marks), "flat box, {settings:?}, {message:?}");
             if !lent {
                 (run.table, run.marks) = (table, marks);

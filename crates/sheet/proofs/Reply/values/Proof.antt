@@ -36,16 +36,16 @@ number-requires : tie.Need-number-requires
 number-requires c κs = search needs
 
 returns : tie.Need-returns
-returns c = rw (c .before .before .before .before .before .self .given .1, c .before .before .before .bit-of .ensures, c .before .before .bit-of2 .ensures, c .before .bit-of3 .ensures, c .bit-of4 .ensures)
+returns c = rw (c .before .before .before .before .before .self .given .1) (cc)
 
 returns-2 : tie.Need-returns-2
-returns-2 c = rw (c .before .before .before .self2 .given .1, c .before .bit-of5 .ensures, c .bit-of6 .ensures)
+returns-2 c = rw (c .before .before .before .self2 .given .1) (cc)
 
 returns-3 : tie.Need-returns-3
 returns-3 c = search needs
 
 returns-4 : tie.Need-returns-4
-returns-4 c = rw (c .before .before .self3 .given .1, c .number .ensures)
+returns-4 c = rw (c .before .before .self3 .given .1) (cc)
 
 pub values-spec : {M : Type 1} → statement M
 values-spec =

@@ -1,0 +1,35 @@
+-- PR, LG and DC raise no mark, RD puts no entry.
+use Prim.Native.Nat.{ℕ}
+use mathlib.Core.Path.{_≡_, refl}
+use mathlib.Core.List.{List}
+use Rattle.records.specs.declared.Mark.{Mark}
+use Rattle.records.specs.declared.Mark.the-variants.{PR, LG, DC, RD}
+use Rattle.records.specs.Cutting.{txPart}
+use Rattle.records.specs.Messages.{listBehind, rdKey, rdStamp}
+use Rattle.rules.specs.declared.Told.{Told}
+use Rattle.rules.specs.Calls.{Act, nothing, lookAct, rdRule}
+use Rattle.rules.specs.Act.{due, rule, dueAct, markedAct, markBy, marksAfter}
+use Rattle.rules.proofs.Deeds.{guarded-elim}
+use Rattle.rules.proofs.Room.{pr-still, lg-still, dc-still}
+use Rattle.engine.specs.Outcome.{Kept, boxIn, calledBy, tableBy, leavesAlone, LeavesAlone}
+
+rule-alone : (k : Mark) (told : Told) (x : Kept) (m : List ℕ) → leavesAlone k x (rule k told (boxIn x) m .change)
+unfolding leavesAlone rule rdRule lookAct tableBy
+rule-alone PR told x m = pr-still told (boxIn x) (txPart m) (x .marks)
+rule-alone LG told x m = lg-still told (boxIn x) (txPart m) (x .marks) (listBehind m)
+rule-alone DC told x m = dc-still told (boxIn x) (txPart m) (x .marks) (listBehind m)
+rule-alone RD told x m = guarded-elim (λ (a : Act). tableBy (x .table) (a .change) ≡ x .table) _ _ (λ _. refl) (λ _. refl)
+
+nothing-alone : (k : Mark) (x : Kept) → leavesAlone k x nothing
+unfolding leavesAlone marksAfter tableBy
+nothing-alone PR x = refl
+nothing-alone LG x = refl
+nothing-alone DC x = refl
+nothing-alone RD x = refl
+
+pub leaves-alone : LeavesAlone
+unfolding calledBy markBy markedAct dueAct
+leaves-alone k told x m =
+    guarded-elim (λ (a : Act). leavesAlone k x (a .change)) _ _
+    (λ _. guarded-elim (λ (a : Act). leavesAlone k x (a .change)) _ _ (λ _. rule-alone k told x m) (λ _. nothing-alone k x))
+    (λ _. nothing-alone k x)

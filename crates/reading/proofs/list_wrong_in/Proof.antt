@@ -1,0 +1,24 @@
+use mathlib.Core.Path.{_∙_}
+use Rattle.reading.proofs.Answers.{other-list}
+use borrow.Author.Needs.{needs}
+use Rattle.reading.proofs.list_wrong_in.Statement.{statement}
+use Rattle.reading.proofs.list_wrong_in.Tie as tie
+
+enum-told : tie.Need-enum-told
+enum-told c = search needs
+
+log-list-wrong-requires : tie.Need-log-list-wrong-requires
+log-list-wrong-requires c κs = search needs
+
+list-wrong-requires : tie.Need-list-wrong-requires
+list-wrong-requires c κs = search needs
+
+returns : tie.Need-returns
+returns c = rw (c .before .enum-told .given .1) (c .log-list-wrong .ensures)
+
+returns-2 : tie.Need-returns-2
+returns-2 c = c .list-wrong .ensures ∙ other-list (c .before .before .args .due) _ _ (c .before .match .keys2)
+
+pub list-wrong-in-spec : {M : Type 1} → statement M
+list-wrong-in-spec =
+    tie.close (tie.spec enum-told log-list-wrong-requires list-wrong-requires returns returns-2)

@@ -1,0 +1,17 @@
+use Rattle.records.specs.Messages.{refusedReading}
+use borrow.Author.Needs.{needs}
+use Rattle.reading.proofs.refused.Statement.{statement}
+use Rattle.reading.proofs.refused.Tie as tie
+
+no-tx-requires : tie.Need-no-tx-requires
+no-tx-requires c κs = search needs
+
+no-list-requires : tie.Need-no-list-requires
+no-list-requires c κs = search needs
+
+returns : tie.Need-returns
+unfolding refusedReading
+returns c = rw (c .no-list .ensures, c .before .no-tx .ensures)
+
+pub refused-spec : {M : Type 1} → statement M
+refused-spec = tie.close (tie.spec no-tx-requires no-list-requires returns)

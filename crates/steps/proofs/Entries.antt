@@ -1,0 +1,96 @@
+-- The rules of an entry, one law for each outcome as the code has it.
+use Prim.Native.Nat.{ℕ}
+use mathlib.Core.Path.{_≡_, refl, sym}
+use mathlib.Core.List.{List, []}
+use mathlib.Core.Bool.{true, false}
+use mathlib.Core.Option.{none}
+use lib.Dec.{leb}
+use lib.ListN.{length}
+use Rattle.terms.specs.declared.Decision.{Decision}
+use Rattle.terms.specs.declared.Refusal.the-variants.{Full, Contradiction}
+use Rattle.records.specs.Vl.{Vl}
+use Rattle.rules.specs.declared.Answer.the-variants.{Decided, Done, Logged, Refused, Voted}
+use Rattle.rules.specs.declared.Reason.{Reason}
+use Rattle.rules.specs.declared.Settled.the-variants.{None as unsettled, Is as settled}
+use Rattle.rules.specs.declared.Told.{Told}
+use Rattle.rules.specs.declared.Vote.{Vote}
+use Rattle.rules.specs.declared.Vote.the-variants.{None as unvoted, Commit as voteCommit, Abort as voteAbort, Waiting as waiting}
+use Rattle.rules.specs.Bodies.{Body}
+use Rattle.rules.specs.Table.{Entry, Box, boxWith}
+use Rattle.rules.specs.Tests.{firstVote, waitingRule, status}
+use Rattle.rules.specs.Calls.{sameDecision, isFull, roomFor, castAct, prByVote, prByDecision, lgByLog, lgByDecision, decideAct, dcSame}
+use Rattle.table.specs.declared.State.{State}
+use Rattle.table.specs.Table.{entryWith, stateIn}
+use Rattle.steps.specs.declared.Held.the-variants.{Not, Same}
+use Rattle.steps.specs.Step.{changeBy, stepBy, kept, put, castStep, prBy, lgBy}
+
+-- ---- PR
+module _ (i : ℕ) (told : Told) (es : List Entry) (marks : List ℕ) (b : Body) where
+  module _ (n : ℕ) (l : length es ≡ n) where
+    pub pr-full : leb (told .capacity) n ≡ true → kept (Refused Full) ≡ prBy i told (boxWith es marks) b Not
+    unfolding prBy roomFor isFull stepBy changeBy
+    pr-full h = rw (l, h)
+
+    pub pr-room : leb (told .capacity) n ≡ false → (v : Vote) → v ≡ firstVote told (boxWith es marks) b
+        → castStep i unsettled v ≡ prBy i told (boxWith es marks) b Not
+    unfolding prBy roomFor isFull castAct stepBy changeBy stateIn
+    pr-room h v w = rw (l, h, w)
+
+  module _ (e : State) where
+    pub pr-decided : (d : Decision) → e .decided ≡ settled d → kept (Decided d) ≡ prBy i told (boxWith es marks) b (Same e)
+    unfolding prBy prByDecision stepBy changeBy
+    pr-decided d h = rw h
+
+    pub pr-open : e .decided ≡ unsettled → stepBy i (prByVote told (boxWith es marks) b (entryWith b e) (e .vote)) ≡ prBy i told (boxWith es marks) b (Same e)
+    unfolding prBy prByDecision entryWith
+    pr-open h = rw h
+
+    pub pr-commit : e .vote ≡ voteCommit → kept (Voted (e .vote)) ≡ stepBy i (prByVote told (boxWith es marks) b (entryWith b e) (e .vote))
+    unfolding prByVote stepBy changeBy
+    pr-commit h = rw h
+
+    pub pr-abort : (r : Reason) → e .vote ≡ voteAbort r → kept (Voted (e .vote)) ≡ stepBy i (prByVote told (boxWith es marks) b (entryWith b e) (e .vote))
+    unfolding prByVote stepBy changeBy
+    pr-abort r h = rw h
+
+    pub pr-waiting : (v : Vote) → e .vote ≡ waiting → v ≡ waitingRule (boxWith es []) b
+        → castStep i (e .log) v ≡ stepBy i (prByVote told (boxWith es marks) b (entryWith b e) (e .vote))
+    unfolding prByVote castAct stepBy changeBy stateIn entryWith waitingRule status
+    pr-waiting v h w = rw (h, w)
+
+    pub pr-unvoted : (v : Vote) → e .vote ≡ unvoted → v ≡ firstVote told (boxWith es marks) b
+        → castStep i (e .log) v ≡ stepBy i (prByVote told (boxWith es marks) b (entryWith b e) (e .vote))
+    unfolding prByVote castAct stepBy changeBy stateIn entryWith
+    pr-unvoted v h w = rw (h, w)
+
+-- ---- LG
+module _ (i : ℕ) (told : Told) (b : Body) (l : Vl) (e : State) where
+  pub lg-decided : (d : Decision) → e .decided ≡ settled d → kept (Decided d) ≡ lgBy i told b l (Same e)
+  unfolding lgBy lgByDecision stepBy changeBy
+  lg-decided d h = rw h
+
+  pub lg-open : e .decided ≡ unsettled → stepBy i (lgByLog told b l (entryWith b e) (e .log)) ≡ lgBy i told b l (Same e)
+  unfolding lgBy lgByDecision entryWith
+  lg-open h = rw h
+
+  pub lg-logged : (d : Decision) → e .log ≡ settled d → kept (Logged d) ≡ stepBy i (lgByLog told b l (entryWith b e) (e .log))
+  unfolding lgByLog stepBy changeBy
+  lg-logged d h = rw h
+
+  pub lg-free : e .log ≡ unsettled → stepBy i (lgByLog told b l (entryWith b e) unsettled) ≡ stepBy i (lgByLog told b l (entryWith b e) (e .log))
+  lg-free h = rw h
+
+-- ---- DC
+module _ (i : ℕ) (b : Body) (d : Decision) (e : State) where
+  pub dc-takes : e .decided ≡ unsettled → put i (record { vote = e .vote; log = e .log; decided = settled d }) Done ≡ stepBy i (dcSame b d (entryWith b e) (e .decided))
+  unfolding dcSame decideAct stepBy changeBy stateIn entryWith
+  dc-takes h = rw h
+
+  module _ (held : Decision) (h : e .decided ≡ settled held) where
+    pub dc-equal : sameDecision held d ≡ true → kept Done ≡ stepBy i (dcSame b d (entryWith b e) (e .decided))
+    unfolding dcSame stepBy changeBy
+    dc-equal s = rw (h, s)
+
+    pub dc-opposite : sameDecision held d ≡ false → kept (Refused Contradiction) ≡ stepBy i (dcSame b d (entryWith b e) (e .decided))
+    unfolding dcSame stepBy changeBy
+    dc-opposite s = rw (h, s)

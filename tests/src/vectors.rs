@@ -1,0 +1,379 @@
+//! Records read and written, messages by each entrance, and answers taken by a tally sheet: each refusal at its smallest fault, two faults at once for
+//! neighbours in 01's order, and both sides of each threshold. The answers due are written down from 01; the engine, by its C interface, and the model have to give them.
+//! What the bench program can show of reading stands in tests/bench; here is the rest.
+
+use crate::engine::{self, Entrance};
+use crate::model::{self, Answer, Draft, ListDraft, Record, Reply, Settings, Sheet, DC, LG};
+use stobbarel::layout::table_len;
+
+/// How many were tried, and how many differ.
+#[derive(Default)]
+struct Tried {
+    all: u64,
+    wrong: u64,
+}
+
+impl Tried {
+    fn one<T: PartialEq + std::fmt::Debug>(&mut self, what: &str, due: T, by_engine: T, by_model: T) {
+        self.all += 1;
+        for (who, given) in [("engine", by_engine), ("model", by_model)] {
+            if given != due {
+                self.wrong += 1;
+                println!("{what}: the {who} gives {given:?}, and {due:?} is due");
+            }
+        }
+    }
+}
+
+// ---- reading
+
+/// 50 writes 7 at key 3, 22 bytes; 0 in its place writes it; 50 reads key 3 at 40 and writes it, 32 bytes.
+const BODY: &[u8] = b"TX\x00\x01\x32\0\0\0\0\0\0\0\x03\0\x07\0\0\0\0\0\0\0";
+const STAMP_0: &[u8] = b"TX\x00\x01\0\0\0\0\0\0\0\0\x03\0\x07\0\0\0\0\0\0\0";
+const BOTH: &[u8] = b"TX\x01\x01\x32\0\0\0\0\0\0\0\x03\0\x28\0\0\0\0\0\0\0\x03\0\x07\0\0\0\0\0\0\0";
+const VOTE: &[u8] = b"VL\x01\x01\x01\x00\x01";
+
+/// A message for a group of f: the refusal's number, or how many of its bytes are handed back as the transaction.
+const MESSAGES: [(&str, u64, &[&[u8]], Result<usize, u8>); 16] = [
+    ("nothing", 1, &[], Err(1)),
+    ("a PR of one write", 1, &[b"PR", BODY], Ok(22)),
+    ("a PR of a read and a write", 1, &[b"PR", BOTH], Ok(32)),
+    ("an LG", 1, &[b"LG", BODY, VOTE], Ok(22)),
+    ("a DC", 1, &[b"DC", BODY, VOTE], Ok(22)),
+    ("a DC of logs", 1, &[b"DC", BODY, b"VL\x02\x01\x01\x00\x01"], Ok(22)),
+    ("an RD", 1, &[b"RD\x03\0\x3c\0\0\0\0\0\0\0"], Ok(0)),
+    ("box 25 of 26", 5, &[b"DC", BODY, b"VL\x01\x01\x01\x19\x01"], Ok(22)),
+    ("14 before 1", 0, &[], Err(14)),
+    ("14 before 2", 6, &[b"TX"], Err(14)),
+    ("a byte behind a PR", 1, &[b"PR", BODY, b"\0"], Err(4)),
+    ("a byte behind an LG", 1, &[b"LG", BODY, VOTE, b"\0"], Err(4)),
+    ("a byte behind a DC", 1, &[b"DC", BODY, VOTE, b"\0"], Err(4)),
+    ("a byte behind an RD", 1, &[b"RD\x03\0\x3c\0\0\0\0\0\0\0", b"\0"], Err(4)),
+    ("4 before 5: stamp 0", 1, &[b"PR", STAMP_0, b"\0"], Err(4)),
+    ("4 before 5: an RD of key 512 at 0", 1, &[b"RD\0\x02\0\0\0\0\0\0\0\0", b"\0"], Err(4)),
+];
+
+/// A TX by itself: the refusal's number, or 0.
+const TX: [(&str, &[u8], u8); 19] = [
+    ("one write", BODY, 0),
+    ("a read and a write", BOTH, 0),
+    ("nothing", b"", 1),
+    ("one byte", b"T", 1),
+    ("another mark", b"VL", 2),
+    ("one count is missing", b"TX\x01", 1),
+    ("nine reads", b"TX\x09\x00", 3),
+    ("nine writes", b"TX\x00\x09", 3),
+    ("neither", b"TX\x00\x00", 3),
+    ("the stamp is missing", b"TX\x00\x01", 1),
+    ("the last byte is missing", b"TX\x00\x01\x32\0\0\0\0\0\0\0\x03\0\x07\0\0\0\0\0\0", 1),
+    ("a byte behind it", b"TX\x00\x01\x32\0\0\0\0\0\0\0\x03\0\x07\0\0\0\0\0\0\0\0", 4),
+    ("4 before 5", b"TX\x00\x01\0\0\0\0\0\0\0\0\x03\0\x07\0\0\0\0\0\0\0\0", 4),
+    ("stamp 0", STAMP_0, 5),
+    ("key 512", b"TX\x00\x01\x32\0\0\0\0\0\0\0\x00\x02\x07\0\0\0\0\0\0\0", 5),
+    ("a key twice", b"TX\x02\x00\x32\0\0\0\0\0\0\0\x03\0\0\0\0\0\0\0\0\0\x03\0\0\0\0\0\0\0\0\0", 6),
+    ("the own stamp is read", b"TX\x01\x00\x32\0\0\0\0\0\0\0\x03\0\x32\0\0\0\0\0\0\0", 7),
+    ("5 before 6", b"TX\x02\x00\0\0\0\0\0\0\0\0\x03\0\0\0\0\0\0\0\0\0\x03\0\0\0\0\0\0\0\0\0", 5),
+    ("6 before 7", b"TX\x02\x00\x32\0\0\0\0\0\0\0\x03\0\x32\0\0\0\0\0\0\0\x03\0\0\0\0\0\0\0\0\0", 6),
+];
+
+/// A VL by itself for a group of f: the refusal's number, or 0.
+const VL: [(&str, u64, &[u8], u8); 19] = [
+    ("a vote", 1, VOTE, 0),
+    ("a log", 1, b"VL\x02\x02\x01\x05\x02", 0),
+    ("box 25 of 26", 5, b"VL\x01\x01\x01\x19\x01", 0),
+    ("14 before 1", 0, b"", 14),
+    ("f 6", 6, VOTE, 14),
+    ("nothing", 1, b"", 1),
+    ("another mark", 1, b"TX", 2),
+    ("the count is missing", 1, b"VL\x01\x01", 1),
+    ("none", 1, b"VL\x01\x01\x00", 3),
+    ("27", 1, b"VL\x01\x01\x1b", 3),
+    ("a pair is cut", 1, b"VL\x01\x01\x01\x00", 1),
+    ("4 before 8", 1, b"VL\x03\x01\x01\x00\x01\0", 4),
+    ("kind 3", 1, b"VL\x03\x01\x01\x00\x01", 8),
+    ("decision 0", 1, b"VL\x01\x00\x01\x00\x01", 8),
+    ("answer 3", 1, b"VL\x01\x01\x01\x00\x03", 8),
+    ("box 6 of 6", 1, b"VL\x01\x01\x01\x06\x01", 5),
+    ("box 2 twice", 1, b"VL\x01\x01\x02\x02\x01\x02\x01", 6),
+    ("8 before 5", 1, b"VL\x01\x01\x02\x06\x01\x07\x03", 8),
+    ("5 before 6", 1, b"VL\x01\x01\x02\x06\x01\x06\x01", 5),
+];
+
+fn reading(tried: &mut Tried) {
+    for (what, f, parts, due) in MESSAGES {
+        let bytes = parts.concat();
+        tried.one(what, due, engine::reading(&bytes, f), model::reading(&bytes, f));
+    }
+    for (what, bytes, due) in TX {
+        tried.one(what, due, engine::reading_tx(bytes), model::reading_tx(bytes).err().unwrap_or(0));
+    }
+    for (what, f, bytes, due) in VL {
+        tried.one(what, due, engine::reading_vl(bytes, f), model::reading_vl(bytes, f).err().unwrap_or(0));
+    }
+}
+
+// ---- entrances
+
+const RD: &[u8] = b"RD\x03\0\x3c\0\0\0\0\0\0\0";
+const COMMIT: Answer = Answer::Commit;
+const NOTHING_FOUND: Answer = Answer::Found { committed: (0, 0), undecided: (0, 0) };
+
+const fn refused(number: u8) -> Answer {
+    Answer::Refused(number)
+}
+
+/// A message by an entrance, for f and a capacity, on an empty table for eight entries: the answer.
+const ENTERED: [(&str, Entrance, u64, u64, &[&[u8]], Answer); 24] = [
+    ("a PR by receive", Entrance::Receive, 1, 8, &[b"PR", BODY], COMMIT),
+    ("a PR", Entrance::Due(1), 1, 8, &[b"PR", BODY], COMMIT),
+    ("an LG", Entrance::Due(2), 1, 8, &[b"LG", BODY, VOTE], refused(10)),
+    ("a DC", Entrance::Due(3), 1, 8, &[b"DC", BODY, VOTE], refused(11)),
+    ("an RD", Entrance::Due(4), 1, 8, &[RD], NOTHING_FOUND),
+    ("an RD where a PR is due", Entrance::Due(1), 1, 8, &[RD], refused(2)),
+    ("a DC where an LG is due", Entrance::Due(2), 1, 8, &[b"DC", BODY, VOTE], refused(2)),
+    ("an LG where a DC is due", Entrance::Due(3), 1, 8, &[b"LG", BODY, VOTE], refused(2)),
+    ("a PR where an RD is due", Entrance::Due(4), 1, 8, &[b"PR", BODY], refused(2)),
+    ("1 before 2: one byte of another mark", Entrance::Due(1), 1, 8, &[b"R"], refused(1)),
+    ("2 before 1: another mark, cut", Entrance::Due(1), 1, 8, &[b"RD"], refused(2)),
+    ("mark 0", Entrance::Due(0), 1, 8, &[b"PR", BODY], refused(2)),
+    ("mark 5", Entrance::Due(5), 1, 8, &[RD], refused(2)),
+    ("mark 9", Entrance::Due(9), 1, 8, &[b"PR", BODY], refused(2)),
+    ("a mark that is PR but for its upper half", Entrance::Due((1 << 32) + 1), 1, 8, &[b"PR", BODY], refused(2)),
+    ("the largest mark", Entrance::Due(u64::MAX), 1, 8, &[RD], refused(2)),
+    ("2 before 1: mark 0 and nothing", Entrance::Due(0), 1, 8, &[], refused(2)),
+    ("2 before 4: mark 9 and a byte behind", Entrance::Due(9), 1, 8, &[RD, b"\0"], refused(2)),
+    ("14 before 2: f", Entrance::Due(9), 0, 8, &[RD], refused(14)),
+    ("14 before 2: capacity", Entrance::Due(0), 1, 256, &[RD], refused(14)),
+    ("16 before 2", Entrance::Due(9), 1, 9, &[RD], refused(16)),
+    ("16 before 2: another mark", Entrance::Due(1), 1, 9, &[RD], refused(16)),
+    ("16 before 1", Entrance::Due(1), 1, 9, &[], refused(16)),
+    ("a slice longer than needed", Entrance::Due(1), 1, 7, &[b"PR", BODY], COMMIT),
+];
+
+fn entering(tried: &mut Tried) {
+    for (what, entrance, f, capacity, parts, due) in ENTERED {
+        let (message, settings) = (parts.concat(), Settings { f, capacity, clock: 100, delta: 10 });
+        let (mut table, mut marks) = (vec![0; table_len(8)], vec![0; 512]);
+        let by_model = model::call(&mut table, &mut marks, &settings, &message, entrance.taken(), &mut Vec::new());
+        let left = (table, marks);
+        let (mut table, mut marks) = (vec![0; table_len(8)], vec![0; 512]);
+        let by_engine = engine::call(entrance, &mut table, &mut marks, &settings, &message).ok().and_then(engine::answer_of);
+        tried.one(what, Some(due), by_engine, Some(by_model));
+        tried.one(&format!("{what}: table and read marks"), left.clone(), (table, marks), left);
+    }
+}
+
+// ---- writing
+
+/// So many reads of a key at a version and so many writes of 7 at it.
+const fn counted(stamp: u64, r: usize, w: usize, key: u16, version: u64) -> Draft {
+    Draft { stamp, r, w, reads: [(key, version); 8], writes: [(key, 7); 8] }
+}
+
+/// A read and a write.
+const fn both(stamp: u64, key: u16, version: u64) -> Draft {
+    counted(stamp, 1, 1, key, version)
+}
+
+/// So many answers, all of one box.
+const fn list(kind: u8, decision: u8, count: usize, number: u8, answer: u8) -> ListDraft {
+    ListDraft { kind, decision, count, pairs: [(number, answer); 26] }
+}
+
+/// A record for a group of f and a buffer of so many bytes: the refusal's number, or the bytes that are written.
+type Written = (&'static str, u64, Record, usize, Result<&'static [&'static [u8]], u8>);
+
+const WRITTEN: [Written; 54] = [
+    ("a TX", 1, Record::Tx(both(50, 3, 40)), 40, Ok(&[BOTH])),
+    ("a TX into its own length", 1, Record::Tx(both(50, 3, 40)), 32, Ok(&[BOTH])),
+    ("a TX, one byte short", 1, Record::Tx(both(50, 3, 40)), 31, Err(17)),
+    ("nine reads", 1, Record::Tx(counted(50, 9, 1, 3, 40)), 40, Err(3)),
+    ("nine writes", 1, Record::Tx(counted(50, 1, 9, 3, 40)), 40, Err(3)),
+    ("neither", 1, Record::Tx(counted(50, 0, 0, 3, 40)), 40, Err(3)),
+    ("counts whose sum wraps", 1, Record::Tx(counted(50, usize::MAX, usize::MAX, 3, 40)), 40, Err(3)),
+    ("stamp 0", 1, Record::Tx(both(0, 3, 40)), 40, Err(5)),
+    ("key 512", 1, Record::Tx(both(50, 512, 40)), 40, Err(5)),
+    ("a key twice", 1, Record::Tx(counted(50, 2, 1, 3, 40)), 40, Err(6)),
+    ("the own stamp is read", 1, Record::Tx(both(50, 3, 50)), 40, Err(7)),
+    ("a PR", 1, Record::Pr(both(50, 3, 40)), 40, Ok(&[b"PR", BOTH])),
+    ("a PR, one byte short", 1, Record::Pr(both(50, 3, 40)), 33, Err(17)),
+    ("a VL", 1, Record::Vl(list(1, 2, 1, 5, 2)), 8, Ok(&[b"VL\x01\x02\x01\x05\x02"])),
+    ("a VL of logs", 1, Record::Vl(list(2, 1, 1, 0, 1)), 8, Ok(&[b"VL\x02\x01\x01\x00\x01"])),
+    ("a VL, one byte short", 1, Record::Vl(list(1, 2, 1, 5, 2)), 6, Err(17)),
+    ("f 0", 0, Record::Vl(list(1, 2, 1, 5, 2)), 8, Err(14)),
+    ("a list of none", 1, Record::Vl(list(1, 2, 0, 5, 2)), 8, Err(3)),
+    ("a list of 27", 1, Record::Vl(list(1, 2, 27, 5, 2)), 8, Err(3)),
+    ("kind 3", 1, Record::Vl(list(3, 2, 1, 5, 2)), 8, Err(8)),
+    ("decision 0", 1, Record::Vl(list(1, 0, 1, 5, 2)), 8, Err(8)),
+    ("answer 3", 1, Record::Vl(list(1, 2, 1, 5, 3)), 8, Err(8)),
+    ("box 6 of 6", 1, Record::Vl(list(1, 2, 1, 6, 2)), 8, Err(5)),
+    ("box 5 twice", 1, Record::Vl(list(1, 2, 2, 5, 2)), 9, Err(6)),
+    ("an LG", 1, Record::Listed(LG, both(50, 3, 40), list(1, 1, 1, 0, 1)), 50, Ok(&[b"LG", BOTH, VOTE])),
+    ("an LG, one byte short", 1, Record::Listed(LG, both(50, 3, 40), list(1, 1, 1, 0, 1)), 40, Err(17)),
+    ("logs in an LG", 1, Record::Listed(LG, both(50, 3, 40), list(2, 1, 1, 0, 1)), 50, Err(8)),
+    ("a DC of logs", 1, Record::Listed(DC, both(50, 3, 40), list(2, 1, 1, 0, 1)), 41, Ok(&[b"DC", BOTH, b"VL\x02\x01\x01\x00\x01"])),
+    ("a DC, one byte short", 1, Record::Listed(DC, both(50, 3, 40), list(1, 1, 1, 0, 1)), 40, Err(17)),
+    ("a list behind a PR", 1, Record::Listed(1, both(50, 3, 40), list(1, 1, 1, 0, 1)), 50, Err(2)),
+    ("a list behind an RD", 1, Record::Listed(4, both(50, 3, 40), list(1, 1, 1, 0, 1)), 50, Err(2)),
+    ("a list behind mark 0", 1, Record::Listed(0, both(50, 3, 40), list(1, 1, 1, 0, 1)), 50, Err(2)),
+    ("a mark that is LG but for its upper half", 1, Record::Listed((1 << 32) + LG, both(50, 3, 40), list(1, 1, 1, 0, 1)), 50, Err(2)),
+    ("14 before 2", 6, Record::Listed(9, both(50, 3, 40), list(1, 1, 1, 0, 1)), 50, Err(14)),
+    ("3 of the list before 2", 1, Record::Listed(9, both(50, 3, 40), list(1, 1, 27, 0, 1)), 50, Err(3)),
+    ("7 before 2", 1, Record::Listed(9, both(50, 3, 50), list(1, 1, 1, 0, 1)), 50, Err(7)),
+    ("2 before 8", 1, Record::Listed(9, both(50, 3, 40), list(3, 0, 1, 6, 3)), 50, Err(2)),
+    ("2 before 17", 1, Record::Listed(9, both(50, 3, 40), list(1, 1, 1, 0, 1)), 0, Err(2)),
+    ("an RD", 1, Record::Rd { key: 3, stamp: 60 }, 13, Ok(&[b"RD\x03\0\x3c\0\0\0\0\0\0\0"])),
+    ("an RD of the last key", 1, Record::Rd { key: 511, stamp: 1 }, 12, Ok(&[b"RD\xff\x01\x01\0\0\0\0\0\0\0"])),
+    ("an RD, one byte short", 1, Record::Rd { key: 3, stamp: 60 }, 11, Err(17)),
+    ("an RD of key 512", 1, Record::Rd { key: 512, stamp: 60 }, 13, Err(5)),
+    ("an RD at stamp 0", 1, Record::Rd { key: 3, stamp: 0 }, 13, Err(5)),
+    ("14 before 3", 6, Record::Listed(LG, counted(50, 9, 1, 3, 40), list(1, 1, 1, 0, 1)), 50, Err(14)),
+    ("3 before 5", 1, Record::Tx(counted(0, 0, 0, 3, 40)), 40, Err(3)),
+    ("3 of the list before 5", 1, Record::Listed(LG, both(0, 3, 40), list(1, 1, 27, 0, 1)), 50, Err(3)),
+    ("5 before 6", 1, Record::Tx(counted(50, 2, 1, 512, 40)), 40, Err(5)),
+    ("6 before 7", 1, Record::Tx(counted(50, 2, 1, 3, 60)), 40, Err(6)),
+    ("7 before 8", 1, Record::Listed(LG, both(50, 3, 50), list(2, 1, 1, 0, 1)), 50, Err(7)),
+    ("8 before 5 of a list", 1, Record::Listed(LG, both(50, 3, 40), list(2, 1, 1, 6, 1)), 50, Err(8)),
+    ("5 before 6 of a list", 1, Record::Vl(list(1, 2, 2, 6, 2)), 8, Err(5)),
+    ("6 before 17", 1, Record::Vl(list(1, 2, 26, 5, 2)), 8, Err(6)),
+    ("7 before 17", 1, Record::Tx(both(50, 3, 50)), 31, Err(7)),
+    ("5 before 17", 1, Record::Rd { key: 512, stamp: 60 }, 11, Err(5)),
+];
+
+/// What a buffer's bytes are before.
+const CLEAR: u8 = 0xaa;
+
+/// A writer's number and length, and the buffer that it leaves.
+fn left(given: Result<Vec<u8>, u8>, room: usize) -> (Result<(u8, usize), String>, Vec<u8>) {
+    let mut buffer = vec![CLEAR; room];
+    let told = match given {
+        Ok(bytes) => {
+            buffer[..bytes.len()].copy_from_slice(&bytes);
+            (0, bytes.len())
+        }
+        Err(number) => (number, 0),
+    };
+    (Ok(told), buffer)
+}
+
+fn writing(tried: &mut Tried) {
+    for (what, f, record, room, due) in WRITTEN {
+        let mut buffer = vec![CLEAR; room];
+        let told = engine::write(&record, f, &mut buffer);
+        let by_model = left(model::written(&record, f, room), room);
+        tried.one(what, left(due.map(|parts| parts.concat()), room), (told, buffer), by_model);
+    }
+}
+
+// ---- the tally
+
+const VOTES: u8 = 1;
+const LOGS: u8 = 2;
+const NONE: Reply = Reply::Votes([false; 4]);
+const COMMIT_LIST: Reply = Reply::Votes([true, false, false, false]);
+const COMMIT_PROOF: Reply = Reply::Votes([true, false, true, false]);
+const ABORT_LIST: Reply = Reply::Votes([false, true, false, false]);
+const ABORT_PROOF: Reply = Reply::Votes([false, true, false, true]);
+const NO_LOGS: Reply = Reply::Logs([false; 2]);
+
+/// Boxes 0, 1, 2 .. answer alike on a sheet of a kind for f: from how many answers on which reply is due.
+struct Walk {
+    kind: u8,
+    f: u64,
+    answer: u64,
+    due: [(u64, Reply); 3],
+}
+
+const WALKS: [Walk; 8] = [
+    Walk { kind: VOTES, f: 1, answer: 1, due: [(1, NONE), (4, COMMIT_LIST), (6, COMMIT_PROOF)] },
+    Walk { kind: VOTES, f: 1, answer: 2, due: [(1, NONE), (2, ABORT_LIST), (4, ABORT_PROOF)] },
+    Walk { kind: LOGS, f: 1, answer: 1, due: [(1, NO_LOGS), (4, NO_LOGS), (5, Reply::Logs([true, false]))] },
+    Walk { kind: LOGS, f: 1, answer: 2, due: [(1, NO_LOGS), (4, NO_LOGS), (5, Reply::Logs([false, true]))] },
+    Walk { kind: VOTES, f: 5, answer: 1, due: [(1, NONE), (16, COMMIT_LIST), (26, COMMIT_PROOF)] },
+    Walk { kind: VOTES, f: 5, answer: 2, due: [(1, NONE), (6, ABORT_LIST), (16, ABORT_PROOF)] },
+    Walk { kind: LOGS, f: 5, answer: 1, due: [(1, NO_LOGS), (20, NO_LOGS), (21, Reply::Logs([true, false]))] },
+    Walk { kind: LOGS, f: 5, answer: 2, due: [(1, NO_LOGS), (20, NO_LOGS), (21, Reply::Logs([false, true]))] },
+];
+
+fn sheet(kind: u8, commits: u32, aborts: u32) -> Sheet {
+    Sheet { kind, commits, aborts }
+}
+
+/// One answer on a lent sheet: the reply, and the sheet afterwards.
+fn taken(tried: &mut Tried, what: &str, lent: Sheet, f: u64, number: u64, answer: u64, due: (Reply, Sheet)) {
+    let (mut by_engine, mut by_model) = (lent, lent);
+    let reply = engine::tally(&mut by_engine, f, number, answer);
+    let modelled = model::tally(&mut by_model, f, number, answer);
+    tried.one(&format!("{what}, f {f}, box {number}, answer {answer} on {lent:?}"), (Some(due.0), due.1), (reply, by_engine), (Some(modelled), by_model));
+}
+
+/// Every answer of a walk; and once all have answered, what leaves the sheet as it is.
+fn walk(tried: &mut Tried, walk: &Walk) {
+    let Walk { kind, f, answer, due } = walk;
+    let (n, other) = (5 * f + 1, 3 - answer);
+    let after = |count: u64| {
+        let mask = (1u32 << count) - 1;
+        if *answer == 1 { sheet(*kind, mask, 0) } else { sheet(*kind, 0, mask) }
+    };
+    for number in 0..n {
+        let reply = due.iter().rev().find(|(from, _)| *from <= number + 1).expect("from the first on").1;
+        taken(tried, "walk", after(number), *f, number, *answer, (reply, after(number + 1)));
+        taken(tried, "again", after(number + 1), *f, 0, *answer, (Reply::Repeat, after(number + 1)));
+        taken(tried, "again, otherwise", after(number + 1), *f, 0, other, (Reply::Repeat, after(number + 1)));
+    }
+    let all = after(n);
+    taken(tried, "box n", all, *f, n, *answer, (Reply::Refused(5), all));
+    taken(tried, "answer 0", all, *f, 0, 0, (Reply::Refused(8), all));
+    taken(tried, "answer 3", all, *f, 0, 3, (Reply::Refused(8), all));
+    taken(tried, "5 before 8", all, *f, n, 3, (Reply::Refused(5), all));
+}
+
+fn sheets(tried: &mut Tried) {
+    WALKS.iter().for_each(|one| walk(tried, one));
+    let last = 1 << 25;
+    // an abort proof and a commit vote beside it; a proof from logs and an abort beside it
+    taken(tried, "other answer", sheet(VOTES, 0, 0b1111), 1, 5, 1, (ABORT_PROOF, sheet(VOTES, 0b10_0000, 0b1111)));
+    taken(tried, "other answer", sheet(VOTES, 0, 0xffff), 5, 25, 1, (ABORT_PROOF, sheet(VOTES, last, 0xffff)));
+    taken(tried, "other answer", sheet(LOGS, 0b1_1111, 0), 1, 5, 2, (Reply::Logs([true, false]), sheet(LOGS, 0b1_1111, 0b10_0000)));
+    taken(tried, "other answer", sheet(LOGS, 0x1f_ffff, 0), 5, 21, 2, (Reply::Logs([true, false]), sheet(LOGS, 0x1f_ffff, 1 << 21)));
+    // boxes may answer in any order
+    taken(tried, "falling", sheet(VOTES, 0, 0), 1, 5, 2, (NONE, sheet(VOTES, 0, 0b10_0000)));
+    taken(tried, "falling", sheet(VOTES, 0, 0b10_0000), 1, 3, 1, (NONE, sheet(VOTES, 0b1000, 0b10_0000)));
+    taken(tried, "falling", sheet(VOTES, 0b1000, 0b10_0000), 1, 0, 2, (ABORT_LIST, sheet(VOTES, 0b1000, 0b10_0001)));
+    let refused: [(&str, Sheet, u64, u64, u64, u8); 14] = [
+        ("f 0", sheet(VOTES, 0, 0), 0, 0, 1, 14),
+        ("f 6", sheet(VOTES, 0, 0), 6, 0, 1, 14),
+        ("14 before 16", sheet(0, 0, 0), 0, 0, 1, 14),
+        ("kind 0", sheet(0, 0, 0), 1, 0, 1, 16),
+        ("kind 3", sheet(3, 0, 0), 1, 0, 1, 16),
+        ("box 6 of 6 under commit", sheet(VOTES, 1 << 6, 0), 1, 0, 1, 16),
+        ("box 6 of 6 under abort", sheet(LOGS, 0, 1 << 6), 1, 0, 1, 16),
+        ("a box under both", sheet(VOTES, 0b100, 0b100), 1, 0, 1, 16),
+        ("16 before 5 and 8", sheet(VOTES, 0b100, 0b100), 1, 6, 3, 16),
+        ("box 26 of 26", sheet(VOTES, 1 << 26, 0), 5, 0, 1, 16),
+        ("box 25 under both", sheet(VOTES, last, last), 5, 0, 1, 16),
+        ("the largest box", sheet(VOTES, last, 0), 5, u64::MAX, 1, 5),
+        ("the largest answer", sheet(VOTES, last, 0), 5, 0, u64::MAX, 8),
+        ("8 before Repeat", sheet(VOTES, last, 0), 5, 25, 3, 8),
+    ];
+    for (what, lent, f, number, answer, due) in refused {
+        taken(tried, what, lent, f, number, answer, (Reply::Refused(due), lent));
+    }
+    taken(tried, "box 5 is on it", sheet(VOTES, 1 << 5, 0), 1, 0, 1, (NONE, sheet(VOTES, 0b10_0001, 0)));
+    taken(tried, "box 25 is on it", sheet(VOTES, last, 0), 5, 25, 2, (Reply::Repeat, sheet(VOTES, last, 0)));
+}
+
+/// False where an answer is not the one due, or where none was tried.
+pub fn check() -> bool {
+    let mut tried = Tried::default();
+    reading(&mut tried);
+    let read = tried.all;
+    entering(&mut tried);
+    let entered = tried.all - read;
+    writing(&mut tried);
+    let written = tried.all - read - entered;
+    sheets(&mut tried);
+    let taken = tried.all - read - entered - written;
+    println!("vectors of the paper: {read} of reading, {entered} of entrances, {written} of writing, {taken} of the tally; {} differ", tried.wrong);
+    tried.wrong == 0 && read > 0 && entered > 0 && written > 0 && taken > 0
+}
