@@ -1,6 +1,6 @@
 /* How much stack a call takes, all its callees with it: the call is made on a stack of its own, filled with a pattern beforehand, and
  * the bytes that no longer hold the pattern are counted. Prints a line for each call, made by receive and by due; fails where one
- * takes more than the smallest box has (8 KiB). */
+ * takes more than half of what the smallest box has (8 KiB). */
 #define _GNU_SOURCE
 #include "../include/stobbarel.h"
 #include <stdio.h>
@@ -8,7 +8,7 @@
 #include <string.h>
 #include <ucontext.h>
 
-enum { STACK = 1 << 18, LIMIT = 8192, CAPACITY = 255, PATTERN = 0xA5 };
+enum { STACK = 1 << 18, LIMIT = 8192 / 2, CAPACITY = 255, PATTERN = 0xA5 };
 
 static uint8_t stack[STACK], table[STOBBAREL_TABLE_LEN(CAPACITY)], message[STOBBAREL_LONGEST];
 static uint64_t marks[STOBBAREL_KEYS], answer[5];
@@ -73,26 +73,39 @@ static void make(const char *letters, uint64_t number, uint64_t stamp, int kind)
     message_len += 57;
 }
 
+/* The message with a list, for a decision. */
+static void say(int decision) {
+    uint8_t *list = message + message_len - 57;
+    list[3] = (uint8_t)decision;
+    for (int i = 0; i < 26; i++) list[6 + 2 * i] = (uint8_t)decision;
+}
+
+/* The message with another body: the last byte of its last value is another. */
+static void other_body(void) {
+    message[2 + 12 + 10 * 16 - 1] ^= 1;
+}
+
 static int failed = 0;
 
-/* Bytes that a call takes, the table being put back; it has to answer this. */
-static size_t taken(void (*call)(void), uint64_t answered) {
+/* Bytes that a call takes, the table being put back; it has to answer this: an answer's number, and its first value. */
+static size_t taken(void (*call)(void), uint64_t answered, uint64_t value) {
     static uint8_t before[sizeof table];
     memcpy(before, table, sizeof table);
     call(); /* once before, so that the dynamic linker has done its work */
     memcpy(table, before, sizeof table);
     size_t bytes = used(call) - used(nothing);
     memcpy(table, before, sizeof table);
-    if (answer[0] != answered || bytes > LIMIT) {
-        printf("answer %llu, due %llu, %zu bytes, limit %d\n", (unsigned long long)answer[0], (unsigned long long)answered, bytes, LIMIT);
+    if (answer[0] != answered || answer[1] != value || bytes > LIMIT) {
+        printf("\nanswer %llu %llu, due %llu %llu, %zu bytes, limit %d\n", (unsigned long long)answer[0], (unsigned long long)answer[1],
+               (unsigned long long)answered, (unsigned long long)value, bytes, LIMIT);
         failed = 1;
     }
     return bytes;
 }
 
-static void show(const char *what, uint64_t answered) {
-    printf("%-52s %5zu", what, taken(receive, answered));
-    printf(" %5zu\n", taken(due, answered));
+static void show(const char *what, uint64_t answered, uint64_t value) {
+    printf("%-52s %5zu", what, taken(receive, answered, value));
+    printf(" %5zu\n", taken(due, answered, value));
 }
 
 int main(void) {
@@ -100,22 +113,33 @@ int main(void) {
         make("PR", STOBBAREL_PR, 2 * stamp, 0);
         receive();
     }
+    uint64_t last_vote = answer[1];
     printf("bytes of stack, by receive and by due\n");
     make("PR", STOBBAREL_PR, 900, 0);
-    show("PR, eight reads and eight writes, 254 entries held", STOBBAREL_VOTED);
-    make("LG", STOBBAREL_LG, 2, 1);
-    show("LG, a list of 26", STOBBAREL_LOGGED);
-    make("DC", STOBBAREL_DC, 4, 1);
-    show("DC, a list of 26", STOBBAREL_DONE);
+    show("PR, eight reads and eight writes, 254 entries held", STOBBAREL_VOTED, STOBBAREL_COMMIT);
+    make("PR", STOBBAREL_PR, 2 * 254, 0);
+    show("PR, the body that is held", STOBBAREL_VOTED, last_vote);
+    other_body();
+    show("PR, another body", STOBBAREL_REFUSED, STOBBAREL_OTHER_BODY);
+    make("LG", STOBBAREL_LG, 2 * 254, 1);
+    show("LG, a list of 26", STOBBAREL_LOGGED, STOBBAREL_COMMIT);
+    other_body();
+    show("LG, another body", STOBBAREL_REFUSED, STOBBAREL_OTHER_BODY);
+    make("DC", STOBBAREL_DC, 2 * 254, 1);
+    show("DC, a list of 26", STOBBAREL_DONE, 0);
+    other_body();
+    show("DC commit, another body, which replaces the held one", STOBBAREL_DONE, 0);
+    say(STOBBAREL_ABORT);
+    show("DC abort, another body", STOBBAREL_REFUSED, STOBBAREL_OTHER_BODY);
     mark = STOBBAREL_RD;
     memcpy(message, "RD", 2);
     put(message + 2, 110, 2);
     put(message + 4, 900, 8);
     message_len = 12;
-    show("RD, 254 entries held", STOBBAREL_FOUND);
+    show("RD, 254 entries held", STOBBAREL_FOUND, 0);
     message_len = 1;
-    show("a message that cannot be cut", STOBBAREL_REFUSED);
+    show("a message that cannot be cut", STOBBAREL_REFUSED, STOBBAREL_SHORT);
     group = 0;
-    show("refused with 14", STOBBAREL_REFUSED);
+    show("refused with 14", STOBBAREL_REFUSED, STOBBAREL_GROUP);
     return failed;
 }

@@ -1,6 +1,7 @@
 //! The engine tested from outside, by way of its C interface. See `usage`.
 
 mod bench;
+mod bodies;
 mod broken;
 mod cluster;
 mod compare;
@@ -24,6 +25,7 @@ use std::process::exit;
 const USAGE: &str = "\
 stobbarel-tests [compare] [COUNT [SEED]]   COUNT messages (2000000) on the engine and on the model
 stobbarel-tests vectors                    records read and written, messages by each entrance, answers taken by a tally sheet, as the paper has them
+stobbarel-tests bodies                     two bodies under one stamp that differ in little: each byte, counts alone, length
 stobbarel-tests records [COUNT [SEED]]     COUNT records (500000) written by engine and model, each read as it is and damaged
 stobbarel-tests cluster [RUNS [SEED]]      RUNS clusters (20000) of the engine, demand 3 judged after every call
 stobbarel-tests broken [MOST [SEED]]       boxes with a broken rule, and bad boxes: each must be noticed, within MOST clusters (20000)
@@ -73,6 +75,7 @@ fn main() {
         Some("compare") => compare(rest),
         Some("records") => records(rest),
         Some("vectors") => vectors::check(),
+        Some("bodies") => bodies::check(),
         Some("cluster") => cluster::check(&mut Beside, number(rest, 0, 20_000), number(rest, 1, 1)),
         Some("broken") => broken::check(number(rest, 0, 20_000), number(rest, 1, 1)),
         Some("incident") => incident::check(),
