@@ -32,8 +32,8 @@ extern "C" {
 #define STOBBAREL_ROW 176      /* Bytes of a row. */
 #define STOBBAREL_VOTE_AT 0    /* Where in a row the vote stands: 0 none, 1 commit, 2 abort, 3 waiting. */
 #define STOBBAREL_REASON_AT 1  /* Where in a row the reason stands: 1 to 6 beside an abort, else 0. */
-#define STOBBAREL_LOG_AT 2     /* Where in a row the logged decision stands: 0 none, 1 commit, 2 abort. */
-#define STOBBAREL_DECIDED_AT 3 /* Where in a row the decision stands: 0 none, 1 commit, 2 abort. */
+#define STOBBAREL_DECIDED_AT 2 /* Where in a row the decision stands: 0 none, 1 commit, 2 abort. */
+#define STOBBAREL_LOG_AT 3     /* Where in a row the logged decision stands: 0 none, 1 commit, 2 abort. */
 #define STOBBAREL_BODY_AT 4    /* Where in a row the transaction's bytes (TX) begin. */
 #define STOBBAREL_TABLE_LEN(capacity) (STOBBAREL_HEAD + STOBBAREL_ROW * (capacity)) /* Bytes of a table with room for so many entries. */
 

@@ -12,7 +12,7 @@ use Rattle.terms.specs.Checks.{orElse}
 use Rattle.terms.proofs.Checks.{pass, stop, less-no, first-none, rest-none, not-less, when-none}
 use Rattle.records.specs.Numbers.{numAt}
 use Rattle.records.proofs.Bytes.{take-at-0}
-use Rattle.table.specs.Table.{headLen, rowLen, voteAt, reasonAt, tableLen, rowAt, reasonWrong, voteWrong, rowWrong, rowBad, tableWrong, countOf, WfRow, Wf}
+use Rattle.table.specs.Table.{headLen, rowLen, voteAt, reasonAt, tableLen, rowAt, reasonWrong, voteWrong, settledWrong, decidedAt, logAt, rowWrong, rowBad, tableWrong, countOf, WfRow, Wf}
 
 -- a scan that found nothing: the test fails at each, and the other way
 or-left : (a b : Bool) → (a || b) ≡ false → a ≡ false
@@ -40,6 +40,13 @@ unfolding numAt reasonWrong
 codes-fine r x l e h =
     let n : x ≡ getD r voteAt 0 + 256 * (getD r reasonAt 0 + 256 * 0) = e ∙ (rw (take-at-0 r voteAt 2 (omega arith))) in
     pass (less-no _ _ _ (omega arith)) (rw (ne-eqb (getD r voteAt 0) 2 (omega arith)) (sym (less-no _ _ _ (omega arith))))
+
+-- decision and log likewise
+pub settled-fine : (r : List ℕ) (x : ℕ) → length r ≡ rowLen → x ≡ numAt 2 decidedAt r → x < 3 → 0 ≡ settledWrong r
+unfolding numAt
+settled-fine r x l e h =
+    let n : x ≡ getD r decidedAt 0 + 256 * (getD r logAt 0 + 256 * 0) = e ∙ (rw (take-at-0 r decidedAt 2 (omega arith))) in
+    pass (less-no _ _ _ (omega arith)) (sym (less-no _ _ _ (omega arith)))
 
 pub row-long : (t : List ℕ) (i : ℕ) → i * rowLen + rowLen ≤ length t → length (rowAt t i) ≡ rowLen
 row-long t i h = simp (length-take, length-drop) (omega arith)

@@ -45,7 +45,7 @@ coded d v r l x = set (set (set (set d voteAt v) reasonAt r) logAt l) decidedAt 
 
 pub row-put : (d b : List ℕ) (v r l x : ℕ) → length d ≡ rowLen
     → putMid bodyAt (rowLen - bodyAt) (coded d v r l x) (b ++ drop (length b) (midOf bodyAt (rowLen - bodyAt) (coded d v r l x)))
-    ≡ v ∷ r ∷ l ∷ x ∷ (b ++ drop (length b) (rowTx d))
+    ≡ v ∷ r ∷ x ∷ l ∷ (b ++ drop (length b) (rowTx d))
 row-put [] b v r l x h = absurd (omega arith)
 row-put (p ∷ []) b v r l x h = absurd (omega arith)
 row-put (p ∷ q ∷ []) b v r l x h = absurd (omega arith)

@@ -35,11 +35,11 @@ voteAt = 0
 abbrev pub reasonAt : ℕ
 reasonAt = 1
 
-abbrev pub logAt : ℕ
-logAt = 2
-
 abbrev pub decidedAt : ℕ
-decidedAt = 3
+decidedAt = 2
+
+abbrev pub logAt : ℕ
+logAt = 3
 
 abbrev pub bodyAt : ℕ
 bodyAt = 4
@@ -122,13 +122,16 @@ reasonWrong v r = pick (eqb v 2) (orElse (ifSame r 0 table) (ifLess 6 r table)) 
 abbrev pub voteWrong : List ℕ → ℕ
 voteWrong r = orElse (ifLess 3 (getD r voteAt 0) table) (reasonWrong (getD r voteAt 0) (getD r reasonAt 0))
 
+-- the code of a log, and that of a decision
+abbrev pub settledWrong : List ℕ → ℕ
+settledWrong r = orElse (ifLess 2 (getD r logAt 0) table) (ifLess 2 (getD r decidedAt 0) table)
+
 -- "an entry's r or w above 8, or a vote, reason, log or decision code outside its list"
 unfoldable pub rowWrong : List ℕ → ℕ
 rowWrong r =
     orElse (ifLess 8 (rCount (rowTx r)) table)
     (orElse (ifLess 8 (wCount (rowTx r)) table)
-    (orElse (voteWrong r)
-    (orElse (ifLess 2 (getD r logAt 0) table) (ifLess 2 (getD r decidedAt 0) table))))
+    (orElse (voteWrong r) (settledWrong r)))
 
 abbrev pub rowBad : List ℕ → Bool
 rowBad r = ltb 0 (rowWrong r)
@@ -159,7 +162,7 @@ place s (e ∷ es) = pick (eqb (stampOf (e .body)) s) 0 (1 + place s es)
 -- a row of body b and of what is held beside it; between the body's end and the row's stands what stood there
 unfoldable pub newRow : List ℕ → Body → State → List ℕ
 newRow d b x =
-    voteNumber (x .vote) ∷ voteReason (x .vote) ∷ settledNumber (x .log) ∷ settledNumber (x .decided) ∷ (b ++ drop (length b) (rowTx d))
+    voteNumber (x .vote) ∷ voteReason (x .vote) ∷ settledNumber (x .decided) ∷ settledNumber (x .log) ∷ (b ++ drop (length b) (rowTx d))
 
 -- the count once row i is stored: one more where i is behind the last
 unfoldable pub newCount : ℕ → ℕ → ℕ

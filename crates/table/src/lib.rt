@@ -10,7 +10,7 @@ ghost use Rattle.records.specs.Tx.{rCount, wCount, readAt, writeAt, writesFrom,
 ghost use Rattle.rules.specs.Bodies.{stampOf, writesKey, sameBody};
 ghost use Rattle.rules.specs.Table.{live};
 ghost use Rattle.table.specs.Table.{headLen, rowLen, bodyAt, tableLen, countOf, rowAt, rowTx, entryOf, entryAt, entries, WfRow, Wf, place};
-ghost use Rattle.table.specs.Table.{reasonWrong, voteWrong, rowWrong, rowBad, tableWrong, reasonOf, voteOf, settledOf, stateAt};
+ghost use Rattle.table.specs.Table.{reasonWrong, voteWrong, settledWrong, rowWrong, rowBad, tableWrong, reasonOf, voteOf, settledOf, stateAt};
 ghost use Rattle.table.specs.Table.{newRow, newCount, stored};
 use records::Read;
 use records::Write;
@@ -31,9 +31,9 @@ pub const VOTE_AT: usize = 0;
 
 pub const REASON_AT: usize = 1;
 
-pub const LOG_AT: usize = 2;
+pub const DECIDED_AT: usize = 2;
 
-pub const DECIDED_AT: usize = 3;
+pub const LOG_AT: usize = 3;
 
 pub const BODY_AT: usize = 4;
 
@@ -253,6 +253,23 @@ fn vote_wrong(e: &[u8]) -> u8
     reason_wrong(e[VOTE_AT], e[REASON_AT])
 }
 
+// 16 where log or decision is outside its list; most rows have no log, and then one look tells of both.
+fn settled_wrong(e: &[u8]) -> u8
+    requires { ⌜ length (now e) ≡ rowLen ⌝ }
+    ensures { λ n. ⌜ n ≡ settledWrong (now (e .entry)) ⌝ }
+{
+    if records::u16_at(e, DECIDED_AT) < 3 {
+        return 0;
+    }
+    if 2 < e[LOG_AT] {
+        return terms::TABLE;
+    }
+    if 2 < e[DECIDED_AT] {
+        return terms::TABLE;
+    }
+    0
+}
+
 // 16 where r or w is above 8, or a code is outside its list. It returns at the first: a row in order is half again as fast as by one sum of all checks.
 fn row_wrong(e: &[u8]) -> u8
     requires { ⌜ length (now e) ≡ rowLen ⌝ }
@@ -268,13 +285,7 @@ fn row_wrong(e: &[u8]) -> u8
     if wrong != 0 {
         return wrong;
     }
-    if 2 < e[LOG_AT] {
-        return terms::TABLE;
-    }
-    if 2 < e[DECIDED_AT] {
-        return terms::TABLE;
-    }
-    0
+    settled_wrong(e)
 }
 
 // Whether row `i` is wrong.

@@ -34,23 +34,12 @@ returns-3 : tie.Need-returns-3
 unfolding rowWrong
 returns-3 c = rw (reads-at (c .before .before .before .before .before .before .before .args .e .now), writes-at (c .before .before .before .before .before .before .before .args .e .now)) (pass (less-no _ _ _ (c .before .before .before .before .if1 .left)) (pass (less-no _ _ _ (c .before .before .if2 .left)) (stop _ _ _ (c .before .vote-wrong .ensures) (c .if3 .taken))))
 
-shared-slice-read-if4 : tie.Need-shared-slice-read-if4
-shared-slice-read-if4 c = search needs
+settled-wrong-requires : tie.Need-settled-wrong-requires
+settled-wrong-requires c κs = search needs
 
 returns-4 : tie.Need-returns-4
 unfolding rowWrong
-returns-4 c = rw (reads-at (c .before .before .before .before .before .before .before .before .before .args .e .now), writes-at (c .before .before .before .before .before .before .before .before .before .args .e .now)) (pass (less-no _ _ _ (c .before .before .before .before .before .before .if1 .left)) (pass (less-no _ _ _ (c .before .before .before .before .if2 .left)) (pass (sym (c .before .before .before .vote-wrong .ensures) ∙ c .before .before .if3 .left) (halt _ _ _ (less-yes _ _ _ (c .if4 .taken)) (omega arith)))))
-
-shared-slice-read-if5 : tie.Need-shared-slice-read-if5
-shared-slice-read-if5 c = search needs
-
-returns-5 : tie.Need-returns-5
-unfolding rowWrong
-returns-5 c = rw (reads-at (c .before .before .before .before .before .before .before .before .before .before .before .args .e .now), writes-at (c .before .before .before .before .before .before .before .before .before .before .before .args .e .now)) (pass (less-no _ _ _ (c .before .before .before .before .before .before .before .before .if1 .left)) (pass (less-no _ _ _ (c .before .before .before .before .before .before .if2 .left)) (pass (sym (c .before .before .before .before .before .vote-wrong .ensures) ∙ c .before .before .before .before .if3 .left) (pass (less-no _ _ _ (c .before .before .if4 .left)) (sym (less-yes _ _ _ (c .if5 .taken)))))))
-
-returns-6 : tie.Need-returns-6
-unfolding rowWrong
-returns-6 c = rw (reads-at (c .before .before .before .before .before .before .before .before .before .before .before .args .e .now), writes-at (c .before .before .before .before .before .before .before .before .before .before .before .args .e .now)) (pass (less-no _ _ _ (c .before .before .before .before .before .before .before .before .if1 .left)) (pass (less-no _ _ _ (c .before .before .before .before .before .before .if2 .left)) (pass (sym (c .before .before .before .before .before .vote-wrong .ensures) ∙ c .before .before .before .before .if3 .left) (pass (less-no _ _ _ (c .before .before .if4 .left)) (sym (less-no _ _ _ (c .if5 .left)))))))
+returns-4 c = rw (reads-at (c .before .before .before .before .before .before .before .before .args .e .now), writes-at (c .before .before .before .before .before .before .before .before .args .e .now)) (pass (less-no _ _ _ (c .before .before .before .before .before .if1 .left)) (pass (less-no _ _ _ (c .before .before .before .if2 .left)) (pass (sym (c .before .before .vote-wrong .ensures) ∙ c .before .if3 .left) (c .settled-wrong .ensures))))
 
 pub row-wrong-spec : {M : Type 1} → statement M
 row-wrong-spec =
@@ -64,8 +53,5 @@ row-wrong-spec =
     returns-2
     vote-wrong-requires
     returns-3
-    shared-slice-read-if4
-    returns-4
-    shared-slice-read-if5
-    returns-5
-    returns-6)
+    settled-wrong-requires
+    returns-4)
