@@ -7,8 +7,8 @@ use stobbarel::layout::table_len;
 
 pub const SETTINGS: Settings = Settings { f: 5, capacity: 255, clock: 1_000_000, delta: 1000 };
 /// Entry i has stamp FIRST + STEP * i.
-const FIRST: u64 = 1000;
-const STEP: u64 = 10;
+pub const FIRST: u64 = 1000;
+pub const STEP: u64 = 10;
 
 pub struct Call {
     pub lent: Lent,
@@ -70,7 +70,7 @@ fn keys(random: &mut Random, count: usize, serves: impl Fn(u16) -> bool) -> Vec<
 }
 
 /// A transaction that is voted commit: it reads what is committed, and no later read is undercut.
-fn body(random: &mut Random, held: &[Entry], stamp: u64, many: usize) -> Transaction {
+pub fn body(random: &mut Random, held: &[Entry], stamp: u64, many: usize) -> Transaction {
     let reads = keys(random, many, |key| version(held, key, stamp).is_some());
     let writes = keys(random, many, |key| !read_over(held, key, stamp));
     Transaction {
@@ -81,12 +81,12 @@ fn body(random: &mut Random, held: &[Entry], stamp: u64, many: usize) -> Transac
     }
 }
 
-fn prepared(tx: &Transaction) -> Vec<u8> {
+pub fn prepared(tx: &Transaction) -> Vec<u8> {
     [b"PR".to_vec(), transaction_bytes(tx)].concat()
 }
 
 /// An LG or a DC whose list has all 26 boxes, each with this decision.
-fn listed(mark: &[u8; 2], tx: &Transaction, decision: u8) -> Vec<u8> {
+pub fn listed(mark: &[u8; 2], tx: &Transaction, decision: u8) -> Vec<u8> {
     let mut message = [mark.to_vec(), transaction_bytes(tx), vec![b'V', b'L', 1, decision, 26]].concat();
     for number in 0..26 {
         message.extend([number, decision]);
@@ -94,11 +94,11 @@ fn listed(mark: &[u8; 2], tx: &Transaction, decision: u8) -> Vec<u8> {
     message
 }
 
-fn send(lent: &mut Lent, message: &[u8]) -> Answer {
+pub fn send(lent: &mut Lent, message: &[u8]) -> Answer {
     model::call(&mut lent.table, &mut lent.marks, &SETTINGS, message, &MARKS, &mut Vec::new())
 }
 
-fn held(lent: &Lent) -> Vec<Entry> {
+pub fn held(lent: &Lent) -> Vec<Entry> {
     entries_of(&lent.table, 255).expect("a table that is taken")
 }
 
@@ -145,10 +145,15 @@ pub fn call(name: Name, size: usize) -> Call {
     Call { lent, message, undo, due }
 }
 
+/// RD of a key at a stamp.
+pub fn reading(key: u16, stamp: u64) -> Vec<u8> {
+    [b"RD".to_vec(), key.to_le_bytes().to_vec(), stamp.to_le_bytes().to_vec()].concat()
+}
+
 /// RD of a key that the last entry writes.
 fn read(lent: &Lent, stamp: u64) -> (Vec<u8>, Undo, Answer) {
     let key = last(lent).writes[0].0;
-    let message = [b"RD".to_vec(), key.to_le_bytes().to_vec(), stamp.to_le_bytes().to_vec()].concat();
+    let message = reading(key, stamp);
     let due = send(&mut lent.clone(), &message);
     (message, Undo::Mark(key as usize), due)
 }

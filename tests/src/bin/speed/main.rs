@@ -1,5 +1,6 @@
-//! How fast the engine is: `speed` times each call on the engine, on the model's own box and on the flat box, in turns,
-//! and prints the ratios. `speed NAME SIZE BOX TIMES` makes one call so many times on one box, for a profiler.
+//! How fast the engine is: `speed` times each call on the engine, on the model's own box and on the flat box, in turns, and prints
+//! the ratios; `speed FILE` draws them too. `speed check` times PR at 255 entries and fails above twice the own box.
+//! `speed NAME SIZE BOX TIMES` makes one call so many times on one box, for a profiler.
 
 #[path = "../../engine.rs"]
 #[allow(dead_code)]
@@ -15,10 +16,14 @@ mod random;
 mod boxes;
 mod calls;
 mod flat;
+mod junction;
+mod plot;
 
 use boxes::{Engine, Flat, Own, Timed};
 use calls::{Call, NAMES, SETTINGS};
+use junction::{empty, Junction};
 use std::hint::black_box;
+use std::process::exit;
 use std::time::{Duration, Instant};
 
 const SIZES: [usize; 4] = [1, 16, 64, 255];
@@ -109,14 +114,43 @@ fn measure(call: &Call) -> Vec<[f64; 3]> {
     (0..ROUNDS).map(round).collect()
 }
 
-/// Prints a row; the median ratio to the own box.
-fn report(name: &str, size: usize, rounds: &[[f64; 3]]) -> f64 {
-    let nanos = |which: usize| spread(rounds.iter().map(|round| round[which]).collect()).middle;
-    let ratio = |which: usize| spread(rounds.iter().map(|round| round[0] / round[which]).collect());
-    let shown = |of: &Spread| format!("{:.2} ({:.2} to {:.2})", of.middle, of.low, of.high);
-    let own = ratio(1);
-    println!("| {name} | {size} | {:.0} | {:.0} | {} | {:.0} | {} |", nanos(0), nanos(1), shown(&own), nanos(2), shown(&ratio(2)));
-    own.middle
+/// The median of each box's time in a round.
+fn medians(rounds: &[[f64; 3]]) -> [f64; 3] {
+    [0, 1, 2].map(|which| spread(rounds.iter().map(|round| round[which]).collect()).middle)
+}
+
+/// The engine's time by that of a box.
+fn ratio(rounds: &[[f64; 3]], which: usize) -> Spread {
+    spread(rounds.iter().map(|round| round[0] / round[which]).collect())
+}
+
+/// Prints a row.
+fn report(name: &str, size: &str, rounds: &[[f64; 3]]) {
+    let shown = |of: Spread| format!("{:.2} ({:.2} to {:.2})", of.middle, of.low, of.high);
+    let [engine, own, flat] = medians(rounds);
+    println!("| {name} | {size} | {engine:.0} | {own:.0} | {} | {flat:.0} | {} |", shown(ratio(rounds, 1)), shown(ratio(rounds, 2)));
+}
+
+/// Nanoseconds a message at a busy junction, each round on all three boxes.
+fn at_a_junction() -> (usize, Vec<[f64; 3]>) {
+    let junction = Junction::new();
+    let (engine, own, flat) = (|| Engine(empty()), || Own::new(&empty()), || Flat(empty()));
+    junction.check(engine());
+    junction.check(own());
+    junction.check(flat());
+    let round = |_| [junction.turn(engine), junction.turn(own), junction.turn(flat)];
+    (junction.messages.len(), (0..ROUNDS / 2).map(round).collect())
+}
+
+/// A7: PR within twice the own box's time, at 255 entries.
+fn within_twice() -> bool {
+    let mut within = true;
+    for (name, title) in NAMES.iter().filter(|(_, title)| title.starts_with("PR")) {
+        let own = ratio(&measure(&calls::call(*name, 255)), 1).middle;
+        println!("{title}, 255 entries: {own:.2} of the own box's time, 2.0 at most");
+        within &= own <= 2.0;
+    }
+    within
 }
 
 fn one(words: &[String]) {
@@ -136,17 +170,33 @@ fn main() {
     if words.len() == 4 {
         return one(&words);
     }
+    if words == ["check"] {
+        exit(i32::from(!within_twice()));
+    }
     check_flat(30_000);
     println!("| call | entries | engine, ns | own box, ns | engine / own box | flat box, ns | engine / flat box |");
     println!("|---|---|---|---|---|---|---|");
-    let mut aims = Vec::new();
+    let mut panels = Vec::new();
+    let mut missed = Vec::new();
     for (name, title) in NAMES {
+        let mut points = Vec::new();
         for size in SIZES {
-            let own = report(title, size, &measure(&calls::call(name, size)));
-            if size == 255 && title.starts_with("PR") {
-                aims.push(format!("{title} {own:.2}, {}", if own <= 1.0 { "met" } else { "missed" }));
+            let rounds = measure(&calls::call(name, size));
+            report(title, &size.to_string(), &rounds);
+            points.push((size, medians(&rounds)));
+            let own = ratio(&rounds, 1).middle;
+            if size == 255 && own > 1.0 {
+                missed.push(format!("{title} {own:.2}"));
             }
         }
+        panels.push((title, points));
     }
-    println!("\nThe aim on PR at 255 entries, 1.0 or less beside the own box: {}.", aims.join("; "));
+    let (messages, rounds) = at_a_junction();
+    report("a message at the junction", "0 to 255", &rounds);
+    println!("\nThe junction has {messages} messages.");
+    let missed = if missed.is_empty() { "every call meets it".to_string() } else { format!("missed by {}", missed.join(", ")) };
+    println!("The aim at 255 entries, 1.0 or less beside the own box: {missed}.");
+    if let [file] = &words[..] {
+        std::fs::write(file, plot::drawn(&panels)).expect("the drawing is written");
+    }
 }
