@@ -92,8 +92,8 @@ void stobbarel_receive(uint8_t *table, size_t table_len, uint64_t marks[512], ui
                        uint64_t delta, const uint8_t *message, size_t message_len, uint64_t answer[5]);
 
 /* The message of one mark: PR, LG, DC or RD by its number above. A number that is none of them is refused with 2 after 14 and 16,
- * before the message is looked at; a message with another mark is refused with 2 in its order. LG and DC leave the read marks as
- * they are, RD the table. */
+ * before the message is looked at; a message with another mark is refused with 2 in its order. PR, LG and DC leave the read
+ * marks as they are, RD the table. */
 void stobbarel_due(uint64_t mark, uint8_t *table, size_t table_len, uint64_t marks[512], uint64_t f, uint64_t capacity,
                    uint64_t clock, uint64_t delta, const uint8_t *message, size_t message_len, uint64_t answer[5]);
 

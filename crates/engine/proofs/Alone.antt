@@ -8,7 +8,7 @@ use Rattle.records.specs.Cutting.{txPart}
 use Rattle.records.specs.Messages.{listBehind, rdKey, rdStamp}
 use Rattle.rules.specs.declared.Told.{Told}
 use Rattle.rules.specs.Calls.{Act, nothing, lookAct, rdRule}
-use Rattle.rules.specs.Act.{due, rule, dueAct, markedAct, markBy, marksAfter}
+use Rattle.rules.specs.Act.{due, rule, dueAct, markedAct, dueMark, markBy, marksAfter}
 use Rattle.rules.proofs.Deeds.{guarded-elim}
 use Rattle.rules.proofs.Room.{pr-still, lg-still, dc-still}
 use Rattle.engine.specs.Outcome.{Kept, boxIn, calledBy, tableBy, leavesAlone, LeavesAlone}
@@ -28,7 +28,7 @@ nothing-alone DC x = refl
 nothing-alone RD x = refl
 
 pub leaves-alone : LeavesAlone
-unfolding calledBy markBy markedAct dueAct
+unfolding calledBy dueMark markBy markedAct dueAct
 leaves-alone k told x m =
     guarded-elim (λ (a : Act). leavesAlone k x (a .change)) _ _
     (λ _. guarded-elim (λ (a : Act). leavesAlone k x (a .change)) _ _ (λ _. rule-alone k told x m) (λ _. nothing-alone k x))

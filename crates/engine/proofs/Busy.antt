@@ -21,7 +21,7 @@ use Rattle.rules.specs.Bodies.{Body, sameBody}
 use Rattle.rules.specs.Lists.{bit}
 use Rattle.rules.specs.Table.{Box, empty}
 use Rattle.rules.specs.Calls.{Act}
-use Rattle.rules.specs.Act.{act, after, EntryPoint, toldWrong, markBy}
+use Rattle.rules.specs.Act.{act, after, EntryPoint, toldWrong, dueMark, markBy}
 use Rattle.rules.specs.System.{Event, toldAt, boxAt, answerTo, Word, givesNow, gave, howMany, givenIn, Sound, HonestBy, Fair, Given, carriesList, isWord, wordIn}
 use Rattle.rules.specs.Traces.{liar, at, each, busyFirst, busyThen, busy}
 use Rattle.rules.proofs.Laws.{and-l, and-r}
@@ -127,7 +127,7 @@ unfolding lentWrong toldWrong tooLarge orElse ifLess groupWrong
 short-told = rw (untouched, too-short 8 9 (omega arith))
 
 no-list : (g : Given) → HonestBy 1 liar g (tooLarge .entry) (tooLarge .message)
-unfolding HonestBy tooLarge carriesList markBy running
+unfolding HonestBy tooLarge carriesList dueMark markBy running
 no-list g PR q z y = absurd y
 no-list g LG q z y = let z : _≡_ {A = ℕ} 0 1 = cc in absurd (omega arith)
 no-list g DC q z y = let z : _≡_ {A = ℕ} 0 1 = cc in absurd (omega arith)

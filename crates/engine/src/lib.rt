@@ -3,7 +3,7 @@ ghost use mathlib.Core.Path.{_≡_};
 ghost use Prim.Native.Nat.{_≤_};
 ghost use Rattle.records.specs.Cutting.{txPart};
 ghost use Rattle.records.specs.Messages.{dueRefusal, readDue};
-ghost use Rattle.rules.specs.Act.{receive, due, toldWrong, rule, raise};
+ghost use Rattle.rules.specs.Act.{receive, due, dueMark, toldWrong, rule, raise};
 ghost use Rattle.engine.specs.Outcome.{kept, boxIn, lentWrong, calledBy, called, tableOf, marksOf, Leaves, Ready, Does};
 use records::Mark;
 use records::Marked;
@@ -103,6 +103,30 @@ fn apply(t: &mut [u8], marks: &mut [u64; 512], step: Step, m: &[u8]) -> Answer
     }
 }
 
+// A message by the mark that it is said to have.
+fn run(
+    marked: Marked,
+    table: &mut [u8],
+    marks: &mut [u64; 512],
+    told: Told,
+    message: &[u8],
+) -> Answer
+    ensures { λ r. ⌜ Leaves (calledBy marked told (kept (now (table .entry)) (now (marks .entry))) (now (message .entry))) (kept (now (table .entry)) (now (marks .entry))) r (kept (now (table .exit)) (now (marks .exit))) ⌝ }
+{
+    let step = called(marked, table, marks, told, message);
+    apply(table, marks, step, message)
+}
+
+// The mark that is due; none of the four is 2.
+fn due_mark(marked: Marked) -> Marked
+    ensures { λ r. ⌜ r ≡ dueMark marked ⌝ }
+{
+    match marked {
+        Marked::Is(mark) => Marked::Is(mark),
+        Marked::Refused(_) => Marked::Refused(terms::MARK),
+    }
+}
+
 // A message where one with a certain mark is due: PR to vote on a transaction, LG to log a decision, DC to take one, RD to read a key.
 pub fn due(
     marked: Marked,
@@ -113,13 +137,12 @@ pub fn due(
 ) -> Answer
     ensures { λ r. ⌜ Leaves (called (due marked) told (kept (now (table .entry)) (now (marks .entry))) (now (message .entry))) (kept (now (table .entry)) (now (marks .entry))) r (kept (now (table .exit)) (now (marks .exit))) ⌝ }
 {
-    let step = called(marked, table, marks, told, message);
-    apply(table, marks, step, message)
+    run(due_mark(marked), table, marks, told, message)
 }
 
 // Any of the four messages, by its mark.
 pub fn receive(table: &mut [u8], marks: &mut [u64; 512], told: Told, message: &[u8]) -> Answer
     ensures { λ r. ⌜ Leaves (called receive told (kept (now (table .entry)) (now (marks .entry))) (now (message .entry))) (kept (now (table .entry)) (now (marks .entry))) r (kept (now (table .exit)) (now (marks .exit))) ⌝ }
 {
-    due(reading::mark_of(message), table, marks, told, message)
+    run(reading::mark_of(message), table, marks, told, message)
 }

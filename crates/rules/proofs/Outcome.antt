@@ -5,19 +5,21 @@ use mathlib.Core.List.{List}
 use native.Mathlib.Omega.{arith}
 use lib.ListN.{length, length-set}
 use Rattle.terms.specs.declared.Refusal.{Refusal}
+use Rattle.records.specs.declared.Mark.{Mark}
+use Rattle.records.specs.declared.Marked.the-variants.{Is}
 use Rattle.records.specs.Messages.{markOf}
 use Rattle.rules.specs.Answers.{Refused}
 use Rattle.rules.specs.Bodies.{Body}
 use Rattle.rules.specs.Table.{Box, Told}
 use Rattle.rules.specs.Calls.{Act, Change, nothing, puts, raises, castAct, logAct, decideAct, rdAnswer, lookAct}
-use Rattle.rules.specs.Act.{EntryPoint, receive, due, markBy, act, tableAfter, raise, marksAfter, boxAfter, after}
+use Rattle.rules.specs.Act.{EntryPoint, receive, due, dueMark, markBy, act, tableAfter, raise, marksAfter, boxAfter, after}
 use Rattle.rules.proofs.Moves.{Move, quiet, looks, again, casts, logs-first, decides, replaces}
 use Rattle.rules.proofs.Deeds.{deed}
 
 -- the entry point for any message does what the one for its mark does
-pub act-due : (told : Told) (x : Box) (m : List ℕ) → act receive told x m ≡ act (due (markOf m)) told x m
-unfolding act markBy
-act-due told x m = refl
+pub act-due : (told : Told) (x : Box) (m : List ℕ) (k : Mark) → markOf m ≡ Is k → act receive told x m ≡ act (due (Is k)) told x m
+unfolding act markBy dueMark
+act-due told x m k e = rw e
 
 -- ---- "A refusal returns its number only. Table, read marks, .. stay unchanged."
 refused-change : {f : ℕ} {x : Box} {way : EntryPoint} {m : List ℕ} {b : Body} {a : Act} (r : Refusal) → Move f x way m b a → a .answer ≡ Refused r → a .change ≡ nothing

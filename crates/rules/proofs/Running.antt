@@ -17,7 +17,7 @@ use Rattle.rules.specs.Tests.{test1, liveWriter, test2, undercut, test3,
 use Rattle.rules.specs.Calls.{guarded, isFull, roomFor, sameDecision, castAct, prByVote, prByDecision, prByEntry, prRule, logAct, lgByLog}
 use Rattle.rules.specs.Calls.{lgByDecision, lgByEntry, lgRule, decideAct, dcSame, dcOther, dcByEntry, dcRule, better, newest, valueAt}
 use Rattle.rules.specs.Calls.{versionOf, isCommitted, isUndecided, rdAnswer, lookAct, rdRule}
-use Rattle.rules.specs.Act.{toldWrong, rule, dueAct, markedAct, markBy, act, tableAfter, raise, marksAfter, boxAfter, after}
+use Rattle.rules.specs.Act.{toldWrong, rule, dueAct, markedAct, dueMark, markBy, act, tableAfter, raise, marksAfter, boxAfter, after}
 use Rattle.rules.specs.System.{boxAt, answerTo, word, cast, voteWord, wordIn, sameWord, isWord, givesNow, gave, howMany, carriesList}
 use Rattle.rules.specs.Cases.{replay, given, due, line, case, read, write, tx, writes, reads, pairs, list, PR, LG, DC, RD, commits, waits}
 use Rattle.rules.specs.Cases.{aborts, lg, dc, found}
@@ -56,7 +56,7 @@ unfolding decideAct dcSame dcOther dcByEntry dcRule better newest valueAt versio
 deciding = 0
 
 unfoldable acting : ℕ
-unfolding toldWrong rule dueAct markedAct markBy act tableAfter raise marksAfter boxAfter after
+unfolding toldWrong rule dueAct markedAct dueMark markBy act tableAfter raise marksAfter boxAfter after
 acting = 0
 
 unfoldable sending : ℕ

@@ -2,7 +2,7 @@
 use Prim.Native.Nat.{ℕ, max}
 use mathlib.Core.List.{List}
 use lib.ListN.{getD, set}
-use Rattle.terms.specs.Checks.{orElse, ifLess, group}
+use Rattle.terms.specs.Checks.{orElse, ifLess, group, mark}
 use Rattle.terms.specs.Group.{groupWrong}
 use Rattle.terms.specs.Refusals.{refusalOf}
 use Rattle.records.specs.declared.Mark.{Mark}
@@ -34,14 +34,19 @@ unfoldable pub markedAct : Marked → Told → Box → List ℕ → Act
 markedAct (Is k) told x m = dueAct k told x m
 markedAct (Unmarked n) told x m = refuse (refusalOf n)
 
--- how bytes reach a box: by the entry point for any message, or by the one where a certain mark is due (or none of the four, and all is refused)
+-- how bytes reach a box: by the entry point for any message, or by the one where a certain mark is due
 pub data EntryPoint : Type 0 where
   receive : EntryPoint
   due : Marked → EntryPoint
 
+-- "mark is not the one due": where none of the four is due, all is refused with 2
+unfoldable pub dueMark : Marked → Marked
+dueMark (Is k) = Is k
+dueMark (Unmarked n) = Unmarked mark
+
 unfoldable pub markBy : EntryPoint → List ℕ → Marked
 markBy receive m = markOf m
-markBy (due k) m = k
+markBy (due k) m = dueMark k
 
 -- "Order: 14, .."
 unfoldable pub act : EntryPoint → Told → Box → List ℕ → Act

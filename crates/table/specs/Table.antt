@@ -1,4 +1,4 @@
--- The lent table: a byte that counts its entries, then a row for each: the codes of vote, reason, log and decision, then the TX record's bytes.
+-- The lent table: a byte that counts its entries, then a row for each: the codes of vote, reason, decision and log, then the TX record's bytes.
 use Prim.Native.Nat.{ℕ, _+_, _*_, _≤_, _<_}
 use mathlib.Core.List.{List, [], _∷_, _++_}
 use mathlib.Core.Path.{_≡_}

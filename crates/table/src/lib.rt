@@ -24,7 +24,7 @@ use terms::Stamp;
 // How many bytes stand in front of the rows: the count of entries.
 pub const HEAD: usize = 1;
 
-// How many bytes a row has, and where in it the codes of vote, reason, log and decision stand, and the body.
+// How many bytes a row has, and where in it the codes of vote, reason, decision and log stand, and the body.
 pub const ROW: usize = 176;
 
 pub const VOTE_AT: usize = 0;

@@ -24,7 +24,7 @@ use Rattle.records.specs.declared.Write.{Write}
 use Rattle.records.specs.declared.TxReading.{TxReading}
 use Rattle.records.specs.declared.VlReading.{VlReading}
 use Rattle.records.proofs.Held.{tx-in, list-in}
-use Rattle.writing.specs.OneForm.{Bytes, none, more, TxRight, ListRight, Message, pr, listed, rd, itsMark, bytesOf, Right, holds, readingOf, WrittenIsRead, Accepted, written, ReadIsWritten, OneFormOf, OneForm}
+use Rattle.writing.specs.OneForm.{Bytes, none, more, TxRight, ListRight, Message, pr, listed, rd, itsMark, bytesOf, Right, holds, readAs, WrittenIsRead, Accepted, written, ReadIsWritten, OneFormOf, OneForm}
 use Rattle.writing.proofs.Fields.{num-at}
 use Rattle.writing.proofs.Cut.{both, behind-none, behind-told, mark-read, tx-len-read, tx-cut-read, tx-back, tx-again, vl-cut-read, vl-len-read, vl-back, vl-again, tx-part-read, vl-part-read, pr-again, listed-again, rd-again}
 
@@ -122,7 +122,7 @@ its-mark (listed k x l) = mark-found k _
 its-mark (rd n s) = mark-found RD _
 
 -- ---- what is written is read
-due-back : (f : ℕ) (m : Message) → groupWrong f ≡ 0 → Right f m → readDue (itsMark m) f (bytesOf m) ≡ readingOf m
+due-back : (f : ℕ) (m : Message) → groupWrong f ≡ 0 → Right f m → readDue (itsMark m) f (bytesOf m) ≡ readAs m
 due-back f (pr x) g r = pr-read f x g r
 due-back f (listed k x l) g r = listed-read k f x l (r .0) (r .1) (r .2)
 due-back f (rd n s) g r = rd-read f n s g (r .0) (r .1)

@@ -71,17 +71,17 @@ Right f (rd n s) = (rdWrong n s ≡ 0) × (s < 256 ^ 8)
 abbrev pub holds : Mark → Tx → Vl → ℕ → ℕ → Reading
 holds k x l n s = record { found = Is k; tx = heldTx x; list = heldList l; key = record { 0 = n }; stamp = record { 0 = s } }
 
-abbrev pub readingOf : Message → Reading
-readingOf (pr x) = holds PR x noList 0 0
-readingOf (listed k x l) = holds k x l 0 0
-readingOf (rd n s) = holds RD noTx noList n s
+abbrev pub readAs : Message → Reading
+readAs (pr x) = holds PR x noList 0 0
+readAs (listed k x l) = holds k x l 0 0
+readAs (rd n s) = holds RD noTx noList n s
 
 -- ---- what is written is read back as the same value: a message where its mark is due, and where any message is
 pub record WrittenIsRead : Type 0 where
   pub tx : (x : Tx) → TxRight x → readTX (txBytes x) ≡ record { wrong = 0; tx = heldTx x }
   pub vl : (f : ℕ) (l : Vl) → ListRight f l → readVL f (vlBytes l) ≡ record { wrong = 0; list = heldList l }
-  pub due : (f : ℕ) (m : Message) → groupWrong f ≡ 0 → Right f m → readDue (itsMark m) f (bytesOf m) ≡ readingOf m
-  pub message : (f : ℕ) (m : Message) → groupWrong f ≡ 0 → Right f m → readMessage f (bytesOf m) ≡ readingOf m
+  pub due : (f : ℕ) (m : Message) → groupWrong f ≡ 0 → Right f m → readDue (itsMark m) f (bytesOf m) ≡ readAs m
+  pub message : (f : ℕ) (m : Message) → groupWrong f ≡ 0 → Right f m → readMessage f (bytesOf m) ≡ readAs m
 
 -- ---- what is accepted, written again, is the same bytes
 abbrev pub Accepted : Reading → Type 0

@@ -1,4 +1,3 @@
-use Rattle.engine.proofs.Steps.{applied}
 use Rattle.rules.specs.Act.{markBy}
 use native.Mathlib.Omega.{arith}
 use borrow.Author.Needs.{needs}
@@ -6,21 +5,21 @@ use Rattle.engine.proofs.due.Statement.{statement}
 use Rattle.engine.proofs.due.Tie as tie
 use Rattle.engine.proofs.due.Reads as reads
 use Rattle.engine.proofs.due.Lts as lts
-use Rattle.engine.proofs.apply.Reads as apply-reads
-use Rattle.engine.proofs.called.Reads as called-reads
+use Rattle.engine.proofs.run.Reads as run-reads
+use Rattle.engine.proofs.due_mark.Reads as due-mark-reads
 
-called-requires : tie.Need-called-requires
-called-requires c κs = search needs
+due-mark-requires : tie.Need-due-mark-requires
+due-mark-requires c κs = search needs
 
-apply-requires : tie.Need-apply-requires
-apply-requires c κs = c .before .before .called .ensures .ready
+run-requires : tie.Need-run-requires
+run-requires c κs = search needs
 
 same-length : tie.Need-same-length
 same-length c = search needs
 
 returns : tie.Need-returns
 unfolding markBy
-returns c = applied _ (c .before .before .before .before .before .called .ensures) (c .before .before .apply .ensures)
+returns c = rw (← c .before .before .before .before .before .due-mark .ensures) (c .before .before .run .ensures)
 
 pub due-spec : {M : Type 1} → statement M
-due-spec = tie.close (tie.spec called-requires apply-requires same-length returns)
+due-spec = tie.close (tie.spec due-mark-requires run-requires same-length returns)
