@@ -16,7 +16,7 @@ use Rattle.rules.specs.Bodies.{Body, stampOf, sameBody}
 use Rattle.rules.specs.Lists.{kindOf, decisionOf, forLogging, forProof, meets}
 use Rattle.rules.specs.Table.{Entry, Box, Told, find}
 use Rattle.rules.specs.Tests.{waitingRule, firstVote}
-use Rattle.rules.specs.Calls.{Act, keep, refuse, isFull, roomFor, sameDecision, prByVote, prByDecision, prByEntry, prRule, lgByLog}
+use Rattle.rules.specs.Calls.{Act, keep, refuse, isFull, roomFor, needing, sameDecision, prByVote, prByDecision, prByEntry, prRule, lgByLog}
 use Rattle.rules.specs.Calls.{lgByDecision, lgByEntry, lgRule, dcSame, dcOther, dcByEntry, dcRule}
 use Rattle.rules.specs.Act.{EntryPoint}
 use Rattle.rules.specs.System.{vote, log, cast, voteWord, wordIn}
@@ -50,6 +50,10 @@ module _ {f : ℕ} {x : Box} {way : EntryPoint} {m : List ℕ} {b : Body} where
   pub tested : (p : Bool) (r : Refusal) (a : Act) → (T p → Move f x way m b a) → Move f x way m b (pick p a (refuse r))
   tested p r a k = pick-elim (Move f x way m b) p k (λ _. refuses r)
 
+  pub needed : (need : ℕ) (l : Vl) (a : Act) → (T (meets need l) → Move f x way m b a) → Move f x way m b (needing need l a)
+  unfolding needing
+  needed need l a k = tested (meets need l) _ a k
+
 -- PR
 module _ (told : Told) (x : Box) (way : EntryPoint) (m : List ℕ) (b : Body) (sane : txWrong (txOf b) ≡ 0) where
   pr-vote : (e : Entry) → Prior x.table b (some e) → (v : Vote) → e.vote ≡ v → Move told.f x way m b (prByVote told x b e v)
@@ -81,7 +85,7 @@ module _ (told : Told) (x : Box) (way : EntryPoint) (m : List ℕ) (b : Body) (l
   unfolding lgByLog Holds wordIn
   lg-log e p (settled d) q = again (log d) e p q refl
   lg-log e p unsettled q =
-      tested (meets (forLogging told.f (decisionOf (l .decision))) l) _ _ (λ n. logs-first l (some e) w k (record { formed = h; enough = n }) p q)
+      needed (forLogging told.f (decisionOf (l .decision))) l _ (λ n. logs-first l (some e) w k (record { formed = h; enough = n }) p q)
 
   lg-decided : (e : Entry) → find (stampOf b) x.table ≡ some e → e.body ≡ b → (o : Settled) → e.decided ≡ o
       → Move told.f x way m b (lgByDecision told b l e o)
@@ -89,9 +93,11 @@ module _ (told : Told) (x : Box) (way : EntryPoint) (m : List ℕ) (b : Body) (l
   lg-decided e p s (settled d) q = tells d
   lg-decided e p s unsettled q = lg-log e (own e p s q) e.log refl
 
-  lg-entry : (o : Option Entry) → find (stampOf b) x.table ≡ o → Move told.f x way m b (lgByEntry told b l o)
+  lg-entry : (o : Option Entry) → find (stampOf b) x.table ≡ o → Move told.f x way m b (lgByEntry told x b l o)
   unfolding lgByEntry
-  lg-entry none p = refuses _
+  lg-entry none p =
+      needed (forLogging told.f (decisionOf (l .decision))) l _
+      (λ n. room told _ (logs-first l none w k (record { formed = h; enough = n }) (nothing p) refl))
   lg-entry (some e) p = tested (sameBody e.body b) _ _ (λ s. lg-decided e p (sameBody-eq e.body b s) e.decided refl)
 
   pub lg-move : Move told.f x way m b (lgRule told x b l)
@@ -125,5 +131,5 @@ module _ (told : Told) (x : Box) (way : EntryPoint) (m : List ℕ) (b : Body) (l
 pub dc-move : (told : Told) (x : Box) (way : EntryPoint) (m : List ℕ) (b : Body) (l : Vl) → Brings told.f way m b l → listWrong told.f l ≡ 0 → Move told.f x way m b (dcRule told x b l)
 unfolding dcRule
 dc-move told x way m b l w h =
-    tested (meets (forProof told.f (kindOf (l .kind)) (decisionOf (l .decision))) l) _ _
+    needed (forProof told.f (kindOf (l .kind)) (decisionOf (l .decision))) l _
     (λ n. dc-entry told x way m b l (record { brings = w; listing = record { formed = h; enough = n } }) (find (stampOf b) x.table) refl)

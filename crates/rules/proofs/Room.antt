@@ -18,9 +18,9 @@ use Rattle.records.specs.declared.Marked.the-variants.{Is, Refused as Unmarked}
 use Rattle.records.specs.Messages.{contentsWrong, dueRefusal, rdKey, rdStamp}
 use Rattle.rules.specs.Answers.{Decision, commit, abort, Settled, settled, unsettled, Vote, unvoted, waiting, voteCommit, voteAbort}
 use Rattle.rules.specs.Bodies.{Body, stampOf, sameBody}
-use Rattle.rules.specs.Lists.{kindOf, decisionOf, forLogging, forProof, meets}
+use Rattle.rules.specs.Lists.{decisionOf, meets}
 use Rattle.rules.specs.Table.{Entry, Box, Told, find, put}
-use Rattle.rules.specs.Calls.{Act, Change, nothing, puts, raises, isFull, roomFor, sameDecision, castAct, prByVote, prByDecision, prByEntry, prRule, logAct}
+use Rattle.rules.specs.Calls.{Act, Change, nothing, puts, raises, isFull, roomFor, needing, sameDecision, castAct, prByVote, prByDecision, prByEntry, prRule, logAct}
 use Rattle.rules.specs.Calls.{lgByLog, lgByDecision, lgByEntry, lgRule, decideAct, dcSame, dcOther, dcByEntry, dcRule, guarded, lookAct, rdRule}
 use Rattle.records.specs.Cutting.{txPart}
 use Rattle.records.specs.Messages.{listBehind}
@@ -50,6 +50,10 @@ module _ (K : ℕ → Type 0) (told : Told) (x : Box) (b : Body) where
   unfolding roomFor isFull Fit FitsBy
   room-fits a h = pick-elim (Fit K told x b) (isFull told x) (λ _. tt) (λ n. h (nleb→lt told.capacity (length x.table) n))
 
+  need-fits : (need : ℕ) (l : Vl) (a : Act) → Fit K told x b a → Fit K told x b (needing need l a)
+  unfolding needing Fit FitsBy
+  need-fits need l a h = pick-elim (Fit K told x b) (meets need l) (λ _. h) (λ _. tt)
+
   pub guarded-fits : (n : ℕ) (a : Act) → (n ≡ 0 → Fit K told x b a) → Fit K told x b (guarded n a)
   unfolding Fit FitsBy
   guarded-fits n a h = guarded-elim (Fit K told x b) n a h (λ _. tt)
@@ -73,15 +77,14 @@ module _ (K : ℕ → Type 0) (told : Told) (x : Box) (b : Body) where
   unfolding prRule
   pr-fits = pr-by (find (stampOf b) x.table) refl
 
-  lg-by : (l : Vl) (o : Option Entry) → find (stampOf b) x.table ≡ o → Fit K told x b (lgByEntry told b l o)
+  lg-by : (l : Vl) (o : Option Entry) → find (stampOf b) x.table ≡ o → Fit K told x b (lgByEntry told x b l o)
   unfolding lgByEntry lgByDecision lgByLog logAct Fit FitsBy
-  lg-by l none p = tt
+  lg-by l none p = need-fits _ l _ (room-fits _ (λ n. (refl, λ _. n)))
   lg-by l (some e) p = pick-elim (Fit K told x b) (sameBody e.body b) (λ _. by-decision e.decided) (λ _. tt)
     where
       by-log : (d : Settled) → Fit K told x b (lgByLog told b l e d)
       by-log (settled d) = tt
-      by-log unsettled =
-          pick-elim (Fit K told x b) (meets (forLogging told.f (decisionOf (l .decision))) l) (λ _. (refl, λ q. absurd (none-some q p))) (λ _. tt)
+      by-log unsettled = need-fits _ l _ (refl, λ q. absurd (none-some q p))
 
       by-decision : (d : Settled) → Fit K told x b (lgByDecision told b l e d)
       by-decision unsettled = by-log e.log
@@ -108,10 +111,7 @@ module _ (K : ℕ → Type 0) (told : Told) (x : Box) (b : Body) where
 
   pub dc-fits : (l : Vl) → Fit K told x b (dcRule told x b l)
   unfolding dcRule Fit FitsBy
-  dc-fits l =
-      pick-elim (Fit K told x b) (meets (forProof told.f (kindOf (l .kind)) (decisionOf (l .decision))) l)
-      (λ _. dc-by (decisionOf (l .decision)) (find (stampOf b) x.table) refl)
-      (λ _. tt)
+  dc-fits l = need-fits _ l _ (dc-by (decisionOf (l .decision)) (find (stampOf b) x.table) refl)
 
   pub rd-fits : (k s : ℕ) → K k → Fit K told x b (rdRule told x k s)
   unfolding rdRule lookAct Fit FitsBy

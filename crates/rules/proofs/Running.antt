@@ -14,7 +14,7 @@ use Rattle.rules.specs.Bodies.{stampOf, readsOf, writesOf, sameBody, wri
 use Rattle.rules.specs.Lists.{kindOf, decisionOf, bit, tally, meets}
 use Rattle.rules.specs.Table.{empty, find, put, liveBy, live}
 use Rattle.rules.specs.Tests.{test1, liveWriter, test2, undercut, test3, test4, test5, statusBy, statusOf, status, waitingRule, firstVote}
-use Rattle.rules.specs.Calls.{guarded, isFull, roomFor, sameDecision, castAct, prByVote, prByDecision, prByEntry, prRule, logAct, lgByLog}
+use Rattle.rules.specs.Calls.{guarded, isFull, roomFor, needing, sameDecision, castAct, prByVote, prByDecision, prByEntry, prRule, logAct, lgByLog}
 use Rattle.rules.specs.Calls.{lgByDecision, lgByEntry, lgRule, decideAct, dcSame, dcOther, dcByEntry, dcRule, better, newest, valueAt}
 use Rattle.rules.specs.Calls.{versionOf, isCommitted, isUndecided, rdAnswer, lookAct, rdRule}
 use Rattle.rules.specs.Act.{toldWrong, rule, dueAct, markedAct, dueMark, markBy, act, tableAfter, raise, marksAfter, boxAfter, after}
@@ -48,7 +48,7 @@ unfolding test1 liveWriter test2 undercut test3 test4 test5 statusBy statusOf st
 testing = 0
 
 unfoldable calling : ℕ
-unfolding guarded isFull roomFor sameDecision castAct prByVote prByDecision prByEntry prRule logAct lgByLog lgByDecision lgByEntry lgRule
+unfolding guarded isFull roomFor needing sameDecision castAct prByVote prByDecision prByEntry prRule logAct lgByLog lgByDecision lgByEntry lgRule
 calling = 0
 
 unfoldable deciding : ℕ

@@ -9,7 +9,7 @@ use Rattle.terms.specs.Choice.{pick}
 use Rattle.terms.specs.Checks.{ifLess, ahead}
 use Rattle.terms.specs.Refusals.{refusalOf}
 use Rattle.terms.specs.declared.Refusal.{Refusal}
-use Rattle.terms.specs.declared.Refusal.the-variants.{OtherBody, Unknown, TooFew, Contradiction, Full}
+use Rattle.terms.specs.declared.Refusal.the-variants.{OtherBody, TooFew, Contradiction, Full}
 use Rattle.records.specs.declared.Write.{Write}
 use Rattle.records.specs.Tx.{writeKey, writeValue}
 use Rattle.records.specs.Vl.{Vl}
@@ -50,6 +50,10 @@ isFull told x = leb (told .capacity) (length (x .table))
 unfoldable pub roomFor : Told → Box → Act → Act
 roomFor told x a = pick (isFull told x) (refuse Full) a
 
+-- 11: "the list misses its threshold"
+unfoldable pub needing : ℕ → Vl → Act → Act
+needing need l a = pick (meets need l) a (refuse TooFew)
+
 -- "commit", "abort": one decision or two
 unfoldable pub sameDecision : Decision → Decision → Bool
 sameDecision commit commit = true
@@ -62,7 +66,8 @@ sameDecision abort abort = true
 unfoldable pub castAct : Body → Option Entry → Vote → Act
 castAct b o v = record { answer = Voted v; change = puts (record { body = b; vote = v; log = logIn o; decided = unsettled }) }
 
--- "vote cast, the same vote again; waiting, the waiting rule; undecided with vote none (only in a lent table), the tests as if new, in its place"
+-- "vote cast, the same vote again; waiting, the waiting rule; undecided with vote none .., the tests as if new, in its place"; A2: "A PR for it later,
+-- while it is undecided, runs the five tests as if new but takes no further room."
 unfoldable pub prByVote : Told → Box → Body → Entry → Vote → Act
 prByVote told x b e voteCommit = keep (Voted voteCommit)
 prByVote told x b e (voteAbort r) = keep (Voted (voteAbort r))
@@ -83,28 +88,28 @@ unfoldable pub prRule : Told → Box → Body → Act
 prRule told x b = prByEntry told x b (find (stampOf b) (x .table))
 
 -- ---- LG
--- "else log it. The box's own vote does not matter."
+-- "else log it. The box's own vote does not matter."; A2: "stores the body with vote none and that log"
 unfoldable pub logAct : Body → Decision → Option Entry → Act
 logAct b d o = record { answer = Logged d; change = puts (record { body = b; vote = voteIn o; log = settled d; decided = unsettled }) }
 
 -- "Already logged: that same log. Then 11"
 unfoldable pub lgByLog : Told → Body → Vl → Entry → Settled → Act
 lgByLog told b l e (settled d) = keep (Logged d)
-lgByLog told b l e unsettled =
-    pick (meets (forLogging (told .f) (decisionOf (l .decision))) l) (logAct b (decisionOf (l .decision)) (some e)) (refuse TooFew)
+lgByLog told b l e unsettled = needing (forLogging (told .f) (decisionOf (l .decision))) l (logAct b (decisionOf (l .decision)) (some e))
 
 -- "Decided: Decided."
 unfoldable pub lgByDecision : Told → Body → Vl → Entry → Settled → Act
 lgByDecision told b l e (settled d) = keep (Decided d)
 lgByDecision told b l e unsettled = lgByLog told b l e (e .log)
 
--- "Not held: 10. Other body: 9."
-unfoldable pub lgByEntry : Told → Body → Vl → Option Entry → Act
-lgByEntry told b l none = refuse Unknown
-lgByEntry told b l (some e) = pick (sameBody (e .body) b) (lgByDecision told b l e (e .decided)) (refuse OtherBody)
+-- A2: "An LG for a stamp not held stores the body ..", "LG gives 11, then 13 for a new entry". "Other body: 9."
+unfoldable pub lgByEntry : Told → Box → Body → Vl → Option Entry → Act
+lgByEntry told x b l none =
+    needing (forLogging (told .f) (decisionOf (l .decision))) l (roomFor told x (logAct b (decisionOf (l .decision)) none))
+lgByEntry told x b l (some e) = pick (sameBody (e .body) b) (lgByDecision told b l e (e .decided)) (refuse OtherBody)
 
 unfoldable pub lgRule : Told → Box → Body → Vl → Act
-lgRule told x b l = lgByEntry told b l (find (stampOf b) (x .table))
+lgRule told x b l = lgByEntry told x b l (find (stampOf b) (x .table))
 
 -- ---- DC
 -- "a new entry with vote none and this decision"; "undecided takes it"; "Accepted answers Done."
@@ -132,9 +137,8 @@ dcByEntry told x b d (some e) = pick (sameBody (e .body) b) (dcSame b d e (e .de
 -- "11 first."
 unfoldable pub dcRule : Told → Box → Body → Vl → Act
 dcRule told x b l =
-    pick (meets (forProof (told .f) (kindOf (l .kind)) (decisionOf (l .decision))) l)
+    needing (forProof (told .f) (kindOf (l .kind)) (decisionOf (l .decision))) l
     (dcByEntry told x b (decisionOf (l .decision)) (find (stampOf b) (x .table)))
-    (refuse TooFew)
 
 -- ---- RD
 -- "highest stamp"; "RD takes the first among equals"

@@ -4,7 +4,7 @@ use mathlib.Core.Path.{_≡_}
 use mathlib.Core.List.{List, [], _∷_, _++_, map}
 use lib.ListN.{replicate}
 use Rattle.terms.specs.declared.Refusal.the-variants.{Ahead as AheadOfClock, Code, Contradiction, Full, Group, Mark, Order, OtherBody}
-use Rattle.terms.specs.declared.Refusal.the-variants.{Short, TooFew, Trailing, Unknown}
+use Rattle.terms.specs.declared.Refusal.the-variants.{Short, TooFew, Trailing}
 use Rattle.records.specs.Tx.{Tx, txBytes}
 use Rattle.rules.specs.Answers.{Answer, Decided, Done, Logged, Refused, Settled, Vote, abort, commit, logs, settled, unsettled, unvoted, votes, waiting}
 use Rattle.rules.specs.Answers.{Ahead, Dependency, NoVersion, Overwritten, ReadMark, Undercuts, voteAbort, voteCommit}
@@ -130,12 +130,31 @@ helds =
     (DC (writes 50 3) votes abort 4 ∷ PR (writes 50 3) ∷ LG (writes 50 3) commit 1 ∷ DC (writes 50 3) votes commit 6
     ∷ DC (writes 50 4) votes commit 6 ∷ PR (writes 50 4) ∷ [])
     (Done ∷ Decided abort ∷ Decided abort ∷ Refused Contradiction ∷ Done ∷ Decided commit ∷ [])
-    -- "Not held: 10."; "The box's own vote does not matter."
-    ∷ case (LG (writes 50 3) commit 4 ∷ []) (Refused Unknown ∷ [])
+    -- "The box's own vote does not matter."
     ∷ case (PR (reads 60 3 40) ∷ LG (reads 60 3 40) commit 4 ∷ PR (reads 60 3 40) ∷ []) (aborts NoVersion ∷ Logged commit ∷ aborts NoVersion ∷ [])
     -- 13, before the tests; a body that replaces another needs no room
     ∷ group 1 1 (PR (writes 50 3) ∷ PR (writes 111 3) ∷ DC (writes 60 3) votes commit 6 ∷ DC (writes 50 4) votes commit 6 ∷ [])
     (commits ∷ Refused Full ∷ Refused Full ∷ Done ∷ [])
+    ∷ []
+
+-- A2: "An LG for a stamp not held": 11, 13, and the later PR
+unfoldable pub missed : List Case
+missed =
+    -- 11; logged; not live, so a reader gets reason 2; then its PR, which votes, and the log stays
+    case (LG (writes 50 3) commit 3 ∷ LG (writes 50 3) commit 4 ∷ PR (reads 60 3 50) ∷ PR (writes 50 3) ∷ LG (writes 50 3) abort 2 ∷ [])
+    (Refused TooFew ∷ Logged commit ∷ aborts NoVersion ∷ commits ∷ Logged commit ∷ [])
+    -- not live before its PR: no clash with what reads under it, nor in what RD finds
+    ∷ case (LG (writes 50 3) abort 2 ∷ RD 3 50 ∷ RD 3 40 ∷ PR (reads 60 3 0) ∷ PR (writes 50 3) ∷ [])
+    (Logged abort ∷ found 0 0 0 0 ∷ found 0 0 0 0 ∷ commits ∷ aborts Undercuts ∷ [])
+    -- its PR runs the tests once, and the vote is cast then: it is live
+    ∷ case (LG (writes 50 3) commit 4 ∷ PR (writes 50 3) ∷ RD 3 70 ∷ PR (writes 50 3) ∷ PR (reads 60 3 0) ∷ [])
+    (Logged commit ∷ commits ∷ found 0 0 50 7 ∷ commits ∷ aborts Overwritten ∷ [])
+    -- another body: 9 of LG and of PR; decided by a DC: Decided
+    ∷ case (LG (writes 50 3) commit 4 ∷ LG (writes 50 4) commit 4 ∷ PR (writes 50 4) ∷ DC (writes 50 3) logs commit 5 ∷ PR (writes 50 3) ∷ [])
+    (Logged commit ∷ Refused OtherBody ∷ Refused OtherBody ∷ Done ∷ Decided commit ∷ [])
+    -- 11, then 13; at the later PR no room is asked for
+    ∷ group 1 1 (LG (writes 50 3) commit 4 ∷ LG (writes 60 3) commit 3 ∷ LG (writes 60 3) commit 4 ∷ PR (writes 50 3) ∷ PR (writes 60 3) ∷ [])
+    (Logged commit ∷ Refused TooFew ∷ Refused Full ∷ commits ∷ Refused Full ∷ [])
     ∷ []
 
 -- RD
@@ -170,7 +189,7 @@ lents =
     (Refused OtherBody ∷ aborts Overwritten ∷ [])
     ∷ lent (entry (reads 60 4 0) voteCommit unsettled unsettled ∷ entry (reads 60 3 0) voteCommit unsettled unsettled ∷ []) (PR (writes 50 3) ∷ [])
     (aborts Undercuts ∷ [])
-    -- "undecided with vote none (only in a lent table), the tests as if new, in its place": its log stays
+    -- "undecided with vote none .., the tests as if new, in its place": its log stays
     ∷ lent (entry (writes 50 3) unvoted (settled commit) unsettled ∷ []) (PR (writes 50 3) ∷ LG (writes 50 3) abort 1 ∷ []) (commits ∷ Logged commit ∷ [])
     -- "or not held (only in a lent table)"
     ∷ lent (entry (reads 60 3 50) waiting unsettled unsettled ∷ []) (PR (reads 60 3 50) ∷ []) (aborts Dependency ∷ [])
@@ -191,7 +210,7 @@ lents =
     ∷ []
 
 unfoldable pub further : List Case
-further = inHex ++ (thresholds ++ (lists ++ (orders ++ (waitings ++ (helds ++ (lookings ++ (refusals ++ lents)))))))
+further = inHex ++ (thresholds ++ (lists ++ (orders ++ (waitings ++ (helds ++ (missed ++ (lookings ++ (refusals ++ lents))))))))
 
 abbrev pub Further : Type 0
 Further = map given further ≡ map due further
@@ -236,6 +255,13 @@ storings =
     (PR (writes 50 3) ∷ LG (writes 50 3) commit 4 ∷ DC (writes 50 3) votes abort 4 ∷ DC (writes 50 3) logs abort 5
     ∷ DC (writes 50 3) votes commit 6 ∷ [])
     (entry (writes 50 3) voteCommit (settled commit) (settled abort) ∷ [])
+    0
+    -- A2: "stores the body with vote none and that log", behind the others; a PR "takes no further room", and it keeps the log and its place
+    ∷ stores [] (PR (writes 60 3) ∷ LG (writes 50 3) abort 2 ∷ [])
+    (entry (writes 60 3) voteCommit unsettled unsettled ∷ entry (writes 50 3) unvoted (settled abort) unsettled ∷ [])
+    0
+    ∷ stores [] (LG (writes 50 3) commit 4 ∷ PR (writes 60 3) ∷ PR (writes 50 3) ∷ LG (writes 70 3) commit 3 ∷ [])
+    (entry (writes 50 3) voteCommit (settled commit) unsettled ∷ entry (writes 60 3) voteCommit unsettled unsettled ∷ [])
     0
     -- "Raises the key's read mark to the stamp if it is lower."
     ∷ stores [] (RD 0 60 ∷ RD 0 50 ∷ RD 0 111 ∷ []) [] 60

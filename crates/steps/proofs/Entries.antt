@@ -2,10 +2,11 @@
 use Prim.Native.Nat.{ℕ}
 use mathlib.Core.Path.{_≡_, refl, sym}
 use mathlib.Core.List.{List, []}
-use mathlib.Core.Bool.{true, false}
-use mathlib.Core.Option.{none}
+use mathlib.Core.Bool.{Bool, true, false}
+use mathlib.Core.Option.{some, none}
 use lib.Dec.{leb}
 use lib.ListN.{length}
+use Rattle.terms.specs.Choice.{pick}
 use Rattle.terms.specs.declared.Decision.{Decision}
 use Rattle.terms.specs.declared.Refusal.the-variants.{Full, Contradiction}
 use Rattle.records.specs.Vl.{Vl}
@@ -16,9 +17,10 @@ use Rattle.rules.specs.declared.Told.{Told}
 use Rattle.rules.specs.declared.Vote.{Vote}
 use Rattle.rules.specs.declared.Vote.the-variants.{None as unvoted, Commit as voteCommit, Abort as voteAbort, Waiting as waiting}
 use Rattle.rules.specs.Bodies.{Body}
+use Rattle.rules.specs.Lists.{decisionOf, forLogging}
 use Rattle.rules.specs.Table.{Entry, Box, boxWith}
 use Rattle.rules.specs.Tests.{firstVote, waitingRule, status}
-use Rattle.rules.specs.Calls.{sameDecision, isFull, roomFor, castAct, prByVote, prByDecision, lgByLog, lgByDecision, decideAct, dcSame}
+use Rattle.rules.specs.Calls.{refuse, isFull, roomFor, needing, sameDecision, castAct, prByVote, prByDecision, prByEntry, logAct, lgByLog, lgByDecision, lgByEntry, decideAct, dcSame, dcByEntry}
 use Rattle.table.specs.declared.State.{State}
 use Rattle.table.specs.Table.{entryWith, stateIn}
 use Rattle.steps.specs.declared.Held.the-variants.{Not, Same}
@@ -28,12 +30,12 @@ use Rattle.steps.specs.Step.{changeBy, stepBy, kept, put, castStep, prBy
 module _ (i : ℕ) (told : Told) (es : List Entry) (marks : List ℕ) (b : Body) where
   module _ (n : ℕ) (l : length es ≡ n) where
     pub pr-full : leb (told .capacity) n ≡ true → kept (Refused Full) ≡ prBy i told (boxWith es marks) b Not
-    unfolding prBy roomFor isFull stepBy changeBy
+    unfolding prBy prByEntry roomFor isFull stepBy changeBy
     pr-full h = rw (l, h)
 
     pub pr-room : leb (told .capacity) n ≡ false → (v : Vote) → v ≡ firstVote told (boxWith es marks) b
         → castStep i unsettled v ≡ prBy i told (boxWith es marks) b Not
-    unfolding prBy roomFor isFull castAct stepBy changeBy stateIn
+    unfolding prBy prByEntry roomFor isFull castAct stepBy changeBy stateIn
     pr-room h v w = rw (l, h, w)
 
   module _ (e : State) where
@@ -64,23 +66,42 @@ module _ (i : ℕ) (told : Told) (es : List Entry) (marks : List ℕ) (b : Body)
     pr-unvoted v h w = rw (h, w)
 
 -- ---- LG
-module _ (i : ℕ) (told : Told) (b : Body) (l : Vl) (e : State) where
-  pub lg-decided : (d : Decision) → e .decided ≡ settled d → kept (Decided d) ≡ lgBy i told b l (Same e)
+module _ (i : ℕ) (told : Told) (x : Box) (b : Body) (l : Vl) where
+  pub lg-new : (n : ℕ) (full : Bool) → length (x .table) ≡ n → full ≡ leb (told .capacity) n
+      → stepBy i (needing (forLogging (told .f) (decisionOf (l .decision))) l (pick full (refuse Full) (logAct b (decisionOf (l .decision)) none)))
+      ≡ lgBy i told x b l Not
+  unfolding lgBy lgByEntry roomFor isFull
+  lg-new n full k h = rw (h, k)
+
+  pub lg-decided : (e : State) (d : Decision) → e .decided ≡ settled d → kept (Decided d) ≡ lgBy i told x b l (Same e)
   unfolding lgBy lgByDecision stepBy changeBy
-  lg-decided d h = rw h
+  lg-decided e d h = rw h
 
-  pub lg-open : e .decided ≡ unsettled → stepBy i (lgByLog told b l (entryWith b e) (e .log)) ≡ lgBy i told b l (Same e)
+  pub lg-open : (e : State) → e .decided ≡ unsettled → stepBy i (lgByLog told b l (entryWith b e) (e .log)) ≡ lgBy i told x b l (Same e)
   unfolding lgBy lgByDecision entryWith
-  lg-open h = rw h
+  lg-open e h = rw h
 
+module _ (i : ℕ) (told : Told) (b : Body) (l : Vl) (e : State) where
   pub lg-logged : (d : Decision) → e .log ≡ settled d → kept (Logged d) ≡ stepBy i (lgByLog told b l (entryWith b e) (e .log))
   unfolding lgByLog stepBy changeBy
   lg-logged d h = rw h
 
-  pub lg-free : e .log ≡ unsettled → stepBy i (lgByLog told b l (entryWith b e) unsettled) ≡ stepBy i (lgByLog told b l (entryWith b e) (e .log))
+  pub lg-free : e .log ≡ unsettled
+      → stepBy i (needing (forLogging (told .f) (decisionOf (l .decision))) l (logAct b (decisionOf (l .decision)) (some (entryWith b e))))
+      ≡ stepBy i (lgByLog told b l (entryWith b e) (e .log))
+  unfolding lgByLog
   lg-free h = rw h
 
 -- ---- DC
+module _ (i : ℕ) (told : Told) (x : Box) (b : Body) (d : Decision) (n : ℕ) (k : length (x .table) ≡ n) where
+  pub dc-full : leb (told .capacity) n ≡ true → kept (Refused Full) ≡ stepBy i (dcByEntry told x b d none)
+  unfolding dcByEntry roomFor isFull stepBy changeBy
+  dc-full h = rw (k, h)
+
+  pub dc-room : leb (told .capacity) n ≡ false → stepBy i (decideAct b d none) ≡ stepBy i (dcByEntry told x b d none)
+  unfolding dcByEntry roomFor isFull
+  dc-room h = rw (k, h)
+
 module _ (i : ℕ) (b : Body) (d : Decision) (e : State) where
   pub dc-takes : e .decided ≡ unsettled → put i (record { vote = e .vote; log = e .log; decided = settled d }) Done ≡ stepBy i (dcSame b d (entryWith b e) (e .decided))
   unfolding dcSame decideAct stepBy changeBy stateIn entryWith

@@ -2,10 +2,9 @@
 use Prim.Native.Nat.{ℕ}
 use mathlib.Core.List.{List}
 use mathlib.Core.Option.{Option, some, none}
-use lib.Dec.{leb}
 use Rattle.terms.specs.Choice.{pick}
 use Rattle.terms.specs.declared.Decision.{Decision}
-use Rattle.terms.specs.declared.Refusal.the-variants.{OtherBody, Unknown, Full}
+use Rattle.terms.specs.declared.Refusal.the-variants.{OtherBody}
 use Rattle.records.specs.Vl.{Vl}
 use Rattle.rules.specs.declared.Answer.{Answer}
 use Rattle.rules.specs.declared.Answer.the-variants.{Voted, Refused}
@@ -15,8 +14,7 @@ use Rattle.rules.specs.declared.Told.{Told}
 use Rattle.rules.specs.declared.Vote.{Vote}
 use Rattle.rules.specs.Bodies.{Body, sameBody, stampOf}
 use Rattle.rules.specs.Table.{Entry, Box, boxWith, find}
-use Rattle.rules.specs.Tests.{firstVote}
-use Rattle.rules.specs.Calls.{Act, Change, nothing, puts, raises, refuse, roomFor, castAct, prByDecision, lgByDecision, decideAct, dcSame, dcOther, dcByEntry}
+use Rattle.rules.specs.Calls.{Act, Change, nothing, puts, raises, prByEntry, prByDecision, lgByEntry, lgByDecision, dcSame, dcOther, dcByEntry}
 use Rattle.table.specs.declared.State.{State}
 use Rattle.table.specs.Table.{entryWith, stateIn, place}
 use Rattle.steps.specs.declared.Change.{Change as Changed}
@@ -56,23 +54,19 @@ lookOf es b = record { place = place (stampOf b) es; held = heldBy b (find (stam
 
 -- ---- the rules by what is held
 unfoldable pub prBy : ℕ → Told → Box → Body → Held → Step
-prBy i told x b Not = stepBy i (roomFor told x (castAct b none (firstVote told x b)))
+prBy i told x b Not = stepBy i (prByEntry told x b none)
 prBy i told x b (Same e) = stepBy i (prByDecision told x b (entryWith b e) (e .decided))
 prBy i told x b (Other e) = kept (Refused OtherBody)
 
-unfoldable pub lgBy : ℕ → Told → Body → Vl → Held → Step
-lgBy i told b l Not = kept (Refused Unknown)
-lgBy i told b l (Same e) = stepBy i (lgByDecision told b l (entryWith b e) (e .decided))
-lgBy i told b l (Other e) = kept (Refused OtherBody)
+unfoldable pub lgBy : ℕ → Told → Box → Body → Vl → Held → Step
+lgBy i told x b l Not = stepBy i (lgByEntry told x b l none)
+lgBy i told x b l (Same e) = stepBy i (lgByDecision told b l (entryWith b e) (e .decided))
+lgBy i told x b l (Other e) = kept (Refused OtherBody)
 
--- a decision for a body that is not held, n the number of entries
-unfoldable pub newBy : ℕ → Told → ℕ → Body → Decision → Step
-newBy i told n b d = pick (leb (told .capacity) n) (kept (Refused Full)) (stepBy i (decideAct b d none))
-
-unfoldable pub dcBy : ℕ → Told → ℕ → Body → Decision → Held → Step
-dcBy i told n b d Not = newBy i told n b d
-dcBy i told n b d (Same e) = stepBy i (dcSame b d (entryWith b e) (e .decided))
-dcBy i told n b d (Other e) = stepBy i (dcOther b d (e .decided))
+unfoldable pub dcBy : ℕ → Told → Box → Body → Decision → Held → Step
+dcBy i told x b d Not = stepBy i (dcByEntry told x b d none)
+dcBy i told x b d (Same e) = stepBy i (dcSame b d (entryWith b e) (e .decided))
+dcBy i told x b d (Other e) = stepBy i (dcOther b d (e .decided))
 
 -- once the list meets its threshold
 unfoldable pub dcProved : Told → List Entry → List ℕ → Body → Decision → Step

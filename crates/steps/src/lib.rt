@@ -1,21 +1,23 @@
 // PR, LG, DC and RD over the rows of a table: what each does, as one step by value. One other function applies it.
 ghost use mathlib.Core.Path.{_≡_};
 ghost use mathlib.Core.List.{List};
-ghost use mathlib.Core.Option.{some, none};
+ghost use mathlib.Core.Option.{Option, some, none};
 ghost use Prim.Native.Nat.{ℕ, _≤_};
 ghost use lib.Dec.{leb};
+ghost use lib.ListN.{length};
+ghost use Rattle.terms.specs.Choice.{pick};
+ghost use Rattle.terms.specs.declared.Refusal.the-variants.{Full};
 ghost use Rattle.records.specs.Tx.{TxThere};
 ghost use Rattle.records.specs.Vl.{listIn};
-ghost use Rattle.rules.specs.declared.Settled.the-variants.{None as unsettled};
 ghost use Rattle.rules.specs.declared.Answer.the-variants.{Refused};
 ghost use Rattle.rules.specs.Bodies.{Body, stampOf};
 ghost use Rattle.rules.specs.Lists.{decisionOf, kindOf, forLogging, forProof, tally};
-ghost use Rattle.rules.specs.Table.{boxWith};
-ghost use Rattle.rules.specs.Calls.{sameDecision, prByVote, prRule, lgByLog, lgRule, decideAct, dcSame, dcOther, dcRule, rdRule};
+ghost use Rattle.rules.specs.Table.{Box, Entry, boxWith, voteIn};
+ghost use Rattle.rules.specs.Calls.{needing, refuse, sameDecision, prByVote, prRule, logAct, lgByLog, lgRule, decideAct, dcSame, dcOther, dcByEntry, dcRule, rdRule};
 ghost use Rattle.terms.specs.declared.Decision.the-variants.{Commit as commit};
 ghost use Rattle.table.specs.Table.{Wf, WfRow, entryOf, entryWith, entries, place};
 ghost use Rattle.steps.specs.declared.Held.the-variants.{Not, Same};
-ghost use Rattle.steps.specs.Step.{stepBy, kept, put, castStep, heldBy, lookOf, prBy, lgBy, newBy, dcProved};
+ghost use Rattle.steps.specs.Step.{stepBy, kept, put, castStep, heldBy, lookOf, prBy, lgBy, dcProved};
 use records::VoteList;
 use rules::Answer;
 use rules::Settled;
@@ -275,16 +277,18 @@ pub fn pr_step(t: &[u8], n: usize, marks: &[u64], told: Told, b: &[u8]) -> Step
 
 // ---- LG
 
-// Too few: 11, else it is logged; the vote stays.
-fn lg_unlogged(i: usize, e: State, told: Told, l: VoteList) -> Step
+// Too few: 11. A new entry and no room: 13. Else it is logged beside this vote.
+fn lg_unlogged(i: usize, full: bool, vote: Vote, told: Told, l: VoteList) -> Step
     requires { ⌜ (told .f ≤ 5) × (l .count ≤ 26) ⌝ }
-    ensures { λ r. ⌜ ((b : Body) → r ≡ stepBy i (lgByLog told b (listIn l) (entryWith b e) unsettled)) ⌝ }
+    ensures { λ r. ⌜ ((b : Body) (o : Option Entry) → voteIn o ≡ vote → r ≡ stepBy i (needing (forLogging (told .f) (decisionOf (listIn l .decision))) (listIn l) (pick full (refuse Full) (logAct b (decisionOf (listIn l .decision)) o)))) ⌝ }
 {
     let d = decision_of(l.decision);
     if tally(l) < log_need(group_of(told), d) {
         return Step::refuse(Refusal::TooFew);
     }
-    let vote = e.vote;
+    if full {
+        return Step::refuse(Refusal::Full);
+    }
     let logged = State {
         vote,
         log: Settled::Is(d),
@@ -298,17 +302,18 @@ fn lg_undecided(i: usize, e: State, told: Told, l: VoteList) -> Step
     requires { ⌜ (told .f ≤ 5) × (l .count ≤ 26) ⌝ }
     ensures { λ r. ⌜ ((b : Body) → r ≡ stepBy i (lgByLog told b (listIn l) (entryWith b e) (e .log))) ⌝ }
 {
+    let vote = e.vote;
     let log = e.log;
     match log {
         Settled::Is(d) => Step::keep(Answer::Logged(d)),
-        Settled::None => lg_unlogged(i, e, told, l),
+        Settled::None => lg_unlogged(i, false, vote, told, l),
     }
 }
 
 // Held with this body. Decided: Decided.
 fn lg_held(i: usize, e: State, told: Told, l: VoteList) -> Step
     requires { ⌜ (told .f ≤ 5) × (l .count ≤ 26) ⌝ }
-    ensures { λ r. ⌜ ((b : Body) → r ≡ lgBy i told b (listIn l) (Same e)) ⌝ }
+    ensures { λ r. ⌜ ((x : Box) (b : Body) → r ≡ lgBy i told x b (listIn l) (Same e)) ⌝ }
 {
     let decided = e.decided;
     match decided {
@@ -317,7 +322,7 @@ fn lg_held(i: usize, e: State, told: Told, l: VoteList) -> Step
     }
 }
 
-// LG. Not held: 10. Other body: 9.
+// LG. Not held: a new entry with vote none, if there is room. Other body: 9.
 pub fn lg_step(t: &[u8], n: usize, told: Told, b: &[u8], l: VoteList) -> Step
     requires { ⌜ Wf (now t) n × TxThere (now b) × (told .f ≤ 5) × (l .count ≤ 26) ⌝ }
     ensures { λ r. ⌜ ((marks : List ℕ) → r ≡ stepBy (place (stampOf (now (b .entry))) (entries (now (t .entry)) n)) (lgRule told (boxWith (entries (now (t .entry)) n) marks) (now (b .entry)) (listIn l))) ⌝ }
@@ -326,7 +331,7 @@ pub fn lg_step(t: &[u8], n: usize, told: Told, b: &[u8], l: VoteList) -> Step
     let i = look.place;
     let held = look.held;
     match held {
-        Held::Not => Step::refuse(Refusal::Unknown),
+        Held::Not => lg_unlogged(i, is_full(n, told), Vote::None, told, l),
         Held::Same(e) => lg_held(i, e, told, l),
         Held::Other(_) => Step::refuse(Refusal::OtherBody),
     }
@@ -348,7 +353,7 @@ fn dc_new(i: usize, d: Decision) -> Step
 
 // Not held: 13, else a new entry.
 fn dc_unheld(n: usize, told: Told, i: usize, d: Decision) -> Step
-    ensures { λ r. ⌜ ((b : Body) → r ≡ newBy i told n b d) ⌝ }
+    ensures { λ r. ⌜ ((x : Box) (b : Body) → length (x .table) ≡ n → r ≡ stepBy i (dcByEntry told x b d none)) ⌝ }
 {
     if is_full(n, told) {
         return Step::refuse(Refusal::Full);

@@ -1,6 +1,9 @@
 use mathlib.Core.Path.{sym, _∙_, ap}
 use Rattle.steps.specs.Step.{dcBy}
-use Rattle.steps.proofs.Rules.{dc-rows, dc-same-row, dc-other-row}
+use Rattle.rules.specs.Table.{boxWith}
+use Rattle.table.specs.Table.{entryAt, entries}
+use Rattle.terms.proofs.Scans.{tab-length}
+use Rattle.steps.proofs.Rules.{dc-looked}
 use native.Mathlib.Omega.{arith}
 use borrow.Author.Needs.{needs}
 use Rattle.steps.proofs.dc_proved.Statement.{statement}
@@ -35,13 +38,15 @@ dc-other-requires c κs = search needs
 
 returns : tie.Need-returns
 unfolding dcBy
-returns c marks = c .dc-unheld .ensures _ ∙ dc-rows _ _ _ _ (c .before .before .before .look-up .ensures .0) _ (c .before .enum-told .given .1) _ marks _
+returns c marks = c .dc-unheld .ensures (boxWith _ marks) _ (tab-length _ _ _) ∙ dc-looked _ _ _ (c .before .before .before .look-up .ensures .0) _ (c .before .enum-told .given .1) _ marks _
 
 returns-2 : tie.Need-returns-2
-returns-2 c marks = c .dc-same .ensures (c .before .before .before .before .before .before .before .args .b .now) ∙ dc-same-row (c .before .before .before .before .before .before .before .args .t .now) (c .before .before .before .before .before .before .before .args .n) (c .before .before .before .before .before .before .before .args .b .now) _ (c .before .before .before .before .look-up .ensures .0) _ (c .before .before .before .before .before .before .before .args .told) marks _ (c .before .before .held .given .1)
+unfolding dcBy
+returns-2 c marks = c .dc-same .ensures (c .before .before .before .before .before .before .before .args .b .now) ∙ dc-looked _ _ _ (c .before .before .before .before .look-up .ensures .0) _ (c .before .before .held .given .1) _ marks _
 
 returns-3 : tie.Need-returns-3
-returns-3 c marks = c .dc-other .ensures (c .before .before .before .before .before .before .before .args .b .now) ∙ dc-other-row (c .before .before .before .before .before .before .before .args .t .now) (c .before .before .before .before .before .before .before .args .n) (c .before .before .before .before .before .before .before .args .b .now) _ (c .before .before .before .before .look-up .ensures .0) _ (c .before .before .before .before .before .before .before .args .told) marks _ (c .before .before .held2 .given .1)
+unfolding dcBy
+returns-3 c marks = c .dc-other .ensures (c .before .before .before .before .before .before .before .args .b .now) ∙ dc-looked _ _ _ (c .before .before .before .before .look-up .ensures .0) _ (c .before .before .held2 .given .1) _ marks _
 
 pub dc-proved-spec : {M : Type 1} → statement M
 dc-proved-spec =

@@ -33,13 +33,13 @@ refuse-requires : tie.Need-refuse-requires
 refuse-requires c κs = search needs
 
 returns : tie.Need-returns
-returns c marks = c .refuse .ensures ∙ dc-few _ _ _ _ _ (c .before .before .before .before .before .tally .ensures .0) (c .before .before .before .before .before .before .decision-of .ensures) _ (c .before .before .before .kind-of .ensures) (c .before .before .proof-need .ensures ∙ (rw (c .before .before .before .before .group-of .ensures))) _ marks _ (c .before .if1 .taken)
+returns c marks = c .refuse .ensures ∙ dc-few _ _ _ (c .before .before .before .before .before .tally .ensures .0) _ _ (c .before .before .before .before .before .before .decision-of .ensures) _ (c .before .before .before .kind-of .ensures) (c .before .before .proof-need .ensures ∙ (rw (c .before .before .before .before .group-of .ensures))) _ marks _ (c .before .if1 .taken)
 
 dc-proved-requires : tie.Need-dc-proved-requires
 dc-proved-requires c κs = search needs
 
 returns-2 : tie.Need-returns-2
-returns-2 c marks = c .dc-proved .ensures marks ∙ dc-enough _ _ _ _ _ (c .before .before .before .before .before .tally .ensures .0) (c .before .before .before .before .before .before .decision-of .ensures) _ (c .before .before .before .kind-of .ensures) (c .before .before .proof-need .ensures ∙ (rw (c .before .before .before .before .group-of .ensures))) _ marks _ (c .before .if1 .left)
+returns-2 c marks = c .dc-proved .ensures marks ∙ dc-enough _ _ _ (c .before .before .before .before .before .tally .ensures .0) _ _ (c .before .before .before .before .before .before .decision-of .ensures) _ (c .before .before .before .kind-of .ensures) (c .before .before .proof-need .ensures ∙ (rw (c .before .before .before .before .group-of .ensures))) _ marks _ (c .before .if1 .left)
 
 pub dc-step-spec : {M : Type 1} → statement M
 dc-step-spec =

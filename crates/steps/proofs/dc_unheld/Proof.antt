@@ -1,5 +1,5 @@
 use mathlib.Core.Path.{sym, _∙_, ap}
-use Rattle.steps.specs.Step.{newBy}
+use Rattle.steps.proofs.Entries.{dc-full, dc-room}
 use native.Mathlib.Omega.{arith}
 use borrow.Author.Needs.{needs}
 use Rattle.steps.proofs.dc_unheld.Statement.{statement}
@@ -17,15 +17,13 @@ refuse-requires : tie.Need-refuse-requires
 refuse-requires c κs = search needs
 
 returns : tie.Need-returns
-unfolding newBy
-returns c b = rw (sym (c .before .before .is-full .ensures) ∙ c .before .if1 .taken) (c .refuse .ensures)
+returns c x b k = c .refuse .ensures ∙ dc-full _ _ x b _ _ k (sym (c .before .before .is-full .ensures) ∙ c .before .if1 .taken)
 
 dc-new-requires : tie.Need-dc-new-requires
 dc-new-requires c κs = search needs
 
 returns-2 : tie.Need-returns-2
-unfolding newBy
-returns-2 c b = rw (sym (c .before .before .is-full .ensures) ∙ c .before .if1 .left) (c .dc-new .ensures b)
+returns-2 c x b k = c .dc-new .ensures b ∙ dc-room _ _ x b _ _ k (sym (c .before .before .is-full .ensures) ∙ c .before .if1 .left)
 
 pub dc-unheld-spec : {M : Type 1} → statement M
 dc-unheld-spec =

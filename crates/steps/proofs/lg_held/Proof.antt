@@ -22,10 +22,10 @@ lg-undecided-requires : tie.Need-lg-undecided-requires
 lg-undecided-requires c κs = search needs
 
 returns : tie.Need-returns
-returns c b = c .keep .ensures ∙ lg-decided _ _ _ _ _ _ (c .before .before .decided .given .1)
+returns c x b = c .keep .ensures ∙ lg-decided _ _ x _ _ _ _ (c .before .before .decided .given .1)
 
 returns-2 : tie.Need-returns-2
-returns-2 c b = c .lg-undecided .ensures b ∙ lg-open _ _ _ _ _ (c .before .enum-told .given .1)
+returns-2 c x b = c .lg-undecided .ensures b ∙ lg-open _ _ x _ _ _ (c .before .enum-told .given .1)
 
 pub lg-held-spec : {M : Type 1} → statement M
 lg-held-spec =

@@ -1,4 +1,7 @@
 use mathlib.Core.Path.{sym, _∙_, ap}
+use mathlib.Core.Path.{refl}
+use mathlib.Core.Option.{some}
+use Rattle.table.specs.Table.{entryWith}
 use Rattle.steps.proofs.Entries.{lg-logged, lg-free}
 use native.Mathlib.Omega.{arith}
 use borrow.Author.Needs.{needs}
@@ -25,7 +28,8 @@ returns : tie.Need-returns
 returns c b = c .keep .ensures ∙ lg-logged _ _ _ _ _ _ (c .before .before .log .given .1)
 
 returns-2 : tie.Need-returns-2
-returns-2 c b = c .lg-unlogged .ensures b ∙ lg-free _ _ _ _ _ (c .before .enum-told .given .1)
+unfolding entryWith
+returns-2 c b = c .lg-unlogged .ensures b (some _) refl ∙ lg-free _ _ _ _ _ (c .before .enum-told .given .1)
 
 pub lg-undecided-spec : {M : Type 1} → statement M
 lg-undecided-spec =

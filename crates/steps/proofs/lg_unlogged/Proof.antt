@@ -1,8 +1,5 @@
 use mathlib.Core.Path.{sym, _∙_, ap}
-use Rattle.rules.specs.Calls.{logAct}
-use Rattle.table.specs.Table.{entryWith, stateIn}
-use Rattle.steps.specs.Step.{changeBy, stepBy}
-use Rattle.steps.proofs.Rules.{lg-few, lg-enough}
+use Rattle.steps.proofs.Rules.{lg-few, lg-full, lg-logs}
 use native.Mathlib.Omega.{arith}
 use borrow.Author.Needs.{needs}
 use Rattle.steps.proofs.lg_unlogged.Statement.{statement}
@@ -32,14 +29,19 @@ refuse-requires : tie.Need-refuse-requires
 refuse-requires c κs = search needs
 
 returns : tie.Need-returns
-returns c b = c .refuse .ensures ∙ lg-few _ _ _ _ _ (c .before .before .before .before .tally .ensures .0) (c .before .before .before .before .before .decision-of .ensures) _ _ _ (c .before .before .log-need .ensures ∙ (rw (c .before .before .before .group-of .ensures))) (c .before .if1 .taken)
+returns c b o w = c .refuse .ensures ∙ lg-few _ _ _ (c .before .before .before .before .tally .ensures .0) _ _ (c .before .before .before .before .before .decision-of .ensures) (c .before .before .log-need .ensures ∙ (rw (c .before .before .before .group-of .ensures))) _ (c .before .if1 .taken) _
+
+refuse-requires-2 : tie.Need-refuse-requires-2
+refuse-requires-2 c κs = search needs
+
+returns-2 : tie.Need-returns-2
+returns-2 c b o w = c .refuse2 .ensures ∙ lg-full _ _ _ (c .before .before .before .before .before .tally .ensures .0) _ _ (c .before .before .before .before .before .before .decision-of .ensures) (c .before .before .before .log-need .ensures ∙ (rw (c .before .before .before .before .group-of .ensures))) _ (c .before .before .if1 .left) _ (c .before .if2 .taken) _
 
 put-requires : tie.Need-put-requires
 put-requires c κs = search needs
 
-returns-2 : tie.Need-returns-2
-unfolding stepBy changeBy logAct stateIn entryWith
-returns-2 c b = c .put .ensures ∙ lg-enough _ _ _ _ _ (c .before .before .before .before .tally .ensures .0) (c .before .before .before .before .before .decision-of .ensures) _ _ _ (c .before .before .log-need .ensures ∙ (rw (c .before .before .before .group-of .ensures))) (c .before .if1 .left)
+returns-3 : tie.Need-returns-3
+returns-3 c b o w = c .put .ensures ∙ lg-logs _ _ _ (c .before .before .before .before .before .tally .ensures .0) _ _ (c .before .before .before .before .before .before .decision-of .ensures) (c .before .before .before .log-need .ensures ∙ (rw (c .before .before .before .before .group-of .ensures))) _ (c .before .before .if1 .left) _ (c .before .if2 .left) _ b o w
 
 pub lg-unlogged-spec : {M : Type 1} → statement M
 lg-unlogged-spec =
@@ -51,5 +53,7 @@ lg-unlogged-spec =
     log-need-requires
     refuse-requires
     returns
+    refuse-requires-2
+    returns-2
     put-requires
-    returns-2)
+    returns-3)
