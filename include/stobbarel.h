@@ -75,7 +75,7 @@ enum stobbarel_refusal {
     STOBBAREL_MISBEHAVIOUR = 7,  /* a read version at or above the own stamp */
     STOBBAREL_CODE = 8,          /* kind, decision or answer not 1 or 2; kind 2 in an LG */
     STOBBAREL_OTHER_BODY = 9,    /* another body is held under this stamp */
-    STOBBAREL_UNKNOWN = 10,      /* LG for a stamp not held */
+    STOBBAREL_UNKNOWN = 10,      /* no longer given: an LG for a stamp not held is logged */
     STOBBAREL_TOO_FEW = 11,      /* the list misses its threshold */
     STOBBAREL_CONTRADICTION = 12, /* the stamp is already decided otherwise */
     STOBBAREL_FULL = 13,         /* a new entry is needed and the table is at capacity */
@@ -103,7 +103,7 @@ static inline void stobbarel_prepare(uint8_t *table, size_t table_len, uint64_t 
     stobbarel_due(STOBBAREL_PR, table, table_len, marks, f, capacity, clock, delta, message, message_len, answer);
 }
 
-/* LG: log a decision. */
+/* LG: log a decision. A transaction that is not held takes an entry with this log and no vote; a PR for it later is voted on there. */
 static inline void stobbarel_log(uint8_t *table, size_t table_len, uint64_t marks[512], uint64_t f, uint64_t capacity,
                                  uint64_t clock, uint64_t delta, const uint8_t *message, size_t message_len, uint64_t answer[5]) {
     stobbarel_due(STOBBAREL_LG, table, table_len, marks, f, capacity, clock, delta, message, message_len, answer);

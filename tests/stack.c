@@ -125,6 +125,12 @@ int main(void) {
     show("LG, a list of 26", STOBBAREL_LOGGED, STOBBAREL_COMMIT);
     other_body();
     show("LG, another body", STOBBAREL_REFUSED, STOBBAREL_OTHER_BODY);
+    make("LG", STOBBAREL_LG, 900, 1);
+    show("LG, a list of 26, the body not held", STOBBAREL_LOGGED, STOBBAREL_COMMIT);
+    receive(); /* the last place is taken */
+    make("PR", STOBBAREL_PR, 900, 0);
+    show("PR, the body only logged, 255 entries held", STOBBAREL_VOTED, STOBBAREL_COMMIT);
+    table[0]--;
     make("DC", STOBBAREL_DC, 2 * 254, 1);
     show("DC, a list of 26", STOBBAREL_DONE, 0);
     other_body();

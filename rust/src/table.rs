@@ -135,7 +135,7 @@ impl Table {
         self.due(Mark::Pr, clock, delta, message)
     }
 
-    /// LG: log a decision.
+    /// LG: log a decision. A transaction that is not held takes an entry with this log and no vote; a PR for it later is voted on there.
     pub fn log(&mut self, clock: u64, delta: u64, message: &[u8]) -> Answer {
         self.due(Mark::Lg, clock, delta, message)
     }

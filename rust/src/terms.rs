@@ -98,7 +98,7 @@ pub enum Refusal {
     Code = 8,
     /// Another body is held under this stamp.
     OtherBody = 9,
-    /// LG for a stamp not held.
+    /// No longer given: an LG for a stamp not held is logged. The number is kept.
     Unknown = 10,
     /// The list misses its threshold.
     TooFew = 11,

@@ -96,6 +96,26 @@ fn a_table_is_laid_out_as_the_header_says() {
 }
 
 #[test]
+fn a_box_that_missed_the_prepare_logs() {
+    use layout::*;
+    let group = Group::of(1).unwrap();
+    let mut table = Table::new(group, 1).unwrap();
+    let (x, y) = (tx(50, &[], &[(3, 7)]), tx(60, &[(3, 50)], &[]));
+    let logging = |of, decision, count| bytes(|out| write_lg(group, of, &votes(decision, count), out));
+    let ask = bytes(|out| write_pr(&x, out));
+    assert_eq!(table.log(100, 10, &logging(&x, Decision::Commit, 3)), Answer::Refused(Refusal::TooFew));
+    assert_eq!(table.log(100, 10, &logging(&x, Decision::Commit, 4)), Answer::Logged(Decision::Commit));
+    let codes = |table: &Table| [VOTE_AT, REASON_AT, LOG_AT, DECIDED_AT].map(|at| table.bytes()[HEAD + at]);
+    assert_eq!(codes(&table), [0, 0, 1, 0]);
+    assert_eq!(table.log(100, 10, &logging(&y, Decision::Abort, 1)), Answer::Refused(Refusal::TooFew));
+    assert_eq!(table.log(100, 10, &logging(&y, Decision::Abort, 2)), Answer::Refused(Refusal::Full));
+    // the table is full, and the PR for what is logged needs no room
+    assert_eq!(table.prepare(100, 10, &ask), Answer::Voted(Vote::Commit));
+    assert_eq!(codes(&table), [1, 0, 1, 0]);
+    assert_eq!(table.log(100, 10, &logging(&x, Decision::Abort, 2)), Answer::Logged(Decision::Commit));
+}
+
+#[test]
 fn a_vote_goes_to_the_tally_as_it_stands() {
     use layout::*;
     let group = Group::of(1).unwrap();

@@ -275,11 +275,11 @@ pub fn output(program: &str, input: Vec<u8>) -> Result<Vec<u8>, String> {
     }
 }
 
-/// What has to stand in the outputs; refusals 4, 16 and 17 cannot.
+/// What has to stand in the outputs; refusals 4, 10, 16 and 17 cannot.
 fn due() -> Vec<String> {
     let fixed = ["ok", "commit", "wait", "decided commit", "decided abort", "logged commit", "logged abort", "done", "found", "too long"];
     let aborts = (1..=6).map(|reason| format!("abort {reason}"));
-    let refusals = (1..=15).filter(|number| *number != 4).map(|number| format!("refused {number}"));
+    let refusals = (1..=15).filter(|number| ![4, 10].contains(number)).map(|number| format!("refused {number}"));
     fixed.iter().map(|word| word.to_string()).chain(aborts).chain(refusals).collect()
 }
 

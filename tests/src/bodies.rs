@@ -88,6 +88,20 @@ fn beside(held: &[u8], other: &[u8]) -> u64 {
     pair.due("DC commit of another replaces it", &[b"DC", other, COMMIT_PROOF], Answer::Done);
     pair.due("PR of the new one", &[b"PR", other], Answer::Decided(Decision::Commit));
     pair.due("PR of the one replaced", &[b"PR", held], Answer::Refused(9));
+    pair.wrong + beside_logged(held, other, vote)
+}
+
+/// The same where an LG stored `held`, which a PR would have given this vote.
+fn beside_logged(held: &[u8], other: &[u8], vote: Answer) -> u64 {
+    let mut pair = Pair::new();
+    pair.due("LG of a body not held", &[b"LG", held, COMMIT_PROOF], Answer::Logged(Decision::Commit));
+    if held.len() < other.len() {
+        pair.end_of(held.len(), other);
+    }
+    pair.due("LG of another than the one logged", &[b"LG", other, ABORT_PROOF], Answer::Refused(9));
+    pair.due("PR of another than the one logged", &[b"PR", other], Answer::Refused(9));
+    pair.due("LG again", &[b"LG", held, ABORT_PROOF], Answer::Logged(Decision::Commit));
+    pair.due("PR of the one logged", &[b"PR", held], vote);
     pair.wrong
 }
 

@@ -71,6 +71,20 @@ const ENTRIES: [Broken; 7] = [
     falls("a full table drops its first entry", &[Rule::EntriesStay]),
 ];
 
+/// A box that missed the prepare.
+const LATE: [Broken; 9] = [
+    holds("LG for a stamp not held is still refused with 10", &[Rule::NoUnknown], "a box only logs less"),
+    holds("13 before 11 where an LG needs a new entry", &[Rule::TooFewFirst], "only the number differs"),
+    // a reader of it waits, and by tests 3 and 4 a box only aborts more
+    holds("what is only logged is live before its PR", &[Rule::NotLiveBefore], "test 2 proves nothing"),
+    falls("an LG stores its entry with a commit vote", &[Rule::VoteNone]),
+    holds("a later PR asks for room", &[Rule::NoFurtherRoom], "a box only votes less"),
+    falls("a later PR loses the log", &[Rule::LogKept]),
+    falls("a later PR's vote is told and not stored", &[Rule::VoteStored]),
+    falls("what is logged is tested again at every PR", &[Rule::TestedOnce]),
+    falls("what is logged is not live after its PR", &[Rule::LoggedLives]),
+];
+
 /// Where to look: so many clusters from a seed on.
 #[derive(Clone, Copy)]
 struct Search {
@@ -102,6 +116,20 @@ fn noticed(broken: &Broken, search: Search) -> bool {
     };
     let differs = differs.map_or("NO message".into(), |at| format!("message {at:5}"));
     println!("{:60} {differs}  {seen}{}", broken.what, if passed { "" } else { "  FAILED" });
+    passed
+}
+
+/// The proof from logs that a box which missed the prepare makes possible: the engine's clusters have it, and those of a box that still gives 10 never.
+fn proved_with_a_late_box(search: Search) -> bool {
+    let times = |one: &mut dyn Member, rules: Rules| {
+        let mut counts = Counts::new();
+        let held = (0..HELD).all(|number| cluster::run(one, Plan { seed: search.seed + number, rules, too_many: 0, told: false }, &mut counts).is_ok());
+        (held, counts.times(cluster::PROVED_WITH_IT))
+    };
+    let still_10 = Rules { broken: &[Rule::NoUnknown] };
+    let (ours, theirs) = (times(&mut Engine, PAPER), times(&mut Model(still_10), still_10));
+    let passed = ours.0 && theirs.0 && ours.1 > 0 && theirs.1 == 0;
+    println!("{}: {} times in {HELD} clusters, {} with 10 still given{}", cluster::PROVED_WITH_IT, ours.1, theirs.1, if passed { "" } else { "  FAILED" });
     passed
 }
 
@@ -201,9 +229,10 @@ pub fn check(most: u64, seed: u64) -> bool {
     let search = Search { most, seed };
     println!("a rule broken: the first message at which the comparison differs, the first cluster that sees demand 3 broken");
     let mut passed = true;
-    for broken in SLIPS.iter().chain(&THRESHOLDS_AND_LISTS).chain(&TESTS).chain(&ENTRIES) {
+    for broken in SLIPS.iter().chain(&THRESHOLDS_AND_LISTS).chain(&TESTS).chain(&ENTRIES).chain(&LATE) {
         passed &= noticed(broken, search);
     }
+    passed &= proved_with_a_late_box(search);
     passed &= one_liar_too_many(search);
     passed &= compared("a box that refuses all", Bad::RefusesAll, seed, true);
     passed &= compared("a box that votes the same every time", Bad::VotesCommit, seed, true);

@@ -17,8 +17,11 @@ use stobbarel::layout::{table_len, HEAD, ROW};
 /// The number of a wait, beside 1 and 2 for commit and abort.
 const WAITING: u64 = 3;
 
+/// What 02 wants: 4f + 1 equal logs, of which one is that of a box that had not held the body when it logged, and no log to spare.
+pub const PROVED_WITH_IT: &str = "a proof from logs, not to be had without such a box";
+
 /// What a standard number of runs has to meet.
-const EVENTS: [&str; 55] = [
+const EVENTS: [&str; 61] = [
     "run with f = 1",
     "run with f = 2",
     "run with f = 3",
@@ -40,6 +43,13 @@ const EVENTS: [&str; 55] = [
     "logged abort",
     "logged as before, against the list",
     "logged against the own vote",
+    "logged by a box that missed the prepare",
+    PROVED_WITH_IT,
+    "such a box had the PR later, vote commit",
+    "such a box had the PR later, abort",
+    "such a box had the PR later, wait",
+    "such a box had the PR later, and was asked again",
+    "abort 2, the version read was only logged",
     "commit list and abort list for one body",
     "one body logged both ways",
     "done",
@@ -52,7 +62,6 @@ const EVENTS: [&str; 55] = [
     "refused  6",
     "refused  7",
     "refused  9",
-    "refused 10",
     "refused 11",
     "refused 13",
     "refused 14",
@@ -93,12 +102,16 @@ impl Counts {
         *self.times.get_mut(event).expect("an event of the list") += 1;
     }
 
+    /// How often this event occurred.
+    pub fn times(&self, event: &str) -> u64 {
+        self.times[event]
+    }
+
     fn refused(&mut self, number: u8) {
         match number {
             6 => self.count("refused  6"),
             7 => self.count("refused  7"),
             9 => self.count("refused  9"),
-            10 => self.count("refused 10"),
             11 => self.count("refused 11"),
             13 => self.count("refused 13"),
             15 => self.count("refused 15"),
@@ -154,6 +167,11 @@ enum Act {
     Ask,
     Log,
     Prove,
+    /// The same at these boxes only, as a mask.
+    AskAt(u32),
+    LogAt(u32),
+    /// RDs of a key at a stamp at these boxes.
+    ReadAt(u32, u16, u64),
 }
 
 /// A message on its way.
@@ -177,6 +195,10 @@ struct Listed {
 #[derive(Clone, Copy, Default)]
 struct Seen {
     waiting: u32,
+    /// Boxes that did not hold it when they logged it; those of them that have not voted on it since; those that have.
+    missed: u32,
+    only_logged: u32,
+    voted_late: u32,
     liars_said: [u32; 2],
     logged_both_ways: bool,
     both_lists: bool,
@@ -187,6 +209,11 @@ fn other(decision: Decision) -> Decision {
         Decision::Commit => Decision::Abort,
         Decision::Abort => Decision::Commit,
     }
+}
+
+/// The boxes of a mask.
+fn numbers(mask: u32) -> Vec<usize> {
+    (0..32).filter(|number| mask & 1 << number != 0).collect()
 }
 
 struct Cluster<'a> {
@@ -325,16 +352,14 @@ impl<'a> Cluster<'a> {
         let room = self.letters.len() < 5 * self.boxes.len();
         if self.letters.is_empty() || self.random.chance(2) {
             if let Some((from, act)) = self.script.pop_front() {
-                self.act(from, act);
-                return Ok(());
+                return self.act(from, act);
             }
         }
         if self.gateways.is_empty() || room && self.random.chance(5) {
             return self.start();
         }
         if self.letters.is_empty() || room && self.random.chance(15) {
-            self.go_on();
-            return Ok(());
+            return self.go_on();
         }
         self.deliver()
     }
@@ -360,6 +385,7 @@ impl Cluster<'_> {
             match self.random.below(100) {
                 0..=5 => return self.make_a_chain(),
                 6..=11 => return self.show_two_faces(),
+                12..=23 => return self.miss_the_prepare(),
                 _ => {}
             }
         }
@@ -443,6 +469,49 @@ impl Cluster<'_> {
         Ok(())
     }
 
+    /// Up to so many boxes of a mask, at least one where there is one, as a mask.
+    fn few_of(&mut self, of: u32, most: u64) -> u32 {
+        let (wanted, mut few, mut left) = (self.random.between(1, most), 0u32, of);
+        while left != 0 && u64::from(few.count_ones()) < wanted {
+            let bit = 1 << self.random.below(self.boxes.len() as u64);
+            few |= left & bit;
+            left &= !bit;
+        }
+        few
+    }
+
+    /// A power dip: most boxes are down when a write is asked for, and log it when they are back. Some vote abort, for an RD or for a transaction that
+    /// did not see the write; that is logged by a few boxes that have no PR yet. The PR comes to those, and to some more, which vote commit; what these
+    /// say is logged by all, the boxes without a PR among them. Then that transaction is seen to, and the write is asked for once more, everywhere.
+    fn miss_the_prepare(&mut self) -> Result<(), String> {
+        let (stamp, key) = (self.unused_stamp(3), self.some_key());
+        let tx = transaction(stamp, &[], &[(key, 1)]);
+        let [to_abort, to_commit] = [Decision::Abort, Decision::Commit].map(|wanted| {
+            let gateway = self.new_gateway(tx.clone());
+            self.gateways[gateway].wants = Some(wanted);
+            gateway
+        });
+        let unaware = self.new_gateway(transaction(stamp + 1, &[(key, 0)], &[]));
+        self.gateways[unaware].wants = Some(Decision::Commit);
+        let all = (1u32 << self.boxes.len()) - 1;
+        let sound = all & !self.liars;
+        let against = self.few_of(sound, self.f);
+        // mostly few; or many, so that the abort is proved from their logs
+        let late = if self.random.chance(30) { sound & !against } else { self.few_of(sound & !against, self.f) };
+        let up = self.few_of(sound & !against & !late, 2 * self.f + 1);
+        let first = if self.random.chance(50) { (to_abort, Act::ReadAt(against, key, stamp + 1)) } else { (unaware, Act::AskAt(all & !up)) };
+        self.script.extend([first, (to_abort, Act::AskAt(against)), (to_abort, Act::LogAt(late))]);
+        self.script.extend([(to_commit, Act::AskAt(late | up)), (to_commit, Act::LogAt(all)), (to_commit, Act::Prove)]);
+        let seen_to = [(unaware, Act::Ask), (unaware, Act::Log), (unaware, Act::Prove)];
+        let again = [(to_abort, Act::ReadAt(all & !against, key, stamp + 1)), (to_abort, Act::Ask), (to_abort, Act::Ask), (to_abort, Act::Prove)];
+        if self.random.chance(50) {
+            self.script.extend(seen_to.into_iter().chain(again));
+        } else {
+            self.script.extend(again.into_iter().chain(seen_to));
+        }
+        Ok(())
+    }
+
     fn new_gateway(&mut self, tx: Transaction) -> usize {
         let body = self.known(tx);
         self.gateway(body, true)
@@ -497,6 +566,10 @@ impl Cluster<'_> {
     /// An RD at one box; the higher of the two versions mostly.
     fn read(&mut self, key: u16, stamp: u64) -> Result<u64, String> {
         let number = self.random.below(self.boxes.len() as u64) as usize;
+        self.read_at(number, key, stamp)
+    }
+
+    fn read_at(&mut self, number: usize, key: u16, stamp: u64) -> Result<u64, String> {
         if self.lies(number) {
             return Ok(self.base - 1 + self.random.below(stamp - self.base + 1));
         }
@@ -518,30 +591,38 @@ impl Cluster<'_> {
     }
 
     /// The next thing that a gateway does, wherever it stands.
-    fn go_on(&mut self) {
+    fn go_on(&mut self) -> Result<(), String> {
         let from = self.random.below(self.gateways.len() as u64) as usize;
         if !self.gateways[from].alive {
-            return;
+            return Ok(());
         }
         if self.random.chance(4) {
             self.gateways[from].alive = false;
             self.counts.count("a gateway died");
-            return;
+            return Ok(());
         }
         if self.seen[self.gateways[from].body].waiting != 0 && self.random.chance(50) {
             self.help_on(from);
         }
         let act = self.random.one_of(&[Act::Ask, Act::Ask, Act::Log, Act::Log, Act::Prove]);
-        self.act(from, act);
+        self.act(from, act)
     }
 
-    fn act(&mut self, from: usize, act: Act) {
+    fn act(&mut self, from: usize, act: Act) -> Result<(), String> {
         match act {
             _ if !self.gateways[from].alive => {}
             Act::Ask => self.ask(from),
             Act::Log => self.ask_to_log(from),
             Act::Prove => self.bring_proof(from),
+            Act::AskAt(boxes) => self.ask_these(from, numbers(boxes)),
+            Act::LogAt(boxes) => self.ask_these_to_log(from, numbers(boxes)),
+            Act::ReadAt(boxes, key, stamp) => {
+                for number in numbers(boxes) {
+                    self.read_at(number, key, stamp)?;
+                }
+            }
         }
+        Ok(())
     }
 
     /// A gateway that waits sees to a transaction that it waits for: logs it, or brings its proof, and asks again.
@@ -569,13 +650,23 @@ impl Cluster<'_> {
     }
 
     fn ask(&mut self, from: usize) {
-        for to in self.some_boxes() {
+        let boxes = self.some_boxes();
+        self.ask_these(from, boxes);
+    }
+
+    fn ask_these(&mut self, from: usize, boxes: Vec<usize>) {
+        for to in boxes {
             self.letters.push(Letter { from, to, mark: *b"PR", list: None });
         }
     }
 
-    /// An LG to each box: one list for all, or, where both can be made, the one here and the other there.
     fn ask_to_log(&mut self, from: usize) {
+        let boxes = self.some_boxes();
+        self.ask_these_to_log(from, boxes);
+    }
+
+    /// An LG to each box: one list for all, or, where both can be made, the one here and the other there.
+    fn ask_these_to_log(&mut self, from: usize, boxes: Vec<usize>) {
         let wants = self.gateways[from].wants;
         let named = wants.unwrap_or(self.random.one_of(&[Decision::Commit, Decision::Abort]));
         let mut lists = [self.list(from, Kind::Votes, named, true), self.list(from, Kind::Votes, other(named), true)];
@@ -584,7 +675,7 @@ impl Cluster<'_> {
         }
         self.see_both_lists(from);
         let split = self.random.chance(40);
-        for to in self.some_boxes() {
+        for to in boxes {
             let pick = usize::from(split && self.random.chance(50));
             if let Some(list) = lists[pick].clone().or(lists[1 - pick].clone()) {
                 self.letters.push(Letter { from, to, mark: *b"LG", list: Some(list) });
@@ -800,6 +891,7 @@ impl Cluster<'_> {
                 self.counts.count("wait");
                 self.seen[body].waiting |= 1 << letter.to;
                 self.boxes[letter.to].held.insert(stamp, body);
+                self.late(letter, "such a box had the PR later, wait");
                 self.put_wait_on_sheet(letter)
             }
             Answer::Logged(decision) => self.logged(letter, decision),
@@ -829,6 +921,10 @@ impl Cluster<'_> {
         let stamp = self.judge.bodies[body].tx.stamp;
         self.boxes[letter.to].held.insert(stamp, body);
         self.counts.count(["vote commit", "abort 1", "abort 2", "abort 3", "abort 4", "abort 5", "abort 6"][reason as usize]);
+        if reason == 2 && self.read_what_is_only_logged(letter.to, body) {
+            self.counts.count("abort 2, the version read was only logged");
+        }
+        self.late(letter, if decision == Decision::Commit { "such a box had the PR later, vote commit" } else { "such a box had the PR later, abort" });
         let waiting = &mut self.seen[body].waiting;
         if *waiting & 1 << letter.to != 0 {
             self.counts.count(if decision == Decision::Commit { "a wait became commit" } else { "a wait became abort 6" });
@@ -838,6 +934,24 @@ impl Cluster<'_> {
             }
         }
         self.given(letter, Word { kind: Kind::Votes, decision })
+    }
+
+    /// A PR was answered by a box that may have logged the body before.
+    fn late(&mut self, letter: &Letter, event: &'static str) {
+        let (seen, bit) = (&mut self.seen[self.gateways[letter.from].body], 1 << letter.to);
+        if seen.only_logged & bit != 0 {
+            seen.only_logged &= !bit;
+            seen.voted_late |= bit;
+            self.counts.count(event);
+        } else if seen.voted_late & bit != 0 {
+            self.counts.count("such a box had the PR later, and was asked again");
+        }
+    }
+
+    /// A version that this body read is, at this box, of a body that it has logged and not voted on.
+    fn read_what_is_only_logged(&self, number: usize, body: usize) -> bool {
+        let held = |version| self.boxes[number].held.get(version);
+        self.judge.bodies[body].tx.reads.iter().any(|(_, version)| held(version).is_some_and(|held| self.seen[*held].only_logged & 1 << number != 0))
     }
 
     /// What a box holds under a version that this body read does not write the key.
@@ -850,6 +964,11 @@ impl Cluster<'_> {
     fn logged(&mut self, letter: &Letter, decision: Decision) -> Result<(), String> {
         let body = self.gateways[letter.from].body;
         self.counts.count(if decision == Decision::Commit { "logged commit" } else { "logged abort" });
+        if self.boxes[letter.to].held.insert(self.judge.bodies[body].tx.stamp, body).is_none() {
+            self.counts.count("logged by a box that missed the prepare");
+            self.seen[body].missed |= 1 << letter.to;
+            self.seen[body].only_logged |= 1 << letter.to;
+        }
         if letter.list.as_ref().is_some_and(|list| list.decision != decision) {
             self.counts.count("logged as before, against the list");
         }
@@ -877,6 +996,10 @@ impl Cluster<'_> {
             (Kind::Votes, Decision::Abort) => "abort proof from votes",
             (Kind::Logs, Decision::Abort) => "abort proof from logs",
         });
+        // the judge says so once, when they are just enough
+        if word.kind == Kind::Logs && self.judge.bodies[body].given(Kind::Logs, word.decision) & self.seen[body].missed != 0 {
+            self.counts.count(PROVED_WITH_IT);
+        }
         if word.decision == Decision::Commit && fresh {
             self.newly_committed(body);
         }

@@ -10,7 +10,7 @@ use crate::random::Random;
 use std::collections::BTreeMap;
 use stobbarel::layout::{table_len, HEAD, ROW};
 
-/// Every answer that a box can give; 17 is the writers'.
+/// Every answer that has a number, up to 16; 17 is the writers'.
 const ANSWERS: [&str; 30] = [
     "commit",
     "wait",
@@ -43,6 +43,9 @@ const ANSWERS: [&str; 30] = [
     "refused 15",
     "refused 16",
 ];
+
+/// The one that is no longer given.
+const NEVER: &str = "refused 10";
 
 fn name(answer: Answer) -> &'static str {
     let second = |decision| usize::from(decision == Decision::Abort);
@@ -382,7 +385,10 @@ pub fn check(one: &mut dyn Member, count: u64, seed: u64) -> bool {
     let runs = counts.messages(one, &mut random, count);
     println!("{count} messages in {runs} runs, seed {seed}, each also read alone");
     let mut missing = print(&counts.entrances, &Entrance::NAMES);
-    missing += print(&counts.answers, &ANSWERS);
+    let given: Vec<&'static str> = ANSWERS.into_iter().filter(|one| *one != NEVER).collect();
+    missing += print(&counts.answers, &given);
+    let never = counts.answers.get(NEVER).copied().unwrap_or(0);
+    println!("{never:9}  {NEVER}, which is no longer given");
     missing += print(&counts.cases, &model::CASES);
     missing += print(&counts.cases, &CIRCUMSTANCES);
     counts.sheets(one, &mut random, count / 4);
@@ -391,5 +397,5 @@ pub fn check(one: &mut dyn Member, count: u64, seed: u64) -> bool {
         println!("{times:9}  {reply}");
     }
     println!("{} disagreements, {missing} answers, cases or circumstances did not occur", counts.disagreements);
-    counts.disagreements == 0 && missing == 0
+    counts.disagreements == 0 && missing == 0 && never == 0
 }

@@ -13,6 +13,9 @@
 //! train in the dark.
 //!
 //! Below the same messages go to the old program's boxes and then to ours.
+//!
+//! Another night, after a power dip: the box of one keeper was down when the correction was asked for, and box 5 is dead. Four boxes
+//! have voted, four log, and one more is needed; the box that is back answered 10 to every LG. Now it logs.
 
 use crate::engine::Entrance;
 use crate::judge::{Judge, Word};
@@ -83,12 +86,17 @@ impl Line<'_> {
         self.send_all(&rd(HOT_AXLE, MORNING)).into_iter().map(shown).collect()
     }
 
-    /// The evening: the passage is written and decided; a panel at boxes 3 and 4 reads the hot axle; the correction is asked for.
-    fn evening(&mut self) {
+    /// The passage is written and decided.
+    fn train_passes(&mut self) {
         let written = transaction_bytes(&passage());
         assert_eq!(self.send_all(&pr(&written)), [Answer::Commit; 5]);
         let proof = with_list(b"DC", &written, Votes, Commit, &all(&[0, 1, 2, 3, 4, LIAR], Commit));
         assert_eq!(self.send_all(&proof), [Answer::Done; 5]);
+    }
+
+    /// The evening: the train passes; a panel at boxes 3 and 4 reads the hot axle; the correction is asked for.
+    fn evening(&mut self) {
+        self.train_passes();
         for number in [3, 4] {
             let read = self.send(number, &rd(HOT_AXLE, PANEL));
             assert_eq!(read, Answer::Found { committed: (EVENING, 238), undecided: (0, 0) });
@@ -190,6 +198,42 @@ fn had_it_been_quicker() -> [u32; 2] {
     proofs
 }
 
+/// After the power dip: box 4 missed the prepare, and box 5 says nothing. What the LG with four votes is answered, and then the DC with the logs that there are.
+fn after_the_dip(line: &mut Line) -> (Vec<Answer>, Vec<Answer>) {
+    line.train_passes();
+    let corrected = transaction_bytes(&correction());
+    assert_eq!([0, 1, 2, 3].map(|number| line.send(number, &pr(&corrected))), [Answer::Commit; 4]);
+    let log = with_list(b"LG", &corrected, Votes, Commit, &all(&[0, 1, 2, 3], Commit));
+    let logs = line.send_all(&log);
+    let logged: Vec<u8> = (0..5).filter(|number| logs[usize::from(*number)] == Answer::Logged(Commit)).collect();
+    (logs, line.send_all(&with_list(b"DC", &corrected, Logs, Commit, &all(&logged, Commit))))
+}
+
+/// As it was: four logs of five. As it is: five.
+fn with_the_box_that_was_down() {
+    let mut old = Model(Rules { broken: &[Rule::NoUnknown] });
+    let (logs, taken) = after_the_dip(&mut Line::new(&mut old));
+    assert_eq!(logs[4], Answer::Refused(10), "it did not know the correction");
+    assert_eq!((&logs[..4], &taken[..]), (&[Answer::Logged(Commit); 4][..], &[Answer::Refused(11); 5][..]), "four logs are too few");
+    let mut engine = Engine;
+    let mut line = Line::new(&mut engine);
+    let (logs, taken) = after_the_dip(&mut line);
+    assert_eq!((logs, taken), (vec![Answer::Logged(Commit); 5], vec![Answer::Done; 5]), "five are a proof");
+    assert_eq!(line.panels(), [3; 5], "and every panel shows the correction");
+}
+
+/// The box that was down has missed the passage too, and is asked after all: it votes as on any new correction, and its log stays.
+fn asked_after_all() {
+    let mut engine = Engine;
+    let mut line = Line::new(&mut engine);
+    let corrected = transaction_bytes(&correction());
+    let log = with_list(b"LG", &corrected, Votes, Commit, &all(&[0, 1, 2, 3], Commit));
+    assert_eq!(line.send(4, &log), Answer::Logged(Commit));
+    assert_eq!(line.send(4, &pr(&corrected)), Answer::Abort(2), "it holds no passage to correct");
+    let abort = with_list(b"LG", &corrected, Votes, Abort, &all(&[4, LIAR], Abort));
+    assert_eq!(line.send(4, &abort), Answer::Logged(Commit), "the first log stays");
+}
+
 /// True, or a panic that says which sentence of the story is not so.
 pub fn check() -> bool {
     as_it_was();
@@ -201,5 +245,8 @@ pub fn check() -> bool {
     let [commits, aborts] = had_it_been_quicker();
     assert_eq!([commits, aborts], [6, 6], "four or five of five logs and the liar's are a proof");
     println!("incident: of 32 nights {commits} have a commit proof, {aborts} an abort proof, none both");
+    with_the_box_that_was_down();
+    asked_after_all();
+    println!("incident: after the power dip the box that was down logs too, and five logs are a proof; with its 10 there were four");
     true
 }

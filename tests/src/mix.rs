@@ -156,6 +156,40 @@ impl Run {
         Some([b"DC".to_vec(), transaction_bytes(&body), self.list(random, false)].concat())
     }
 
+    /// A message about an entry that an LG stored and no PR has come for: its PR, an LG or a DC for it, or the PR of a body that reads it.
+    fn about_only_logged(&mut self, random: &mut Random) -> Option<Vec<u8>> {
+        let held = self.held();
+        let logged: Vec<&Entry> = held.iter().filter(|entry| entry.only_logged()).collect();
+        if logged.is_empty() {
+            return None;
+        }
+        let body = &logged[random.below(logged.len() as u64) as usize].body;
+        let bytes = transaction_bytes(body);
+        Some(match random.below(10) {
+            0..=3 => [b"PR".to_vec(), bytes].concat(),
+            4 => [b"LG".to_vec(), bytes, self.list(random, true)].concat(),
+            5 => [b"DC".to_vec(), bytes, self.list(random, false)].concat(),
+            _ => {
+                let reader = self.reader(random, body)?;
+                let bytes = transaction_bytes(&reader);
+                self.bodies.push(reader);
+                [b"PR".to_vec(), bytes].concat()
+            }
+        })
+    }
+
+    /// A body with a higher stamp that reads a key from this one.
+    fn reader(&self, random: &mut Random, written: &Transaction) -> Option<Transaction> {
+        let stamp = written.stamp.checked_add(random.between(1, 4))?;
+        let (key, _) = *written.writes.first()?;
+        let mut reader = self.body(random, stamp);
+        reader.reads.retain(|(read, _)| *read != key);
+        reader.reads.truncate(7);
+        reader.reads.push((key, written.stamp));
+        reader.reads.sort_unstable();
+        Some(reader)
+    }
+
     /// A list that meets its threshold, or misses it by one.
     fn list(&self, random: &mut Random, log: bool) -> Vec<u8> {
         let f = if (1..=5).contains(&self.settings.f) { self.settings.f } else { 1 };
@@ -204,6 +238,11 @@ impl Run {
                 return message;
             }
         }
+        if random.chance(15) {
+            if let Some(message) = self.about_only_logged(random) {
+                return message;
+            }
+        }
         if random.chance(6 + self.lent) {
             if let Some(message) = self.about_a_row(random) {
                 return message;
@@ -215,7 +254,7 @@ impl Run {
                 [b"PR".to_vec(), transaction_bytes(&body)].concat()
             }
             9..=12 => {
-                let body = self.known_or_new(random, 93);
+                let body = self.known_or_new(random, 80);
                 [b"LG".to_vec(), transaction_bytes(&body), self.list(random, true)].concat()
             }
             13..=16 => {

@@ -47,6 +47,24 @@ pub enum Rule {
     VoteStays,
     /// LG: a second valid list is logged afresh.
     FirstLogStays,
+    /// LG for a stamp not held: 10.
+    NoUnknown,
+    /// LG for a stamp not held: 13 before 11.
+    TooFewFirst,
+    /// LG for a stamp not held: its entry is live before its PR.
+    NotLiveBefore,
+    /// LG for a stamp not held: its entry has a commit vote.
+    VoteNone,
+    /// PR in place of vote none: the log is lost.
+    LogKept,
+    /// PR in place of vote none: 13 where the table is full.
+    NoFurtherRoom,
+    /// PR in place of vote none: the vote is told and not stored, so that the entry is tested again at every PR and never live.
+    VoteStored,
+    /// PR: what is logged is tested again each time; the table does not tell which message stored an entry.
+    TestedOnce,
+    /// What is logged is not live, whatever the vote.
+    LoggedLives,
     /// A full table: the new entry takes the first one's place.
     EntriesStay,
 }
@@ -85,6 +103,16 @@ impl Rules {
             (Kind::Votes, Decision::Abort) => row[3],
             (Kind::Logs, _) => row[4],
         }
+    }
+
+    /// Whether a list meets the threshold for logging.
+    fn can_be_logged(self, f: u64, list: &List) -> bool {
+        let row = self.row(f);
+        let needed = match list.decision {
+            Decision::Commit => row[0],
+            Decision::Abort => row[1],
+        };
+        self.counted(list) >= needed
     }
 
     /// Only entries with the list's decision are counted.
@@ -197,6 +225,7 @@ const ORDER: u8 = 6;
 const MISBEHAVIOUR: u8 = 7;
 const CODE: u8 = 8;
 const OTHER_BODY: u8 = 9;
+/// No longer given; a box with a broken rule gives it.
 const UNKNOWN: u8 = 10;
 const TOO_FEW: u8 = 11;
 const CONTRADICTION: u8 = 12;
@@ -391,6 +420,11 @@ impl Entry {
     fn committed(&self) -> bool {
         self.decision == Some(Decision::Commit)
     }
+
+    /// As an LG leaves it where the box missed the prepare: undecided, logged, with no vote.
+    pub fn only_logged(&self) -> bool {
+        self.decision.is_none() && self.vote == Vote::None && self.log.is_some()
+    }
 }
 
 /// A lent table's entries and its read marks, for the length of one call.
@@ -405,7 +439,7 @@ pub struct Store {
 }
 
 /// The cases that a mixture of messages has to meet.
-pub const CASES: [&str; 24] = [
+pub const CASES: [&str; 34] = [
     "PR new, no test fails",
     "PR again, vote cast",
     "PR again, waiting: waits on",
@@ -413,6 +447,10 @@ pub const CASES: [&str; 24] = [
     "PR again, waiting: abort 6",
     "PR in place of vote none",
     "PR in place of vote none, log kept",
+    "PR in place of vote none, log kept: commit",
+    "PR in place of vote none, log kept: wait",
+    "PR in place of vote none, log kept, table full",
+    "test 2: the version is logged, with no vote",
     "waiting rule: decided abort",
     "waiting rule: committed by a body that lacks the key",
     "waiting rule: not held",
@@ -421,9 +459,15 @@ pub const CASES: [&str; 24] = [
     "PR 9, decided entry",
     "LG 9",
     "LG again, other list",
+    "LG again, other list, no vote",
     "LG with an abort vote cast",
+    "LG new",
+    "LG new, too few",
+    "LG new, too few, table full",
+    "LG new, table full",
     "DC new",
     "DC, undecided takes it",
+    "DC, undecided takes it, logged with no vote",
     "DC, equal decision",
     "DC, opposite decision",
     "DC abort, other body",
@@ -438,8 +482,12 @@ impl Store {
     }
 
     fn lives(&self, entry: &Entry) -> bool {
+        if entry.only_logged() && !self.rules.hold(Rule::NotLiveBefore) {
+            return true;
+        }
         let rule = match (entry.decision, entry.vote) {
             (Some(_), _) => Rule::CommittedLives,
+            (None, _) if entry.log.is_some() && !self.rules.hold(Rule::LoggedLives) => return false,
             (None, Vote::Waiting) => Rule::WaitingLives,
             (None, _) => Rule::VotedLives,
         };
@@ -526,7 +574,11 @@ impl Store {
     }
 
     fn first_vote(&mut self, tx: &Transaction, settings: &Settings) -> Vote {
-        match self.failing_test(tx, settings) {
+        let failing = self.failing_test(tx, settings);
+        if failing == Some(2) && tx.reads.iter().filter_map(|(_, version)| self.place(*version)).any(|place| self.entries[place].only_logged()) {
+            self.met.push("test 2: the version is logged, with no vote");
+        }
+        match failing {
             Some(reason) => Vote::Abort(reason),
             None => self.waiting_rule(tx),
         }
@@ -579,11 +631,25 @@ impl Store {
             return Answer::Decided(decided);
         }
         let (cast, log) = (held.vote, held.log);
+        if cast == Vote::None && self.full(settings) && !self.rules.hold(Rule::NoFurtherRoom) {
+            return Answer::Refused(FULL);
+        }
+        let again = log.is_some() && !self.rules.hold(Rule::TestedOnce);
         let vote = match cast {
-            Vote::Commit | Vote::Abort(_) if self.rules.hold(Rule::VoteStays) => cast,
-            Vote::Waiting => self.waiting_rule(&tx),
+            Vote::Commit | Vote::Abort(_) if self.rules.hold(Rule::VoteStays) && !again => cast,
+            Vote::Waiting if !again => self.waiting_rule(&tx),
             _ => self.first_vote(&tx, settings),
         };
+        if cast == Vote::None && log.is_some() {
+            match vote {
+                Vote::Commit => self.met.push("PR in place of vote none, log kept: commit"),
+                Vote::Waiting => self.met.push("PR in place of vote none, log kept: wait"),
+                _ => {}
+            }
+            if self.full(settings) {
+                self.met.push("PR in place of vote none, log kept, table full");
+            }
+        }
         self.met.push(match (cast, vote) {
             (Vote::None, _) if log.is_some() => "PR in place of vote none, log kept",
             (Vote::None, _) => "PR in place of vote none",
@@ -592,14 +658,46 @@ impl Store {
             (Vote::Waiting, _) => "PR again, waiting: abort 6",
             _ => "PR again, vote cast",
         });
-        self.entries[place].vote = vote;
+        let entry = &mut self.entries[place];
+        if cast != Vote::None || self.rules.hold(Rule::VoteStored) {
+            entry.vote = vote;
+        }
+        if cast == Vote::None && !self.rules.hold(Rule::LogKept) {
+            entry.log = None;
+        }
         self.touched = Some(place);
         Self::told(vote)
     }
 
+    /// LG for a stamp not held: 11, then 13, else a new entry with vote none and that log.
+    fn log_new(&mut self, tx: Transaction, list: List, settings: &Settings) -> Answer {
+        if !self.rules.hold(Rule::NoUnknown) {
+            return Answer::Refused(UNKNOWN);
+        }
+        let (enough, full) = (self.rules.can_be_logged(settings.f, &list), self.full(settings));
+        self.met.push(match (enough, full) {
+            (true, false) => "LG new",
+            (false, false) => "LG new, too few",
+            (false, true) => "LG new, too few, table full",
+            (true, true) => "LG new, table full",
+        });
+        if full && !self.rules.hold(Rule::TooFewFirst) {
+            return Answer::Refused(FULL);
+        }
+        if !enough {
+            return Answer::Refused(TOO_FEW);
+        }
+        if full {
+            return Answer::Refused(FULL);
+        }
+        let vote = if self.rules.hold(Rule::VoteNone) { Vote::None } else { Vote::Commit };
+        self.store(Entry { body: tx, vote, log: Some(list.decision), decision: None }, settings);
+        Answer::Logged(list.decision)
+    }
+
     fn log(&mut self, tx: Transaction, list: List, settings: &Settings) -> Answer {
         let Some(place) = self.place(tx.stamp) else {
-            return Answer::Refused(UNKNOWN);
+            return self.log_new(tx, list, settings);
         };
         let held = &mut self.entries[place];
         if held.body != tx {
@@ -611,19 +709,14 @@ impl Store {
         }
         if let Some(logged) = held.log.filter(|_| self.rules.hold(Rule::FirstLogStays)) {
             if logged != list.decision {
-                self.met.push("LG again, other list");
+                self.met.push(if held.vote == Vote::None { "LG again, other list, no vote" } else { "LG again, other list" });
             }
             return Answer::Logged(logged);
         }
         if matches!(held.vote, Vote::Abort(_)) {
             self.met.push("LG with an abort vote cast");
         }
-        let row = self.rules.row(settings.f);
-        let needed = match list.decision {
-            Decision::Commit => row[0],
-            Decision::Abort => row[1],
-        };
-        if self.rules.counted(&list) < needed {
+        if !self.rules.can_be_logged(settings.f, &list) {
             return Answer::Refused(TOO_FEW);
         }
         held.log = Some(list.decision);
@@ -647,7 +740,7 @@ impl Store {
         if held.body == tx {
             match held.decision {
                 None => {
-                    self.met.push("DC, undecided takes it");
+                    self.met.push(if held.only_logged() { "DC, undecided takes it, logged with no vote" } else { "DC, undecided takes it" });
                     held.decision = Some(list.decision)
                 }
                 Some(decided) if decided == list.decision => self.met.push("DC, equal decision"),

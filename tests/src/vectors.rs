@@ -1,10 +1,11 @@
-//! Records read and written, messages by each entrance, and answers taken by a tally sheet: each refusal at its smallest fault, two faults at once for
-//! neighbours in 01's order, and both sides of each threshold. The answers due are written down from 01; the engine, by its C interface, and the model have to give them.
+//! Records read and written, messages by each entrance, bodies that a box logs before it has their PR, and answers taken by a tally sheet: each refusal at its smallest
+//! fault, two faults at once for neighbours in 01's order, and both sides of each threshold. The answers due are written down from 01 and 02; the engine, by its C interface,
+//! and the model have to give them.
 //! What the bench program can show of reading stands in tests/bench; here is the rest.
 
 use crate::engine::{self, Entrance};
-use crate::model::{self, Answer, Draft, ListDraft, Record, Reply, Settings, Sheet, DC, LG};
-use stobbarel::layout::table_len;
+use crate::model::{self, Answer, Decision, Draft, ListDraft, Record, Reply, Settings, Sheet, DC, LG, THRESHOLDS};
+use stobbarel::layout::{table_len, DECIDED_AT, HEAD, LOG_AT, REASON_AT, ROW, VOTE_AT};
 
 /// How many were tried, and how many differ.
 #[derive(Default)]
@@ -126,7 +127,7 @@ const fn refused(number: u8) -> Answer {
 const ENTERED: [(&str, Entrance, u64, u64, &[&[u8]], Answer); 24] = [
     ("a PR by receive", Entrance::Receive, 1, 8, &[b"PR", BODY], COMMIT),
     ("a PR", Entrance::Due(1), 1, 8, &[b"PR", BODY], COMMIT),
-    ("an LG", Entrance::Due(2), 1, 8, &[b"LG", BODY, VOTE], refused(10)),
+    ("an LG", Entrance::Due(2), 1, 8, &[b"LG", BODY, VOTE], refused(11)),
     ("a DC", Entrance::Due(3), 1, 8, &[b"DC", BODY, VOTE], refused(11)),
     ("an RD", Entrance::Due(4), 1, 8, &[RD], NOTHING_FOUND),
     ("an RD where a PR is due", Entrance::Due(1), 1, 8, &[RD], refused(2)),
@@ -160,6 +161,357 @@ fn entering(tried: &mut Tried) {
         let by_engine = engine::call(entrance, &mut table, &mut marks, &settings, &message).ok().and_then(engine::answer_of);
         tried.one(what, Some(due), by_engine, Some(by_model));
         tried.one(&format!("{what}: table and read marks"), left.clone(), (table, marks), left);
+    }
+}
+
+// ---- a box that missed the prepare
+
+/// 50 writes 8 at key 3; 60 reads key 3 at 50, at 0, at 40; 111 writes key 3.
+const OTHER: &[u8] = b"TX\x00\x01\x32\0\0\0\0\0\0\0\x03\0\x08\0\0\0\0\0\0\0";
+const READER: &[u8] = b"TX\x01\x00\x3c\0\0\0\0\0\0\0\x03\0\x32\0\0\0\0\0\0\0";
+const READS_START: &[u8] = b"TX\x01\x00\x3c\0\0\0\0\0\0\0\x03\0\0\0\0\0\0\0\0\0";
+const READS_40: &[u8] = b"TX\x01\x00\x3c\0\0\0\0\0\0\0\x03\0\x28\0\0\0\0\0\0\0";
+const AHEAD: &[u8] = b"TX\x00\x01\x6f\0\0\0\0\0\0\0\x03\0\x07\0\0\0\0\0\0\0";
+
+/// For f = 1: three and four commit votes, one and two abort votes; six commit votes and four abort votes, which are proofs.
+const THREE: &[u8] = b"VL\x01\x01\x03\0\x01\x01\x01\x02\x01";
+const COMMITS: &[u8] = b"VL\x01\x01\x04\0\x01\x01\x01\x02\x01\x03\x01";
+const ONE: &[u8] = b"VL\x01\x02\x01\0\x02";
+const ABORTS: &[u8] = b"VL\x01\x02\x02\0\x02\x01\x02";
+const PROVES_COMMIT: &[u8] = b"VL\x01\x01\x06\0\x01\x01\x01\x02\x01\x03\x01\x04\x01\x05\x01";
+const PROVES_ABORT: &[u8] = b"VL\x01\x02\x04\0\x02\x01\x02\x02\x02\x03\x02";
+
+const LOGGED: Answer = Answer::Logged(Decision::Commit);
+const LOGGED_ABORT: Answer = Answer::Logged(Decision::Abort);
+const DECIDED_ABORT: Answer = Answer::Decided(Decision::Abort);
+
+const fn abort(reason: u8) -> Answer {
+    Answer::Abort(reason)
+}
+
+/// Messages in turn to an empty box of f = 1 with room for so many entries: what each is answered, and for each entry in the end vote, reason, log and decision.
+struct Scene {
+    what: &'static str,
+    capacity: u64,
+    told: &'static [(&'static [&'static [u8]], Answer)],
+    rows: &'static [[u8; 4]],
+}
+
+const SCENES: [Scene; 25] = [
+    Scene {
+        what: "stored with vote none, not live",
+        capacity: 8,
+        told: &[
+            (&[b"LG", BODY, COMMITS], LOGGED),
+            (&[RD], NOTHING_FOUND),
+        ],
+        rows: &[[0, 0, 1, 0]],
+    },
+    Scene {
+        what: "logged abort",
+        capacity: 8,
+        told: &[
+            (&[b"LG", BODY, ABORTS], LOGGED_ABORT),
+        ],
+        rows: &[[0, 0, 2, 0]],
+    },
+    Scene {
+        what: "11, nothing stored",
+        capacity: 8,
+        told: &[
+            (&[b"LG", BODY, THREE], refused(11)),
+            (&[b"LG", BODY, ONE], refused(11)),
+        ],
+        rows: &[],
+    },
+    Scene {
+        what: "11 before 13, then 13",
+        capacity: 1,
+        told: &[
+            (&[b"PR", READS_START], COMMIT),
+            (&[b"LG", BODY, THREE], refused(11)),
+            (&[b"LG", BODY, ONE], refused(11)),
+            (&[b"LG", BODY, COMMITS], refused(13)),
+            (&[b"LG", BODY, ABORTS], refused(13)),
+        ],
+        rows: &[[1, 0, 0, 0]],
+    },
+    Scene {
+        what: "9 before 11",
+        capacity: 1,
+        told: &[
+            (&[b"LG", BODY, COMMITS], LOGGED),
+            (&[b"LG", OTHER, ONE], refused(9)),
+            (&[b"PR", OTHER], refused(9)),
+        ],
+        rows: &[[0, 0, 1, 0]],
+    },
+    Scene {
+        what: "that same log again, be the list too few",
+        capacity: 1,
+        told: &[
+            (&[b"LG", BODY, COMMITS], LOGGED),
+            (&[b"LG", BODY, ABORTS], LOGGED),
+            (&[b"LG", BODY, ONE], LOGGED),
+        ],
+        rows: &[[0, 0, 1, 0]],
+    },
+    Scene {
+        what: "a later PR keeps the log, in a full table",
+        capacity: 1,
+        told: &[
+            (&[b"LG", BODY, ABORTS], LOGGED_ABORT),
+            (&[b"PR", BODY], COMMIT),
+            (&[b"LG", BODY, COMMITS], LOGGED_ABORT),
+            (&[b"PR", BODY], COMMIT),
+        ],
+        rows: &[[1, 0, 2, 0]],
+    },
+    Scene {
+        what: "a later PR keeps the place",
+        capacity: 2,
+        told: &[
+            (&[b"LG", BODY, COMMITS], LOGGED),
+            (&[b"PR", AHEAD], abort(1)),
+            (&[b"PR", BODY], COMMIT),
+        ],
+        rows: &[[1, 0, 1, 0], [2, 1, 0, 0]],
+    },
+    Scene {
+        what: "a later PR, test 1; the vote stays",
+        capacity: 8,
+        told: &[
+            (&[b"LG", AHEAD, COMMITS], LOGGED),
+            (&[b"PR", AHEAD], abort(1)),
+            (&[b"PR", AHEAD], abort(1)),
+        ],
+        rows: &[[2, 1, 1, 0]],
+    },
+    Scene {
+        what: "a later PR, test 2",
+        capacity: 8,
+        told: &[
+            (&[b"LG", READS_40, COMMITS], LOGGED),
+            (&[b"PR", READS_40], abort(2)),
+        ],
+        rows: &[[2, 2, 1, 0]],
+    },
+    Scene {
+        what: "a later PR, test 3",
+        capacity: 8,
+        told: &[
+            (&[b"PR", BODY], COMMIT),
+            (&[b"LG", READS_START, COMMITS], LOGGED),
+            (&[b"PR", READS_START], abort(3)),
+        ],
+        rows: &[[1, 0, 0, 0], [2, 3, 1, 0]],
+    },
+    Scene {
+        what: "a later PR, test 4",
+        capacity: 8,
+        told: &[
+            (&[b"PR", READS_START], COMMIT),
+            (&[b"LG", BODY, COMMITS], LOGGED),
+            (&[b"PR", BODY], abort(4)),
+        ],
+        rows: &[[1, 0, 0, 0], [2, 4, 1, 0]],
+    },
+    Scene {
+        what: "a later PR, test 5",
+        capacity: 8,
+        told: &[
+            (&[b"LG", BODY, COMMITS], LOGGED),
+            (&[RD], NOTHING_FOUND),
+            (&[b"PR", BODY], abort(5)),
+        ],
+        rows: &[[2, 5, 1, 0]],
+    },
+    Scene {
+        what: "a vote cast on a later PR is not tested again",
+        capacity: 8,
+        told: &[
+            (&[b"LG", BODY, COMMITS], LOGGED),
+            (&[b"PR", BODY], COMMIT),
+            (&[RD], Answer::Found { committed: (0, 0), undecided: (50, 7) }),
+            (&[b"PR", BODY], COMMIT),
+        ],
+        rows: &[[1, 0, 1, 0]],
+    },
+    Scene {
+        what: "a later PR waits, and commits",
+        capacity: 8,
+        told: &[
+            (&[b"PR", BODY], COMMIT),
+            (&[b"LG", READER, COMMITS], LOGGED),
+            (&[b"PR", READER], Answer::Wait),
+            (&[b"DC", BODY, PROVES_COMMIT], Answer::Done),
+            (&[b"PR", READER], COMMIT),
+        ],
+        rows: &[[1, 0, 0, 1], [1, 0, 1, 0]],
+    },
+    Scene {
+        what: "a later PR waits, and aborts",
+        capacity: 8,
+        told: &[
+            (&[b"PR", BODY], COMMIT),
+            (&[b"LG", READER, COMMITS], LOGGED),
+            (&[b"PR", READER], Answer::Wait),
+            (&[b"DC", BODY, PROVES_ABORT], Answer::Done),
+            (&[b"PR", READER], abort(6)),
+        ],
+        rows: &[[1, 0, 0, 2], [2, 6, 1, 0]],
+    },
+    Scene {
+        what: "a reader before the PR: reason 2",
+        capacity: 8,
+        told: &[
+            (&[b"LG", BODY, COMMITS], LOGGED),
+            (&[b"PR", READER], abort(2)),
+            (&[b"PR", BODY], COMMIT),
+            (&[b"PR", READER], abort(2)),
+        ],
+        rows: &[[1, 0, 1, 0], [2, 2, 0, 0]],
+    },
+    Scene {
+        what: "a reader after the PR waits",
+        capacity: 8,
+        told: &[
+            (&[b"LG", BODY, COMMITS], LOGGED),
+            (&[b"PR", BODY], COMMIT),
+            (&[b"PR", READER], Answer::Wait),
+        ],
+        rows: &[[1, 0, 1, 0], [3, 0, 0, 0]],
+    },
+    Scene {
+        what: "no clash by test 3 before the PR",
+        capacity: 8,
+        told: &[
+            (&[b"LG", BODY, COMMITS], LOGGED),
+            (&[b"PR", READS_START], COMMIT),
+            (&[b"PR", BODY], abort(4)),
+        ],
+        rows: &[[2, 4, 1, 0], [1, 0, 0, 0]],
+    },
+    Scene {
+        what: "no clash by test 4 before the PR",
+        capacity: 8,
+        told: &[
+            (&[b"LG", READS_START, COMMITS], LOGGED),
+            (&[b"PR", BODY], COMMIT),
+            (&[b"PR", READS_START], abort(3)),
+        ],
+        rows: &[[2, 3, 1, 0], [1, 0, 0, 0]],
+    },
+    Scene {
+        what: "a clash by test 4 after the PR",
+        capacity: 8,
+        told: &[
+            (&[b"LG", READS_START, COMMITS], LOGGED),
+            (&[b"PR", READS_START], COMMIT),
+            (&[b"PR", BODY], abort(4)),
+        ],
+        rows: &[[1, 0, 1, 0], [2, 4, 0, 0]],
+    },
+    Scene {
+        what: "a DC decides it, against its log",
+        capacity: 1,
+        told: &[
+            (&[b"LG", BODY, COMMITS], LOGGED),
+            (&[b"DC", BODY, PROVES_ABORT], Answer::Done),
+            (&[b"PR", BODY], DECIDED_ABORT),
+            (&[b"LG", BODY, COMMITS], DECIDED_ABORT),
+        ],
+        rows: &[[0, 0, 1, 2]],
+    },
+    Scene {
+        what: "a DC commits it, which is live",
+        capacity: 8,
+        told: &[
+            (&[b"LG", BODY, ABORTS], LOGGED_ABORT),
+            (&[b"DC", BODY, PROVES_COMMIT], Answer::Done),
+            (&[RD], Answer::Found { committed: (50, 7), undecided: (0, 0) }),
+            (&[b"PR", READER], COMMIT),
+        ],
+        rows: &[[0, 0, 2, 1], [1, 0, 0, 0]],
+    },
+    Scene {
+        what: "a DC abort of another body",
+        capacity: 1,
+        told: &[
+            (&[b"LG", BODY, COMMITS], LOGGED),
+            (&[b"DC", OTHER, PROVES_ABORT], refused(9)),
+        ],
+        rows: &[[0, 0, 1, 0]],
+    },
+    Scene {
+        what: "a DC commit of another body replaces it",
+        capacity: 1,
+        told: &[
+            (&[b"LG", BODY, COMMITS], LOGGED),
+            (&[b"DC", OTHER, PROVES_COMMIT], Answer::Done),
+            (&[b"PR", BODY], refused(9)),
+            (&[b"LG", BODY, COMMITS], refused(9)),
+        ],
+        rows: &[[0, 0, 0, 1]],
+    },
+];
+
+/// Vote, reason, log and decision of each entry.
+fn rows(table: &[u8]) -> Vec<[u8; 4]> {
+    let codes = |row: &[u8]| [VOTE_AT, REASON_AT, LOG_AT, DECIDED_AT].map(|at| row[at]);
+    table[HEAD..].chunks(ROW).take(table[0] as usize).map(codes).collect()
+}
+
+/// One message to the engine's box and to the model's, by receive.
+fn sent(tried: &mut Tried, what: &str, by_engine: &mut (Vec<u8>, Vec<u64>), by_model: &mut (Vec<u8>, Vec<u64>), settings: &Settings, message: &[u8], due: Answer) {
+    let answer = engine::call(Entrance::Receive, &mut by_engine.0, &mut by_engine.1, settings, message).ok().and_then(engine::answer_of);
+    let modelled = model::call(&mut by_model.0, &mut by_model.1, settings, message, Entrance::Receive.taken(), &mut Vec::new());
+    tried.one(what, Some(due), answer, Some(modelled));
+}
+
+fn missing_the_prepare(tried: &mut Tried) {
+    for scene in SCENES {
+        let settings = Settings { f: 1, capacity: scene.capacity, clock: 100, delta: 10 };
+        let mut by_engine = (vec![0; table_len(scene.capacity as usize)], vec![0; 512]);
+        let mut by_model = by_engine.clone();
+        for (number, (parts, due)) in scene.told.iter().enumerate() {
+            sent(tried, &format!("{}, message {number}", scene.what), &mut by_engine, &mut by_model, &settings, &parts.concat(), *due);
+        }
+        tried.one(&format!("{}: the entries", scene.what), scene.rows.to_vec(), rows(&by_engine.0), rows(&by_model.0));
+        tried.one(&format!("{}: table and read marks", scene.what), by_model.clone(), by_engine, by_model);
+    }
+}
+
+/// LGs for a stamp not held, of every f: any number of votes for either decision, with and without room, and with the other boxes answering otherwise. 11, then 13,
+/// else it is logged; so never 10.
+fn logging_what_is_not_held(tried: &mut Tried) {
+    for f in 1..=5u64 {
+        let (n, row) = (5 * f as u8 + 1, THRESHOLDS[f as usize - 1]);
+        for (decided, needed, logged) in [(1, row[0], LOGGED), (2, row[1], LOGGED_ABORT)] {
+            for (counted, full, others) in (0..=n).flat_map(|counted| [(counted, false, true), (counted, true, true), (counted, false, false), (counted, true, false)]) {
+                let pairs: Vec<[u8; 2]> = (0..n).filter(|number| others || *number < counted).map(|number| [number, if number < counted { decided } else { 3 - decided }]).collect();
+                if pairs.is_empty() {
+                    continue;
+                }
+                let list = [&[b'V', b'L', 1, decided, pairs.len() as u8][..], &pairs.concat()].concat();
+                let due = match (usize::from(counted) < needed, full) {
+                    (true, _) => refused(11),
+                    (false, true) => refused(13),
+                    (false, false) => logged,
+                };
+                let settings = Settings { f, capacity: 1, clock: 100, delta: 10 };
+                let mut by_engine = (vec![0; table_len(1)], vec![0; 512]);
+                let mut by_model = by_engine.clone();
+                if full {
+                    sent(tried, "an entry takes the room", &mut by_engine, &mut by_model, &settings, &[b"PR", READS_START].concat(), COMMIT);
+                }
+                let what = format!("LG, f {f}, {counted} of {needed} for {decided}, full {full}");
+                sent(tried, &what, &mut by_engine, &mut by_model, &settings, &[b"LG", BODY, &list].concat(), due);
+                let entry = if full { [1, 0, 0, 0] } else { [0, 0, decided, 0] };
+                let stands = if full || due == logged { vec![entry] } else { vec![] };
+                tried.one(&format!("{what}: the entries"), stands, rows(&by_engine.0), rows(&by_model.0));
+            }
+        }
     }
 }
 
@@ -370,10 +722,16 @@ pub fn check() -> bool {
     let read = tried.all;
     entering(&mut tried);
     let entered = tried.all - read;
+    missing_the_prepare(&mut tried);
+    logging_what_is_not_held(&mut tried);
+    let missed = tried.all - read - entered;
     writing(&mut tried);
-    let written = tried.all - read - entered;
+    let written = tried.all - read - entered - missed;
     sheets(&mut tried);
-    let taken = tried.all - read - entered - written;
-    println!("vectors of the paper: {read} of reading, {entered} of entrances, {written} of writing, {taken} of the tally; {} differ", tried.wrong);
-    tried.wrong == 0 && read > 0 && entered > 0 && written > 0 && taken > 0
+    let taken = tried.all - read - entered - missed - written;
+    println!(
+        "vectors of the papers: {read} of reading, {entered} of entrances, {missed} of LGs for what is not held, {written} of writing, {taken} of the tally; {} differ",
+        tried.wrong
+    );
+    tried.wrong == 0 && read > 0 && entered > 0 && missed > 0 && written > 0 && taken > 0
 }

@@ -319,7 +319,14 @@ fn prepare(rows: Rows, marks: &[u64], tx: Body, settings: &Settings) -> Step {
 
 fn log(rows: Rows, tx: Body, list: &List, settings: &Settings) -> Step {
     let Some(place) = rows.place(tx.stamp()) else {
-        return keep(Answer::Refused(10));
+        if !list.meets(settings, true) {
+            return keep(Answer::Refused(11));
+        }
+        if rows.0.len() as u64 >= settings.capacity {
+            return keep(Answer::Refused(13));
+        }
+        let stored = Codes { vote: NONE, reason: 0, log: list.decision, decided: NONE };
+        return (Answer::Logged(decision(list.decision)), Some((rows.0.len(), stored)));
     };
     let held = Row(&rows.0[place]);
     if !held.same(tx) {
