@@ -13,7 +13,8 @@
  *   3 logged   decision (1 commit, 2 abort), 0, 0, 0
  *   4 done     0, 0, 0, 0
  *   5 found    committed version, its value, undecided version, its value (0, 0 where there is none)
- *   6 refused  number (1 to 16), 0, 0, 0; table and read marks are unchanged
+ *   6 refused  number (1 to 16), beside 11 how many counted answers the list lacks (1 to its threshold), else 0, 0, 0; table and
+ *              read marks are unchanged
  */
 #ifndef STOBBAREL_H
 #define STOBBAREL_H
@@ -76,7 +77,7 @@ enum stobbarel_refusal {
     STOBBAREL_CODE = 8,          /* kind, decision or answer not 1 or 2; kind 2 in an LG */
     STOBBAREL_OTHER_BODY = 9,    /* another body is held under this stamp */
     STOBBAREL_UNKNOWN = 10,      /* no longer given: an LG for a stamp not held is logged */
-    STOBBAREL_TOO_FEW = 11,      /* the list misses its threshold */
+    STOBBAREL_TOO_FEW = 11,      /* the list misses its threshold; the answer tells by how much */
     STOBBAREL_CONTRADICTION = 12, /* the stamp is already decided otherwise */
     STOBBAREL_FULL = 13,         /* a new entry is needed and the table is at capacity */
     STOBBAREL_GROUP = 14,        /* f not 1 to 5, or capacity not 1 to 255 */
@@ -207,13 +208,13 @@ uint8_t stobbarel_thresholds(uint64_t f, uint64_t out[6]);
 /* The gateway's tally: a sheet of one kind (1 votes, 2 logs) takes a box's answer (1 commit, 2 abort), the number of the vote or
  * the decision that the box answered; a wait, 3, is refused with 8. Bit b of a mask says that box b gave this answer; a new
  * sheet's masks are 0. The reply is five numbers:
- *   1 votes    reached (1) or not (0): commit list, abort list, commit proof, abort proof
- *   2 logs     reached (1) or not (0): commit proof, abort proof, 0, 0
+ *   1 votes    what is lacking, 0 where it is reached: commit list, abort list, commit proof, abort proof
+ *   2 logs     what is lacking, 0 where it is reached: commit proof, abort proof, 0, 0
  *   3 repeat   0, 0, 0, 0; the sheet is unchanged
  *   4 refused  number (14, 16, 5 or 8), 0, 0, 0; the sheet is unchanged
- */
-void stobbarel_tally(uint8_t kind, uint32_t *commits, uint32_t *aborts, uint64_t f, uint64_t number, uint64_t answer,
-                     uint8_t reply[5]);
+ * What is lacking is what a box tells beside 11 of the list made from the sheet. The function's name is new because the numbers have turned
+ * round: stobbarel_tally, which it replaces, said 1 for reached and 0 for not. */
+void stobbarel_take(uint8_t kind, uint32_t *commits, uint32_t *aborts, uint64_t f, uint64_t number, uint64_t answer, uint8_t reply[5]);
 
 #ifdef __cplusplus
 }

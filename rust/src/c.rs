@@ -14,5 +14,5 @@ extern "C" {
     pub fn stobbarel_write_listed(mark: u64, f: u64, stamp: u64, r: usize, w: usize, reads: *const u16, versions: *const u64, writes: *const u16, values: *const u64, kind: u8, decision: u8, count: usize, numbers: *const u8, answers: *const u8, out: *mut u8, out_len: usize, length: *mut usize) -> u8;
     pub fn stobbarel_write_rd(key: u16, stamp: u64, out: *mut u8, out_len: usize, length: *mut usize) -> u8;
     pub fn stobbarel_thresholds(f: u64, out: *mut u64) -> u8;
-    pub fn stobbarel_tally(kind: u8, commits: *mut u32, aborts: *mut u32, f: u64, number: u64, answer: u64, reply: *mut u8);
+    pub fn stobbarel_take(kind: u8, commits: *mut u32, aborts: *mut u32, f: u64, number: u64, answer: u64, reply: *mut u8);
 }

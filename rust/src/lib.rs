@@ -20,9 +20,12 @@
 //! // A gateway hears commit from four of the six boxes: enough to log it.
 //! let mut sheet = Sheet::new(group, Kind::Votes);
 //! for number in 0..3 {
-//!     assert!(matches!(sheet.take(number, Decision::Commit), Reply::Votes { commit_list: false, .. }));
+//!     assert!(!sheet.take(number, Decision::Commit).list_reached(Decision::Commit));
 //! }
-//! assert!(matches!(sheet.take(3, Decision::Commit), Reply::Votes { commit_list: true, commit_proof: false, .. }));
+//! let reply = sheet.take(3, Decision::Commit);
+//! assert!(reply.list_reached(Decision::Commit));
+//! // Two more would prove it.
+//! assert_eq!(reply, Reply::Votes { commit_list: 0, abort_list: 2, commit_proof: 2, abort_proof: 4 });
 //! # Ok::<(), stobbarel::Refusal>(())
 //! ```
 #![deny(missing_docs)]

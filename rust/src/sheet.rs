@@ -3,31 +3,62 @@
 use crate::c;
 use crate::terms::{Decision, Group, Kind, Refusal};
 
-/// What a sheet says after an answer.
+/// What a sheet says after an answer: for each threshold of its kind how many answers it lacks, 0 where the threshold is reached. A box says the same
+/// of the list made from the sheet ([`Refusal::TooFew`]).
 #[derive(Clone, Copy, Debug, PartialEq, Eq, Hash)]
 pub enum Reply {
-    /// A sheet of votes: which thresholds are reached.
+    /// A sheet of votes.
     Votes {
-        /// Enough to log commit.
-        commit_list: bool,
-        /// Enough to log abort.
-        abort_list: bool,
-        /// Enough to prove commit.
-        commit_proof: bool,
-        /// Enough to prove abort.
-        abort_proof: bool,
+        /// What is lacking to log commit.
+        commit_list: u8,
+        /// What is lacking to log abort.
+        abort_list: u8,
+        /// What is lacking to prove commit.
+        commit_proof: u8,
+        /// What is lacking to prove abort.
+        abort_proof: u8,
     },
-    /// A sheet of logged decisions: which proofs are reached.
+    /// A sheet of logged decisions.
     Logs {
-        /// Enough to prove commit.
-        commit_proof: bool,
-        /// Enough to prove abort.
-        abort_proof: bool,
+        /// What is lacking to prove commit.
+        commit_proof: u8,
+        /// What is lacking to prove abort.
+        abort_proof: u8,
     },
-    /// The box is already on the sheet, which stays as it was.
+    /// The box is already on the sheet, which stays as it was. It tells nothing else.
     Repeat,
     /// The sheet stays as it was.
     Refused(Refusal),
+}
+
+impl Reply {
+    /// How many answers the list for logging this decision lacks; none where the reply does not tell.
+    pub fn list_lacks(self, decision: Decision) -> Option<u8> {
+        match (self, decision) {
+            (Reply::Votes { commit_list, .. }, Decision::Commit) => Some(commit_list),
+            (Reply::Votes { abort_list, .. }, Decision::Abort) => Some(abort_list),
+            _ => None,
+        }
+    }
+
+    /// How many answers the proof of this decision lacks; none where the reply does not tell.
+    pub fn proof_lacks(self, decision: Decision) -> Option<u8> {
+        match (self, decision) {
+            (Reply::Votes { commit_proof, .. } | Reply::Logs { commit_proof, .. }, Decision::Commit) => Some(commit_proof),
+            (Reply::Votes { abort_proof, .. } | Reply::Logs { abort_proof, .. }, Decision::Abort) => Some(abort_proof),
+            _ => None,
+        }
+    }
+
+    /// Whether this reply says that the list for logging this decision is reached. [`Reply::Repeat`] does not say so, be it reached.
+    pub fn list_reached(self, decision: Decision) -> bool {
+        self.list_lacks(decision) == Some(0)
+    }
+
+    /// Whether this reply says that the proof of this decision is reached. [`Reply::Repeat`] does not say so, be it reached.
+    pub fn proof_reached(self, decision: Decision) -> bool {
+        self.proof_lacks(decision) == Some(0)
+    }
 }
 
 /// The answers of one kind for one transaction.
@@ -54,10 +85,10 @@ impl Sheet {
     pub fn take_number(&mut self, number: u64, answer: u64) -> Reply {
         let mut row = [0; 5];
         // Each pointer is to as many numbers as the function takes, and they do not overlap.
-        unsafe { c::stobbarel_tally(self.kind as u8, &mut self.commits, &mut self.aborts, self.group.f(), number, answer, row.as_mut_ptr()) }
+        unsafe { c::stobbarel_take(self.kind as u8, &mut self.commits, &mut self.aborts, self.group.f(), number, answer, row.as_mut_ptr()) }
         match row {
-            [1, a, b, c, d] => Reply::Votes { commit_list: a == 1, abort_list: b == 1, commit_proof: c == 1, abort_proof: d == 1 },
-            [2, a, b, _, _] => Reply::Logs { commit_proof: a == 1, abort_proof: b == 1 },
+            [1, commit_list, abort_list, commit_proof, abort_proof] => Reply::Votes { commit_list, abort_list, commit_proof, abort_proof },
+            [2, commit_proof, abort_proof, _, _] => Reply::Logs { commit_proof, abort_proof },
             [3, ..] => Reply::Repeat,
             [_, number, ..] => Reply::Refused(Refusal::of(number.into()).expect("the engine tells a number of the paper's")),
         }

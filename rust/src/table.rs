@@ -69,6 +69,7 @@ impl Answer {
             [3, decision, 0, 0, 0] => Answer::Logged(Decision::of(decision)?),
             [4, 0, 0, 0, 0] => Answer::Done,
             [5, committed, value, undecided, its] => Answer::Found(version(committed, value), version(undecided, its)),
+            [6, 11, lacking @ 1..=26, 0, 0] => Answer::Refused(Refusal::TooFew(lacking as u8)),
             [6, number, 0, 0, 0] => Answer::Refused(Refusal::of(number)?),
             _ => return None,
         })

@@ -80,52 +80,80 @@ impl Reason {
 /// Why nothing was done. The numbers are the paper's.
 #[derive(Clone, Copy, Debug, PartialEq, Eq, Hash)]
 pub enum Refusal {
-    /// Bytes end inside a record.
-    Short = 1,
-    /// The mark is not the one due.
-    Mark = 2,
-    /// r or w above 8, r + w = 0, list count 0 or above 26.
-    Count = 3,
-    /// Bytes after the message.
-    Trailing = 4,
-    /// Stamp 0, key above 511, box number n or more.
-    Range = 5,
-    /// Keys or box numbers not strictly rising.
-    Order = 6,
-    /// A read version at or above the own stamp.
-    Misbehaviour = 7,
-    /// Kind, decision or answer not 1 or 2; kind 2 in an LG.
-    Code = 8,
-    /// Another body is held under this stamp.
-    OtherBody = 9,
-    /// No longer given: an LG for a stamp not held is logged. The number is kept.
-    Unknown = 10,
-    /// The list misses its threshold.
-    TooFew = 11,
-    /// The stamp is already decided otherwise.
-    Contradiction = 12,
-    /// A new entry is needed and the table is at capacity.
-    Full = 13,
-    /// f not 1 to 5, or capacity not 1 to 255.
-    Group = 14,
-    /// RD stamp above clock + δ.
-    Ahead = 15,
-    /// A lent table or tally sheet that is not in order.
-    Table = 16,
-    /// The output buffer is shorter than the record.
-    Buffer = 17,
+    /// 1: bytes end inside a record.
+    Short,
+    /// 2: the mark is not the one due.
+    Mark,
+    /// 3: r or w above 8, r + w = 0, list count 0 or above 26.
+    Count,
+    /// 4: bytes after the message.
+    Trailing,
+    /// 5: stamp 0, key above 511, box number n or more.
+    Range,
+    /// 6: keys or box numbers not strictly rising.
+    Order,
+    /// 7: a read version at or above the own stamp.
+    Misbehaviour,
+    /// 8: kind, decision or answer not 1 or 2; kind 2 in an LG.
+    Code,
+    /// 9: another body is held under this stamp.
+    OtherBody,
+    /// 10: no longer given, since an LG for a stamp not held is logged. The number is kept.
+    Unknown,
+    /// 11: the list misses its threshold. It lacks so many counted answers, 1 to the threshold.
+    TooFew(u8),
+    /// 12: the stamp is already decided otherwise.
+    Contradiction,
+    /// 13: a new entry is needed and the table is at capacity.
+    Full,
+    /// 14: f not 1 to 5, or capacity not 1 to 255.
+    Group,
+    /// 15: RD stamp above clock + δ.
+    Ahead,
+    /// 16: a lent table or tally sheet that is not in order.
+    Table,
+    /// 17: the output buffer is shorter than the record.
+    Buffer,
 }
 
 impl Refusal {
     /// The paper's number.
     pub fn number(self) -> u8 {
-        self as u8
+        use Refusal::*;
+        match self {
+            Short => 1,
+            Mark => 2,
+            Count => 3,
+            Trailing => 4,
+            Range => 5,
+            Order => 6,
+            Misbehaviour => 7,
+            Code => 8,
+            OtherBody => 9,
+            Unknown => 10,
+            TooFew(_) => 11,
+            Contradiction => 12,
+            Full => 13,
+            Group => 14,
+            Ahead => 15,
+            Table => 16,
+            Buffer => 17,
+        }
     }
 
+    /// How many counted answers a list lacks; none beside any other refusal than [`Refusal::TooFew`].
+    pub fn lacking(self) -> Option<u8> {
+        match self {
+            Refusal::TooFew(lacking) => Some(lacking),
+            _ => None,
+        }
+    }
+
+    /// The refusal of a number that tells no more; 11 does.
     pub(crate) fn of(number: u64) -> Option<Refusal> {
         use Refusal::*;
-        let all = [Short, Mark, Count, Trailing, Range, Order, Misbehaviour, Code, OtherBody, Unknown, TooFew, Contradiction, Full, Group, Ahead, Table, Buffer];
-        all.into_iter().find(|one| *one as u64 == number)
+        let all = [Short, Mark, Count, Trailing, Range, Order, Misbehaviour, Code, OtherBody, Unknown, Contradiction, Full, Group, Ahead, Table, Buffer];
+        all.into_iter().find(|one| u64::from(one.number()) == number)
     }
 
     /// 0, or the number of a refusal, as the C functions answer.

@@ -103,16 +103,53 @@ fn a_box_that_missed_the_prepare_logs() {
     let (x, y) = (tx(50, &[], &[(3, 7)]), tx(60, &[(3, 50)], &[]));
     let logging = |of, decision, count| bytes(|out| write_lg(group, of, &votes(decision, count), out));
     let ask = bytes(|out| write_pr(&x, out));
-    assert_eq!(table.log(100, 10, &logging(&x, Decision::Commit, 3)), Answer::Refused(Refusal::TooFew));
+    assert_eq!(table.log(100, 10, &logging(&x, Decision::Commit, 3)), Answer::Refused(Refusal::TooFew(1)));
     assert_eq!(table.log(100, 10, &logging(&x, Decision::Commit, 4)), Answer::Logged(Decision::Commit));
     let codes = |table: &Table| [VOTE_AT, REASON_AT, LOG_AT, DECIDED_AT].map(|at| table.bytes()[HEAD + at]);
     assert_eq!(codes(&table), [0, 0, 1, 0]);
-    assert_eq!(table.log(100, 10, &logging(&y, Decision::Abort, 1)), Answer::Refused(Refusal::TooFew));
+    assert_eq!(table.log(100, 10, &logging(&y, Decision::Abort, 1)), Answer::Refused(Refusal::TooFew(1)));
     assert_eq!(table.log(100, 10, &logging(&y, Decision::Abort, 2)), Answer::Refused(Refusal::Full));
     // the table is full, and the PR for what is logged needs no room
     assert_eq!(table.prepare(100, 10, &ask), Answer::Voted(Vote::Commit));
     assert_eq!(codes(&table), [1, 0, 1, 0]);
     assert_eq!(table.log(100, 10, &logging(&x, Decision::Abort, 2)), Answer::Logged(Decision::Commit));
+}
+
+#[test]
+fn a_box_lacks_what_the_sheet_lacks() {
+    let group = Group::of(2).unwrap();
+    let x = tx(50, &[], &[(3, 7)]);
+    let mut sheet = Sheet::new(group, Kind::Votes);
+    for number in 0..group.boxes() {
+        let answer = if number % 3 == 2 { Decision::Abort } else { Decision::Commit };
+        let reply = sheet.take(number, answer);
+        assert_eq!((sheet.take(number, answer), Reply::Repeat.list_lacks(answer), Reply::Repeat.proof_reached(answer)), (Reply::Repeat, None, false));
+        let mut pairs: Vec<(u8, Decision)> = [Decision::Commit, Decision::Abort].iter().flat_map(|of| sheet.boxes(*of).into_iter().map(|number| (number, *of))).collect();
+        pairs.sort_unstable_by_key(|pair| pair.0);
+        for decision in [Decision::Commit, Decision::Abort] {
+            let list = VoteList { kind: Kind::Votes, decision, pairs: pairs.clone() };
+            let told = |lacking: Option<u8>, taken| match lacking {
+                Some(0) => taken,
+                lacking => Answer::Refused(Refusal::TooFew(lacking.expect("a sheet of votes tells"))),
+            };
+            let mut table = Table::new(group, 1).unwrap();
+            let decided = table.decide(100, 10, &bytes(|out| write_dc(group, &x, &list, out)));
+            assert_eq!(decided, told(reply.proof_lacks(decision), Answer::Done));
+            let mut table = Table::new(group, 1).unwrap();
+            let logged = table.log(100, 10, &bytes(|out| write_lg(group, &x, &list, out)));
+            assert_eq!(logged, told(reply.list_lacks(decision), Answer::Logged(decision)));
+            assert_eq!(reply.list_reached(decision), logged == Answer::Logged(decision));
+        }
+    }
+}
+
+#[test]
+fn refusals_have_the_papers_numbers() {
+    use Refusal::*;
+    let all = [Short, Mark, Count, Trailing, Range, Order, Misbehaviour, Code, OtherBody, Unknown, TooFew(3), Contradiction, Full, Group, Ahead, Table, Buffer];
+    assert_eq!(all.map(Refusal::number), [1, 2, 3, 4, 5, 6, 7, 8, 9, 10, 11, 12, 13, 14, 15, 16, 17]);
+    assert_eq!(all.iter().filter_map(|one| one.lacking()).collect::<Vec<u8>>(), [3]);
+    assert_eq!(TooFew(3).to_string(), "refused 11: TooFew(3)");
 }
 
 #[test]
@@ -183,10 +220,10 @@ fn groups_and_sheets() {
     assert_eq!((Table::new(group, 0), Table::new(group, 256)), (Err(Refusal::Group), Err(Refusal::Group)));
     let mut sheet = Sheet::new(group, Kind::Logs);
     for number in 0..4 {
-        assert_eq!(sheet.take(number, Decision::Abort), Reply::Logs { commit_proof: false, abort_proof: false });
+        assert_eq!(sheet.take(number, Decision::Abort), Reply::Logs { commit_proof: 5, abort_proof: 4 - number as u8 });
     }
     assert_eq!(sheet.take(2, Decision::Commit), Reply::Repeat);
     assert_eq!(sheet.take(6, Decision::Commit), Reply::Refused(Refusal::Range));
-    assert_eq!(sheet.take(5, Decision::Abort), Reply::Logs { commit_proof: false, abort_proof: true });
+    assert_eq!(sheet.take(5, Decision::Abort), Reply::Logs { commit_proof: 5, abort_proof: 0 });
     assert_eq!((sheet.boxes(Decision::Abort), sheet.boxes(Decision::Commit)), (vec![0, 1, 2, 3, 5], vec![]));
 }

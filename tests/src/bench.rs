@@ -40,6 +40,7 @@ pub fn words(answer: Answer) -> String {
         Answer::Logged(decision) => format!("logged {}", decided(decision)),
         Answer::Done => "done".into(),
         Answer::Found { committed, undecided } => format!("{} {} {} {}", committed.0, committed.1, undecided.0, undecided.1),
+        Answer::TooFew(lacking) => format!("refused 11 {lacking}"),
         Answer::Refused(number) => format!("refused {number}"),
     }
 }
@@ -275,18 +276,26 @@ pub fn output(program: &str, input: Vec<u8>) -> Result<Vec<u8>, String> {
     }
 }
 
+const ONE_LACKING: &str = "refused 11 1";
+const MORE_LACKING: &str = "refused 11 and more than 1";
+
 /// What has to stand in the outputs; refusals 4, 10, 16 and 17 cannot.
 fn due() -> Vec<String> {
-    let fixed = ["ok", "commit", "wait", "decided commit", "decided abort", "logged commit", "logged abort", "done", "found", "too long"];
+    let fixed = ["ok", "commit", "wait", "decided commit", "decided abort", "logged commit", "logged abort", "done", "found", "too long", ONE_LACKING, MORE_LACKING];
     let aborts = (1..=6).map(|reason| format!("abort {reason}"));
-    let refusals = (1..=15).filter(|number| ![4, 10].contains(number)).map(|number| format!("refused {number}"));
+    let refusals = (1..=15).filter(|number| ![4, 10, 11].contains(number)).map(|number| format!("refused {number}"));
     fixed.iter().map(|word| word.to_string()).chain(aborts).chain(refusals).collect()
 }
 
 fn count(lines: &[u8], counts: &mut BTreeMap<String, u64>) {
     for line in String::from_utf8_lossy(lines).lines() {
         let text = line.splitn(3, ' ').nth(2).unwrap_or(line);
-        let name = if text.starts_with(|letter: char| letter.is_ascii_digit()) { "found" } else { text };
+        let name = match text {
+            _ if text.starts_with(|letter: char| letter.is_ascii_digit()) => "found",
+            // one lacking, or more, whatever number
+            _ if text.starts_with("refused 11 ") && text != ONE_LACKING => MORE_LACKING,
+            _ => text,
+        };
         *counts.entry(name.to_string()).or_default() += 1;
     }
 }

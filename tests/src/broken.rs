@@ -159,6 +159,16 @@ enum Bad {
     DropsEntries,
     /// Its tally counts a box that has not answered.
     InventsAnAnswer,
+    /// Beside 11 it says that one answer is lacking, whatever is.
+    OneIsLacking,
+    /// Beside 11 it says how many answers were counted.
+    TellsTheCounted,
+    /// Its LG says beside 11 what the proof lacks.
+    LacksTheProof,
+    /// Its tally says 1 where a threshold is reached, and 0 where it is not.
+    TallyTellsReached,
+    /// Its tally says what is lacking to the proofs only, and of a list whether it is reached.
+    TallyForgetsLists,
 }
 
 impl Member for Bad {
@@ -192,17 +202,49 @@ impl Member for Bad {
                 table[0] = table[0].min(settings.capacity as u8);
                 properly(table, marks)
             }
+            Bad::OneIsLacking => Ok(match properly(table, marks)? {
+                Answer::TooFew(_) => Answer::TooFew(1),
+                other => other,
+            }),
+            Bad::TellsTheCounted | Bad::LacksTheProof => Ok(match properly(table, marks)? {
+                Answer::TooFew(lacking) => self.otherwise(lacking, settings.f, message),
+                other => other,
+            }),
             _ => properly(table, marks),
         }
     }
 
     fn tally(&mut self, sheet: &mut Sheet, f: u64, number: u64, answer: u64) -> Result<Reply, String> {
         let reply = model::tally(sheet, f, number, answer);
-        if !matches!(self, Bad::InventsAnAnswer) || matches!(reply, Reply::Repeat | Reply::Refused(_)) {
-            return Ok(reply);
-        }
-        let silent = (0..5 * f + 1).find(|number| (sheet.commits | sheet.aborts) & 1 << number == 0);
-        Ok(silent.map_or(reply, |number| model::tally(&mut sheet.clone(), f, number, answer)))
+        let reached = |lacking: u8| u8::from(lacking == 0);
+        Ok(match (self, reply) {
+            (_, Reply::Repeat | Reply::Refused(_)) => reply,
+            (Bad::InventsAnAnswer, _) => {
+                let silent = (0..5 * f + 1).find(|number| (sheet.commits | sheet.aborts) & 1 << number == 0);
+                silent.map_or(reply, |number| model::tally(&mut sheet.clone(), f, number, answer))
+            }
+            (Bad::TallyTellsReached, Reply::Votes(lacking)) => Reply::Votes(lacking.map(reached)),
+            (Bad::TallyTellsReached, Reply::Logs(lacking)) => Reply::Logs(lacking.map(reached)),
+            (Bad::TallyForgetsLists, Reply::Votes([a, b, c, d])) => Reply::Votes([u8::from(a > 0), u8::from(b > 0), c, d]),
+            _ => reply,
+        })
+    }
+}
+
+impl Bad {
+    /// Another number than what a message's list lacks.
+    fn otherwise(&self, lacking: u8, f: u64, message: &[u8]) -> Answer {
+        let list = 14 + 10 * usize::from(message[4] + message[5]);
+        let (kind, decision, logging) = (message[list + 2], message[list + 3], message.starts_with(b"LG"));
+        let row = PAPER.row(f);
+        let (logged, proof) = if decision == 1 { (row[0], row[2]) } else { (row[1], row[3]) };
+        let needed = if logging { logged } else if kind == 1 { proof } else { row[4] };
+        let counted = needed - usize::from(lacking);
+        Answer::TooFew(match self {
+            Bad::LacksTheProof if logging => (proof - counted) as u8,
+            Bad::LacksTheProof => lacking,
+            _ => counted as u8,
+        })
     }
 }
 
@@ -244,6 +286,11 @@ pub fn check(most: u64, seed: u64) -> bool {
     passed &= compared("a box that looks at the message before that number", Bad::MessageFirst, seed, true);
     passed &= compared("a box that drops entries above its capacity", Bad::DropsEntries, seed, true);
     passed &= compared("a tally with an invented count", Bad::InventsAnAnswer, seed, true);
+    passed &= compared("a box that says one is lacking, whatever is", Bad::OneIsLacking, seed, true);
+    passed &= compared("a box that says how many it counted", Bad::TellsTheCounted, seed, true);
+    passed &= compared("a box whose LG says what the proof lacks", Bad::LacksTheProof, seed, true);
+    passed &= compared("a tally that says 1 for reached", Bad::TallyTellsReached, seed, true);
+    passed &= compared("a tally that says of a list only whether it is reached", Bad::TallyForgetsLists, seed, true);
     passed &= compared("the engine", Engine, seed, false);
     println!("{}", if passed { "each broken rule and each bad box was noticed" } else { "FAILED" });
     passed

@@ -21,7 +21,7 @@ const WAITING: u64 = 3;
 pub const PROVED_WITH_IT: &str = "a proof from logs, not to be had without such a box";
 
 /// What a standard number of runs has to meet.
-const EVENTS: [&str; 61] = [
+const EVENTS: [&str; 65] = [
     "run with f = 1",
     "run with f = 2",
     "run with f = 3",
@@ -62,7 +62,9 @@ const EVENTS: [&str; 61] = [
     "refused  6",
     "refused  7",
     "refused  9",
-    "refused 11",
+    "refused 11, one lacking",
+    "refused 11, more lacking",
+    "refused 11, no answer counted",
     "refused 13",
     "refused 14",
     "refused 15",
@@ -81,6 +83,8 @@ const EVENTS: [&str; 61] = [
     "a message doubled",
     "a message overtaken",
     "a repeat on a gateway's sheet",
+    "a sheet has reached a threshold",
+    "a sheet lacks one answer for a threshold",
     "a wait refused by a gateway's sheet",
     "a clock went back",
 ];
@@ -107,12 +111,21 @@ impl Counts {
         self.times[event]
     }
 
+    /// What a sheet told.
+    fn lacking(&mut self, lacking: &[u8]) {
+        if lacking.contains(&0) {
+            self.count("a sheet has reached a threshold");
+        }
+        if lacking.contains(&1) {
+            self.count("a sheet lacks one answer for a threshold");
+        }
+    }
+
     fn refused(&mut self, number: u8) {
         match number {
             6 => self.count("refused  6"),
             7 => self.count("refused  7"),
             9 => self.count("refused  9"),
-            11 => self.count("refused 11"),
             13 => self.count("refused 13"),
             15 => self.count("refused 15"),
             _ => self.unlisted += 1,
@@ -208,6 +221,15 @@ fn other(decision: Decision) -> Decision {
     match decision {
         Decision::Commit => Decision::Abort,
         Decision::Abort => Decision::Commit,
+    }
+}
+
+/// How many counted answers the list of a message needs.
+fn needed(mark: &[u8; 2], kind: Kind, decision: Decision, f: u64) -> usize {
+    match (mark, decision) {
+        (b"LG", Decision::Commit) => PAPER.row(f)[0],
+        (b"LG", Decision::Abort) => PAPER.row(f)[1],
+        _ => PAPER.proof(f, kind, decision),
     }
 }
 
@@ -723,13 +745,9 @@ impl Cluster<'_> {
         }
     }
 
-    /// A list that meets its threshold; now and then one that misses it by one, or makes it up by naming boxes twice.
+    /// A list that meets its threshold; now and then one that misses it by one or by more, or makes it up by naming boxes twice.
     fn list(&mut self, from: usize, kind: Kind, decision: Decision, for_log: bool) -> Option<Listed> {
-        let needed = match (for_log, decision) {
-            (true, Decision::Commit) => PAPER.row(self.f)[0],
-            (true, Decision::Abort) => PAPER.row(self.f)[1],
-            (false, _) => PAPER.proof(self.f, kind, decision),
-        };
+        let needed = needed(if for_log { b"LG" } else { b"DC" }, kind, decision, self.f);
         let (agree, differ) = (self.nameable(from, kind, decision), self.nameable(from, kind, other(decision)));
         let mut pairs: Vec<(u8, Decision)> = Vec::new();
         let beside = self.random.one_of(&[0, 50, 100]);
@@ -750,7 +768,7 @@ impl Cluster<'_> {
             self.name_twice(&mut pairs, decision, needed);
         }
         let bold = self.gateways[from].wants == Some(decision);
-        let short = have + 1 == needed && (bold || self.random.chance(20));
+        let short = have + 1 == needed && (bold || self.random.chance(20)) || self.random.chance(4);
         (twice || have >= needed || short).then_some(Listed { kind, decision, pairs }).filter(|list| !list.pairs.is_empty())
     }
 
@@ -860,7 +878,8 @@ impl Cluster<'_> {
         match self.one.tally(sheet, self.f, letter.to as u64, u64::from(code(word.decision)))? {
             Reply::Repeat => self.counts.count("a repeat on a gateway's sheet"),
             Reply::Refused(number) => return Err(format!("a sheet in order was refused {number}")),
-            Reply::Votes(_) | Reply::Logs(_) => {}
+            Reply::Votes(lacking) => self.counts.lacking(&lacking),
+            Reply::Logs(lacking) => self.counts.lacking(&lacking),
         }
         Ok(())
     }
@@ -908,12 +927,30 @@ impl Cluster<'_> {
                 }
                 Ok(())
             }
+            Answer::TooFew(lacking) => self.too_few(letter, lacking),
             Answer::Refused(number) => {
                 self.counts.refused(number);
                 Ok(())
             }
             Answer::Found { .. } => Err("something other than an RD was answered with versions".into()),
         }
+    }
+
+    /// 11: what a box says is lacking is what its threshold has above the answers that count.
+    fn too_few(&mut self, letter: &Letter, lacking: u8) -> Result<(), String> {
+        let list = letter.list.as_ref().ok_or("a message without a list was refused with 11")?;
+        let counted = list.pairs.iter().filter(|pair| pair.1 == list.decision).count();
+        self.counts.count(match lacking {
+            _ if counted == 0 => "refused 11, no answer counted",
+            1 => "refused 11, one lacking",
+            _ => "refused 11, more lacking",
+        });
+        let needed = needed(&letter.mark, list.kind, list.decision, self.f);
+        // a box with a broken rule may count otherwise, and is judged by demand 3 alone
+        if self.plan.rules.broken.is_empty() && counted + usize::from(lacking) != needed {
+            return Err(format!("{counted} answers of {needed} were refused as lacking {lacking}"));
+        }
+        Ok(())
     }
 
     fn voted(&mut self, letter: &Letter, decision: Decision, reason: u8) -> Result<(), String> {

@@ -1,11 +1,12 @@
-//! A box held against the model, message by message. After each call the answer and every byte of table and read marks are
+//! A box held against the model, message by message, and a gateway's sheet answer by answer. After each call the answer and every byte of table and read marks are
 //! compared. It prints how often each answer, reason, refusal, case of the rules and circumstance of a call occurred; any
 //! disagreement, and any that did not occur at all, makes it fail.
 
 use crate::engine::{self, Entrance};
 use crate::member::Member;
+use crate::messages::{tx, with_list};
 use crate::mix;
-use crate::model::{self, Answer, Decision, Reply, Settings, Sheet, MARKS};
+use crate::model::{self, Answer, Decision, Kind, Reply, Settings, Sheet, MARKS};
 use crate::random::Random;
 use std::collections::BTreeMap;
 use stobbarel::layout::{table_len, HEAD, ROW};
@@ -57,6 +58,7 @@ fn name(answer: Answer) -> &'static str {
         Answer::Decided(decision) => 4 + second(decision),
         Answer::Logged(decision) => 6 + second(decision),
         Answer::Abort(reason) => 7 + reason as usize,
+        Answer::TooFew(_) => 13 + 11,
         Answer::Refused(number) => 13 + number as usize,
     }]
 }
@@ -125,7 +127,11 @@ impl Trail {
         if self.run != how.run {
             *self = Trail { run: how.run, ..Trail::default() };
         }
-        let refused = if let Answer::Refused(number) = answer { number } else { 0 };
+        let refused = match answer {
+            Answer::TooFew(_) => 11,
+            Answer::Refused(number) => number,
+            _ => 0,
+        };
         let mut meet = |circumstance: &'static str, does: bool| met.extend(does.then_some(circumstance));
         let (mark, taken) = (how.message.first_chunk().filter(|mark| MARKS.contains(mark)), how.entrance.taken());
         let no_mark = taken.is_empty();
@@ -285,15 +291,50 @@ fn for_each_slip(random: &mut Random, count: u64, mut act: impl FnMut(Slip)) {
     }
 }
 
-/// One answer given to the box's tally and to the model's. An error says how the two differ.
-fn tally(one: &mut dyn Member, slip: Slip) -> (Reply, Result<(), String>) {
+/// One answer given to the box's tally and to the model's: the reply due, and the sheet where they agree. An error says how the two differ.
+fn tally(one: &mut dyn Member, slip: Slip) -> (Reply, Result<Sheet, String>) {
     let (mut got, mut due) = (slip.lent, slip.lent);
     let given = one.tally(&mut got, slip.f, slip.number, slip.answer);
     let reply = model::tally(&mut due, slip.f, slip.number, slip.answer);
     if given == Ok(reply) && got == due {
-        return (reply, Ok(()));
+        return (reply, Ok(got));
     }
     (reply, Err(format!("{slip:?}: box {given:?} {got:?}, model {reply:?} {due:?}")))
+}
+
+/// The answers of a sheet as a list has them.
+fn listed(sheet: &Sheet) -> Vec<(u8, Decision)> {
+    let answer = |number: u8| match (sheet.commits >> number & 1, sheet.aborts >> number & 1) {
+        (1, _) => Some((number, Decision::Commit)),
+        (_, 1) => Some((number, Decision::Abort)),
+        _ => None,
+    };
+    (0..32).filter_map(answer).collect()
+}
+
+/// What a sheet lacks is what a box tells of the list made from it: an LG for each list, a DC for each proof, to an empty box. How many were
+/// taken, and how many were refused for what the sheet said.
+fn told_by_a_box(one: &mut dyn Member, f: u64, sheet: &Sheet, reply: Reply) -> Result<[u64; 2], String> {
+    let (kind, lacking) = match &reply {
+        Reply::Votes(lacking) => (Kind::Votes, &lacking[..]),
+        Reply::Logs(lacking) => (Kind::Logs, &lacking[..]),
+        Reply::Repeat | Reply::Refused(_) => return Ok([0, 0]),
+    };
+    let (body, answers, mut told) = (tx(50, &[], &[(3, 7)]), listed(sheet), [0, 0]);
+    for (place, lacking) in lacking.iter().enumerate() {
+        let decision = [Decision::Commit, Decision::Abort][place % 2];
+        // a sheet of votes says first what the two lists lack
+        let (mark, taken) = if kind == Kind::Votes && place < 2 { (b"LG", Answer::Logged(decision)) } else { (b"DC", Answer::Done) };
+        let due = if *lacking == 0 { taken } else { Answer::TooFew(*lacking) };
+        let settings = Settings { f, capacity: 1, clock: 0, delta: 0 };
+        let message = with_list(mark, &body, kind, decision, &answers);
+        let given = one.call(Entrance::Receive, &mut vec![0; table_len(1)], &mut vec![0; 512], &settings, &message)?;
+        if given != due {
+            return Err(format!("f {f}, {sheet:?} says {reply:?}, and of its list in a {} for {decision:?} the box says {given:?}", String::from_utf8_lossy(mark)));
+        }
+        told[usize::from(*lacking > 0)] += 1;
+    }
+    Ok(told)
 }
 
 /// The first answer for a sheet on which a box differs from the model, counted from 1, and how.
@@ -307,6 +348,9 @@ pub fn first_difference_in_tally(one: &mut dyn Member, count: u64, seed: u64) ->
     });
     first
 }
+
+/// What becomes of a list made from a sheet.
+const SHEET_AND_BOX: [&str; 2] = ["the list of a sheet that has reached the threshold, taken", "the list of a sheet that has not, refused for what the sheet lacks"];
 
 /// How often what occurred, and what went wrong.
 #[derive(Default)]
@@ -350,18 +394,19 @@ impl Counts {
     }
 
     fn sheets(&mut self, one: &mut dyn Member, random: &mut Random, count: u64) {
-        let reached = |bits: &[bool]| bits.iter().filter(|one| **one).count();
+        let reached = |lacking: &[u8]| lacking.iter().filter(|one| **one == 0).count();
         for_each_slip(random, count, |slip| {
             let (reply, agreed) = tally(one, slip);
             let name = match reply {
-                Reply::Votes(bits) => format!("votes, {} reached", reached(&bits)),
-                Reply::Logs(bits) => format!("logs, {} reached", reached(&bits)),
+                Reply::Votes(lacking) => format!("votes, {} reached", reached(&lacking)),
+                Reply::Logs(lacking) => format!("logs, {} reached", reached(&lacking)),
                 Reply::Repeat => "repeat".into(),
                 Reply::Refused(number) => format!("refused {number:2}"),
             };
             *self.replies.entry(name).or_default() += 1;
-            if let Err(how) = agreed {
-                self.disagreement(how);
+            match agreed.and_then(|sheet| told_by_a_box(one, slip.f, &sheet, reply)) {
+                Ok(told) => SHEET_AND_BOX.iter().zip(told).for_each(|(case, times)| *self.cases.entry(case).or_default() += times),
+                Err(how) => self.disagreement(how),
             }
         });
     }
@@ -396,6 +441,7 @@ pub fn check(one: &mut dyn Member, count: u64, seed: u64) -> bool {
     for (reply, times) in &counts.replies {
         println!("{times:9}  {reply}");
     }
+    missing += print(&counts.cases, &SHEET_AND_BOX);
     println!("{} disagreements, {missing} answers, cases or circumstances did not occur", counts.disagreements);
     counts.disagreements == 0 && missing == 0 && never == 0
 }

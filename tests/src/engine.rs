@@ -8,7 +8,7 @@ extern "C" {
     fn stobbarel_due(mark: u64, table: *mut u8, table_len: usize, marks: *mut u64, f: u64, capacity: u64, clock: u64, delta: u64, message: *const u8, message_len: usize, out: *mut u64);
     fn stobbarel_reading(f: u64, message: *const u8, message_len: usize) -> u8;
     fn stobbarel_part(f: u64, message: *const u8, message_len: usize) -> usize;
-    fn stobbarel_tally(kind: u8, commits: *mut u32, aborts: *mut u32, f: u64, number: u64, answer: u64, reply: *mut u8);
+    fn stobbarel_take(kind: u8, commits: *mut u32, aborts: *mut u32, f: u64, number: u64, answer: u64, reply: *mut u8);
     fn stobbarel_reading_tx(bytes: *const u8, bytes_len: usize) -> u8;
     fn stobbarel_reading_vl(f: u64, bytes: *const u8, bytes_len: usize) -> u8;
     fn stobbarel_fields(f: u64, message: *const u8, message_len: usize, head: *mut u64, reads: *mut u16, versions: *mut u64, writes: *mut u16, values: *mut u64, numbers: *mut u8, answers: *mut u8) -> u8;
@@ -73,7 +73,8 @@ pub fn answer_of(out: [u64; 5]) -> Option<Answer> {
         [3, code, 0, 0, 0] => decision(code).map(Answer::Logged),
         [4, 0, 0, 0, 0] => Some(Answer::Done),
         [5, a, b, c, d] => Some(Answer::Found { committed: (a, b), undecided: (c, d) }),
-        [6, number @ 1..=17, 0, 0, 0] => Some(Answer::Refused(number as u8)),
+        [6, 11, lacking @ 1..=26, 0, 0] => Some(Answer::TooFew(lacking as u8)),
+        [6, number @ (1..=10 | 12..=17), 0, 0, 0] => Some(Answer::Refused(number as u8)),
         _ => None,
     }
 }
@@ -128,14 +129,11 @@ pub fn reading(message: &[u8], f: u64) -> Result<usize, u8> {
 
 /// One answer for a sheet; none where the five numbers say no reply.
 pub fn tally(sheet: &mut Sheet, f: u64, number: u64, answer: u64) -> Option<Reply> {
-    let mut out = [9u8; 5];
-    unsafe { stobbarel_tally(sheet.kind, &mut sheet.commits, &mut sheet.aborts, f, number, answer, out.as_mut_ptr()) }
-    if out[1..].iter().any(|bit| *bit > 1) && out[0] != 4 {
-        return None;
-    }
+    let mut out = [99u8; 5];
+    unsafe { stobbarel_take(sheet.kind, &mut sheet.commits, &mut sheet.aborts, f, number, answer, out.as_mut_ptr()) }
     match out {
-        [1, a, b, c, d] => Some(Reply::Votes([a == 1, b == 1, c == 1, d == 1])),
-        [2, a, b, 0, 0] => Some(Reply::Logs([a == 1, b == 1])),
+        [1, lacking @ ..] => Some(Reply::Votes(lacking)),
+        [2, commit_proof, abort_proof, 0, 0] => Some(Reply::Logs([commit_proof, abort_proof])),
         [3, 0, 0, 0, 0] => Some(Reply::Repeat),
         [4, number, 0, 0, 0] => Some(Reply::Refused(number)),
         _ => None,

@@ -150,16 +150,16 @@ fn as_it_is() {
     assert_eq!(to_commit, [Answer::Done; 5]);
     assert_eq!(line.panels(), [3; 5], "one train, one hot axle");
     let once = with_list(b"DC", &transaction_bytes(&correction()), Votes, Abort, &all(&[3, 4, LIAR], Abort));
-    assert_eq!(line.send_all(&once), [Answer::Refused(11); 5], "named once, they are too few");
+    assert_eq!(line.send_all(&once), [Answer::TooFew(1); 5], "named once, they are one too few");
 }
 
-/// The night gateway would have known: its own sheet says Repeat to the second answer, and no abort proof is reached.
+/// The night gateway would have known: its own sheet says Repeat to the second answer, and that the abort proof lacks one.
 fn at_the_gateway() {
     let mut sheet = Sheet { kind: 1, commits: 0, aborts: 0 };
     let mut take = |number: u8| Engine.tally(&mut sheet, 1, u64::from(number), 2).expect("a reply");
-    assert_eq!(take(3), Reply::Votes([false, false, false, false]));
-    assert_eq!(take(4), Reply::Votes([false, true, false, false]), "two abort votes can be logged");
-    assert_eq!(take(LIAR), Reply::Votes([false, true, false, false]), "three are no proof");
+    assert_eq!(take(3), Reply::Votes([4, 1, 6, 3]));
+    assert_eq!(take(4), Reply::Votes([4, 0, 6, 2]), "two abort votes can be logged");
+    assert_eq!(take(LIAR), Reply::Votes([4, 0, 6, 1]), "three are no proof, and one more would do");
     assert_eq!(take(LIAR), Reply::Repeat, "and an answer given again is no fourth");
     assert_eq!((sheet.commits, sheet.aborts), (0, 0b111000));
 }
@@ -214,7 +214,7 @@ fn with_the_box_that_was_down() {
     let mut old = Model(Rules { broken: &[Rule::NoUnknown] });
     let (logs, taken) = after_the_dip(&mut Line::new(&mut old));
     assert_eq!(logs[4], Answer::Refused(10), "it did not know the correction");
-    assert_eq!((&logs[..4], &taken[..]), (&[Answer::Logged(Commit); 4][..], &[Answer::Refused(11); 5][..]), "four logs are too few");
+    assert_eq!((&logs[..4], &taken[..]), (&[Answer::Logged(Commit); 4][..], &[Answer::TooFew(1); 5][..]), "four logs are one too few");
     let mut engine = Engine;
     let mut line = Line::new(&mut engine);
     let (logs, taken) = after_the_dip(&mut line);
@@ -241,7 +241,7 @@ pub fn check() -> bool {
     as_it_is();
     println!("incident: the engine refuses the list that names box 5 twice (6); all five sound boxes show axle 3");
     at_the_gateway();
-    println!("incident: the gateway's sheet answers Repeat, and reaches no abort proof");
+    println!("incident: the gateway's sheet answers Repeat, and its abort proof lacks one answer");
     let [commits, aborts] = had_it_been_quicker();
     assert_eq!([commits, aborts], [6, 6], "four or five of five logs and the liar's are a proof");
     println!("incident: of 32 nights {commits} have a commit proof, {aborts} an abort proof, none both");

@@ -190,7 +190,7 @@ impl Run {
         Some(reader)
     }
 
-    /// A list that meets its threshold, or misses it by one.
+    /// A list that meets its threshold, misses it by one or by more, or has no answer that counts.
     fn list(&self, random: &mut Random, log: bool) -> Vec<u8> {
         let f = if (1..=5).contains(&self.settings.f) { self.settings.f } else { 1 };
         let boxes = 5 * f + 1;
@@ -200,7 +200,8 @@ impl Run {
         let counted = match random.below(10) {
             0 | 1 => needed - 1,
             2 => (needed + 1).min(boxes),
-            3 => random.between(1, boxes),
+            3 => random.between(0, boxes),
+            4 if random.chance(40) => 0,
             _ => needed,
         };
         let decided = if decision == Decision::Commit { 1 } else { 2 };
@@ -559,7 +560,7 @@ fn pairs(random: &mut Random, boxes: u64, counted: u64, decided: u8) -> Vec<(u8,
     }
     // a list has at least one pair
     if pairs.is_empty() {
-        pairs.push((0, decided));
+        pairs.push((random.below(boxes) as u8, 3 - decided));
     }
     pairs.sort_unstable();
     pairs

@@ -105,20 +105,30 @@ impl Rules {
         }
     }
 
-    /// Whether a list meets the threshold for logging.
-    fn can_be_logged(self, f: u64, list: &List) -> bool {
+    /// How many counted answers a list lacks for logging; 0 where it meets the threshold.
+    fn lacking_to_log(self, f: u64, list: &List) -> u8 {
         let row = self.row(f);
         let needed = match list.decision {
             Decision::Commit => row[0],
             Decision::Abort => row[1],
         };
-        self.counted(list) >= needed
+        lacking(needed, self.counted(list))
+    }
+
+    /// The same for its proof.
+    fn lacking_to_prove(self, f: u64, list: &List) -> u8 {
+        lacking(self.proof(f, list.kind, list.decision), self.counted(list))
     }
 
     /// Only entries with the list's decision are counted.
     fn counted(self, list: &List) -> usize {
         list.answers.iter().filter(|(_, answer)| *answer == list.decision || !self.hold(Rule::NamedAnswer)).count()
     }
+}
+
+/// What is lacking to a threshold; 0 where it is reached.
+fn lacking(needed: usize, counted: usize) -> u8 {
+    needed.saturating_sub(counted) as u8
 }
 
 #[derive(Clone, Copy, Debug, PartialEq, Eq)]
@@ -182,6 +192,9 @@ pub enum Answer {
     Logged(Decision),
     Done,
     Found { committed: (u64, u64), undecided: (u64, u64) },
+    /// 11, with how many counted answers are lacking.
+    TooFew(u8),
+    /// Any other refusal, by its number.
     Refused(u8),
 }
 
@@ -227,7 +240,6 @@ const CODE: u8 = 8;
 const OTHER_BODY: u8 = 9;
 /// No longer given; a box with a broken rule gives it.
 const UNKNOWN: u8 = 10;
-const TOO_FEW: u8 = 11;
 const CONTRADICTION: u8 = 12;
 const FULL: u8 = 13;
 const GROUP: u8 = 14;
@@ -439,7 +451,7 @@ pub struct Store {
 }
 
 /// The cases that a mixture of messages has to meet.
-pub const CASES: [&str; 34] = [
+pub const CASES: [&str; 40] = [
     "PR new, no test fails",
     "PR again, vote cast",
     "PR again, waiting: waits on",
@@ -461,10 +473,16 @@ pub const CASES: [&str; 34] = [
     "LG again, other list",
     "LG again, other list, no vote",
     "LG with an abort vote cast",
+    "LG 11, one lacking",
+    "LG 11, no answer counted",
+    "LG again, too few",
     "LG new",
     "LG new, too few",
     "LG new, too few, table full",
     "LG new, table full",
+    "DC 11, one lacking",
+    "DC 11, no vote counted",
+    "DC 11, no log counted",
     "DC new",
     "DC, undecided takes it",
     "DC, undecided takes it, logged with no vote",
@@ -669,23 +687,34 @@ impl Store {
         Self::told(vote)
     }
 
+    /// 11, and which of two cases it is.
+    fn too_few(&mut self, list: &List, lacking: u8, cases: [&'static str; 2]) -> Answer {
+        if lacking == 1 {
+            self.met.push(cases[0]);
+        }
+        if self.rules.counted(list) == 0 {
+            self.met.push(cases[1]);
+        }
+        Answer::TooFew(lacking)
+    }
+
     /// LG for a stamp not held: 11, then 13, else a new entry with vote none and that log.
     fn log_new(&mut self, tx: Transaction, list: List, settings: &Settings) -> Answer {
         if !self.rules.hold(Rule::NoUnknown) {
             return Answer::Refused(UNKNOWN);
         }
-        let (enough, full) = (self.rules.can_be_logged(settings.f, &list), self.full(settings));
-        self.met.push(match (enough, full) {
-            (true, false) => "LG new",
-            (false, false) => "LG new, too few",
-            (false, true) => "LG new, too few, table full",
-            (true, true) => "LG new, table full",
+        let (lacking, full) = (self.rules.lacking_to_log(settings.f, &list), self.full(settings));
+        self.met.push(match (lacking, full) {
+            (0, false) => "LG new",
+            (_, false) => "LG new, too few",
+            (0, true) => "LG new, table full",
+            (_, true) => "LG new, too few, table full",
         });
         if full && !self.rules.hold(Rule::TooFewFirst) {
             return Answer::Refused(FULL);
         }
-        if !enough {
-            return Answer::Refused(TOO_FEW);
+        if lacking > 0 {
+            return self.too_few(&list, lacking, ["LG 11, one lacking", "LG 11, no answer counted"]);
         }
         if full {
             return Answer::Refused(FULL);
@@ -711,13 +740,17 @@ impl Store {
             if logged != list.decision {
                 self.met.push(if held.vote == Vote::None { "LG again, other list, no vote" } else { "LG again, other list" });
             }
+            if self.rules.lacking_to_log(settings.f, &list) > 0 {
+                self.met.push("LG again, too few");
+            }
             return Answer::Logged(logged);
         }
         if matches!(held.vote, Vote::Abort(_)) {
             self.met.push("LG with an abort vote cast");
         }
-        if !self.rules.can_be_logged(settings.f, &list) {
-            return Answer::Refused(TOO_FEW);
+        let lacking = self.rules.lacking_to_log(settings.f, &list);
+        if lacking > 0 {
+            return self.too_few(&list, lacking, ["LG 11, one lacking", "LG 11, no answer counted"]);
         }
         held.log = Some(list.decision);
         self.touched = Some(place);
@@ -725,8 +758,10 @@ impl Store {
     }
 
     fn decide(&mut self, tx: Transaction, list: List, settings: &Settings) -> Answer {
-        if self.rules.counted(&list) < self.rules.proof(settings.f, list.kind, list.decision) {
-            return Answer::Refused(TOO_FEW);
+        let lacking = self.rules.lacking_to_prove(settings.f, &list);
+        if lacking > 0 {
+            let none = if list.kind == Kind::Votes { "DC 11, no vote counted" } else { "DC 11, no log counted" };
+            return self.too_few(&list, lacking, ["DC 11, one lacking", none]);
         }
         let Some(place) = self.place(tx.stamp) else {
             if self.full(settings) {
@@ -968,12 +1003,13 @@ pub fn thresholds(f: u64) -> Result<[u64; 6], u8> {
 
 // ---- the tally
 
+/// What a sheet says: for each threshold of its kind what is lacking, 0 where it is reached.
 #[derive(Clone, Copy, Debug, PartialEq, Eq)]
 pub enum Reply {
     /// Commit list, abort list, commit proof, abort proof.
-    Votes([bool; 4]),
+    Votes([u8; 4]),
     /// The proof of each decision.
-    Logs([bool; 2]),
+    Logs([u8; 2]),
     Repeat,
     Refused(u8),
 }
@@ -1015,9 +1051,9 @@ pub fn tally(sheet: &mut Sheet, f: u64, number: u64, answer: u64) -> Reply {
     (sheet.commits, sheet.aborts) = (mask(&commits), mask(&aborts));
     let (row, c, a) = (PAPER.row(f), commits.len(), aborts.len());
     if sheet.kind == 1 {
-        Reply::Votes([c >= row[0], a >= row[1], c >= row[2], a >= row[3]])
+        Reply::Votes([lacking(row[0], c), lacking(row[1], a), lacking(row[2], c), lacking(row[3], a)])
     } else {
-        Reply::Logs([c >= row[4], a >= row[4]])
+        Reply::Logs([lacking(row[4], c), lacking(row[4], a)])
     }
 }
 

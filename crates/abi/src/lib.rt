@@ -34,7 +34,13 @@ pub fn values(a: Answer) -> [u64; 5]
         Answer::Logged(d) => [3, records::widened(d.number()), 0, 0, 0],
         Answer::Done => [4, 0, 0, 0, 0],
         Answer::Found(c, u) => [5, c.stamp.0, c.value, u.stamp.0, u.value],
-        Answer::Refused(r) => [6, records::widened(r.number()), 0, 0, 0],
+        Answer::Refused(r) => [
+            6,
+            records::widened(r.number()),
+            records::widened(r.lacking()),
+            0,
+            0,
+        ],
     }
 }
 
@@ -170,7 +176,7 @@ fn put_reply(out: &mut [u8; 5], v: [u8; 5])
 
 // The gateway's tally: a sheet of one kind takes a box's answer.
 #[no_mangle]
-pub extern "C" fn stobbarel_tally(
+pub extern "C" fn stobbarel_take(
     kind: u8,
     commits: &mut u32,
     aborts: &mut u32,

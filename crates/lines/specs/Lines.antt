@@ -4,9 +4,10 @@ use mathlib.Core.Path.{_≡_}
 use mathlib.Core.Bool.{Bool, true, false, _||_}
 use mathlib.Core.List.{List, [], _∷_, _++_}
 use lib.ListN.{length, take, drop}
-use lib.Dec.{ltb}
+use lib.Dec.{eqb, ltb}
 use Rattle.terms.specs.Choice.{pick}
-use Rattle.terms.specs.Refusals.{numberOf}
+use Rattle.terms.specs.Refusals.{numberOf, lackingOf}
+use Rattle.terms.specs.declared.Refusal.{Refusal}
 use Rattle.records.specs.declared.Marked.{Marked}
 use Rattle.records.specs.declared.Marked.the-variants.{Is, Refused as Unmarked}
 use Rattle.records.specs.Messages.{isMark, markOf}
@@ -102,6 +103,13 @@ versionText v = decimal (v .stamp .0) ++ (blank ++ decimal (v .value))
 unfoldable pub foundText : Version → Version → List ℕ
 foundText c u = versionText c ++ (blank ++ versionText u)
 
+-- "`refused` and number"; A1: "the bench program, which prints it after the 11"
+unfoldable pub lackingText : ℕ → List ℕ
+lackingText lacking = pick (eqb lacking 0) [] (blank ++ decimal lacking)
+
+unfoldable pub refusalText : Refusal → List ℕ
+refusalText r = refusedBlank ++ (decimal (numberOf r) ++ lackingText (lackingOf r))
+
 -- "`decided`/`logged` and commit or abort, `done`, .. `refused` and number"
 unfoldable pub answerText : Answer → List ℕ
 answerText (Voted v) = voteText v
@@ -109,7 +117,7 @@ answerText (Decided d) = decidedBlank ++ decisionText d
 answerText (Logged d) = loggedBlank ++ decisionText d
 answerText Done = doneText
 answerText (Found c u) = foundText c u
-answerText (Refused r) = refusedBlank ++ decimal (numberOf r)
+answerText (Refused r) = refusalText r
 
 -- "`ok`": a GP or a CK that was taken
 unfoldable pub saidText : Said → List ℕ

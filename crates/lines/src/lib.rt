@@ -2,12 +2,13 @@
 ghost use mathlib.Core.Path.{_≡_};
 ghost use Prim.Native.Nat.{_+_, _≤_};
 ghost use lib.ListN.{length};
-ghost use Rattle.lines.specs.Lines.{decimal, decisionText, voteText, versionText, foundText, answerText, saidText, isMessage, known, markText, lineOf, putAt, Puts};
+ghost use Rattle.lines.specs.Lines.{decimal, decisionText, voteText, versionText, foundText, lackingText, refusalText, answerText, saidText, isMessage, known, markText, lineOf, putAt, Puts};
 use records::Marked;
 use rules::Answer;
 use rules::Version;
 use rules::Vote;
 use terms::Decision;
+use terms::Refusal;
 
 // What a record is told: that it was taken (a GP or a CK), or a box's answer.
 pub enum Said {
@@ -125,6 +126,27 @@ fn put_found(out: &mut [u8], at: usize, committed: Version, undecided: Version) 
     put_version(out, b, undecided)
 }
 
+// How many answers are lacking, behind the refusal's number; nothing where none is.
+fn put_lacking(out: &mut [u8], at: usize, lacking: u8) -> usize
+    requires { ⌜ at + 21 ≤ length (now out) ⌝ }
+    ensures { λ r. ⌜ Puts (now (out .entry)) at (lackingText lacking) 21 (now (out .exit)) r ⌝ }
+{
+    if lacking == 0 {
+        return at;
+    }
+    let a = put_text(out, at, b" ");
+    put_decimal(out, a, lacking as u64)
+}
+
+fn put_refusal(out: &mut [u8], at: usize, why: Refusal) -> usize
+    requires { ⌜ at + 49 ≤ length (now out) ⌝ }
+    ensures { λ r. ⌜ Puts (now (out .entry)) at (refusalText why) 49 (now (out .exit)) r ⌝ }
+{
+    let a = put_text(out, at, b"refused ");
+    let b = put_decimal(out, a, why.number() as u64);
+    put_lacking(out, b, why.lacking())
+}
+
 fn put_answer(out: &mut [u8], at: usize, answer: Answer) -> usize
     requires { ⌜ at + 83 ≤ length (now out) ⌝ }
     ensures { λ r. ⌜ Puts (now (out .entry)) at (answerText answer) 83 (now (out .exit)) r ⌝ }
@@ -141,10 +163,7 @@ fn put_answer(out: &mut [u8], at: usize, answer: Answer) -> usize
         }
         Answer::Done => put_text(out, at, b"done"),
         Answer::Found(committed, undecided) => put_found(out, at, committed, undecided),
-        Answer::Refused(why) => {
-            let a = put_text(out, at, b"refused ");
-            put_decimal(out, a, why.number() as u64)
-        }
+        Answer::Refused(why) => put_refusal(out, at, why),
     }
 }
 

@@ -1,6 +1,7 @@
 -- In the order of use. Of what the theorem rests on, only Tested, Called and Deeds look into the rules.
 pub mod Laws
 pub mod Counting
+pub mod Lacking
 pub mod Quorums
 pub mod Moves
 pub mod Tested

@@ -11,7 +11,7 @@ use Rattle.records.specs.Cutting.{txPart, vlPart, txCut, vlCut, listedCut, list
 use Rattle.records.specs.Messages.{listBehind, contentsWrong, dueRefusal, isMark, markOf}
 use Rattle.records.specs.Writing.{prBytes, listedBytes, rdBytes}
 use Rattle.rules.specs.Bodies.{stampOf, readsOf, writesOf, sameBody, writesKey}
-use Rattle.rules.specs.Lists.{kindOf, decisionOf, bit, tally, meets}
+use Rattle.rules.specs.Lists.{kindOf, decisionOf, bit, tally, meets, lacking}
 use Rattle.rules.specs.Table.{empty, find, put, liveBy, live}
 use Rattle.rules.specs.Tests.{test1, liveWriter, test2, undercut, test3, test4, test5, statusBy, statusOf, status, waitingRule, firstVote}
 use Rattle.rules.specs.Calls.{guarded, isFull, roomFor, needing, sameDecision, castAct, prByVote, prByDecision, prByEntry, prRule, logAct, lgByLog}
@@ -20,7 +20,7 @@ use Rattle.rules.specs.Calls.{versionOf, isCommitted, isUndecided, rdAns
 use Rattle.rules.specs.Act.{toldWrong, rule, dueAct, markedAct, dueMark, markBy, act, tableAfter, raise, marksAfter, boxAfter, after}
 use Rattle.rules.specs.System.{boxAt, answerTo, word, cast, voteWord, wordIn, sameWord, isWord, givesNow, gave, howMany, carriesList}
 use Rattle.rules.specs.Cases.{replay, given, due, line, case, read, write, tx, writes, reads, pairs, list, PR, LG, DC, RD, commits, waits}
-use Rattle.rules.specs.Cases.{aborts, lg, dc, found}
+use Rattle.rules.specs.Cases.{aborts, lg, dc, few, found}
 use Rattle.rules.specs.Vectors.{group, marked, lent, entry, zeros, stores, run, held, wanted}
 
 unfoldable checks : ℕ
@@ -40,7 +40,7 @@ unfolding listedCut listedLen restCut messageCut messageLen listBehind contentsW
 messages = 0
 
 unfoldable tables : ℕ
-unfolding stampOf readsOf writesOf sameBody writesKey kindOf decisionOf bit tally meets empty find put liveBy live
+unfolding stampOf readsOf writesOf sameBody writesKey kindOf decisionOf bit tally meets lacking empty find put liveBy live
 tables = 0
 
 unfoldable testing : ℕ
@@ -60,7 +60,7 @@ unfolding toldWrong rule dueAct markedAct dueMark markBy act tableAfter raise ma
 acting = 0
 
 unfoldable sending : ℕ
-unfolding replay given due line case read write tx writes reads pairs list PR LG DC RD lg dc found commits waits aborts
+unfolding replay given due line case read write tx writes reads pairs list PR LG DC RD lg dc few found commits waits aborts
 sending = 0
 
 unfoldable lending : ℕ

@@ -2,7 +2,7 @@
 use Prim.Native.Nat.{ℕ}
 use mathlib.Core.Bool.{Bool, true, false}
 use mathlib.Core.List.{List, [], _∷_}
-use Rattle.terms.specs.Refusals.{numberOf}
+use Rattle.terms.specs.Refusals.{numberOf, lackingOf}
 pub use Rattle.terms.specs.declared.Decision.{Decision}
 pub use Rattle.terms.specs.declared.Decision.the-variants.{Commit as commit, Abort as abort}
 pub use Rattle.terms.specs.declared.Kind.{Kind}
@@ -53,4 +53,4 @@ answerValues (Decided d) = decisionNumber d ∷ []
 answerValues (Logged d) = decisionNumber d ∷ []
 answerValues Done = []
 answerValues (Found c u) = c .stamp .0 ∷ c .value ∷ u .stamp .0 ∷ u .value ∷ []
-answerValues (Refused r) = numberOf r ∷ []
+answerValues (Refused r) = numberOf r ∷ lackingOf r ∷ []

@@ -16,7 +16,7 @@ use Rattle.records.specs.Vl.{Vl}
 use Rattle.rules.specs.Answers.{Answer, Decided, Decision, Done, Found, Logged, Refused, Settled, Version, Voted, abort, commit, settled, unsettled}
 use Rattle.rules.specs.Answers.{Vote, unvoted, voteAbort, voteCommit, waiting}
 use Rattle.rules.specs.Bodies.{Body, sameBody, stampOf, writesKey, writesOf}
-use Rattle.rules.specs.Lists.{decisionOf, forLogging, forProof, kindOf, meets}
+use Rattle.rules.specs.Lists.{decisionOf, forLogging, forProof, kindOf, lacking, meets}
 use Rattle.rules.specs.Table.{Box, Told, Entry, find, limit, live, logIn, voteIn}
 use Rattle.rules.specs.Tests.{firstVote, waitingRule}
 
@@ -50,9 +50,9 @@ isFull told x = leb (told .capacity) (length (x .table))
 unfoldable pub roomFor : Told → Box → Act → Act
 roomFor told x a = pick (isFull told x) (refuse Full) a
 
--- 11: "the list misses its threshold"
+-- 11: "the list misses its threshold"; A1: "Refusal 11 should carry how many counted answers are lacking"
 unfoldable pub needing : ℕ → Vl → Act → Act
-needing need l a = pick (meets need l) a (refuse TooFew)
+needing need l a = pick (meets need l) a (refuse (TooFew (lacking need l)))
 
 -- "commit", "abort": one decision or two
 unfoldable pub sameDecision : Decision → Decision → Bool

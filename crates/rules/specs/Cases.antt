@@ -93,6 +93,10 @@ waits = Voted waiting
 unfoldable pub aborts : Reason → Answer
 aborts r = Voted (voteAbort r)
 
+-- 11, and how many are lacking
+unfoldable pub few : ℕ → Answer
+few k = Refused (TooFew k)
+
 -- of an RD: version and value of what is committed, and of what is live and undecided
 unfoldable pub found : ℕ → ℕ → ℕ → ℕ → Answer
 found v x u y = Found (record { stamp = record { 0 = v }; value = x }) (record { stamp = record { 0 = u }; value = y })
@@ -135,7 +139,7 @@ cases =
     (commits ∷ Logged commit ∷ Logged commit ∷ [])
     -- "12. DC commit with five votes: 11; with five logs: done."
     ∷ case (DC (writes 50 3) votes commit 5 ∷ DC (writes 50 3) logs commit 5 ∷ [])
-    (Refused TooFew ∷ Done ∷ [])
+    (few 1 ∷ Done ∷ [])
     ∷ []
 
 abbrev pub Twelve : Type 0

@@ -1,5 +1,6 @@
 -- "Group and thresholds": which of the five thresholds is due, and the lists that meet it.
-use Prim.Native.Nat.{ℕ, _+_}
+use Prim.Native.Nat.{ℕ, _+_, _-_, _≤_}
+use mathlib.Core.Path.{_≡_}
 use mathlib.Core.Bool.{Bool, true, false}
 use mathlib.Core.List.{List, [], _∷_}
 use lib.Dec.{eqb, leb}
@@ -42,3 +43,14 @@ tally d (p ∷ ps) = bit (eqb (p .answer) d) + tally d ps
 -- "A list names one decision; only entries with that answer are counted"
 unfoldable pub meets : ℕ → Vl → Bool
 meets need l = leb need (tally (l .decision) (l .pairs))
+
+-- A1: "how many counted answers are lacking"
+unfoldable pub lacking : ℕ → Vl → ℕ
+lacking need l = need - tally (l .decision) (l .pairs)
+
+-- "from 1 up to the threshold", where a list misses it; and 0 where it is met
+abbrev pub LacksSome : Type 0
+LacksSome = (need : ℕ) (l : Vl) → meets need l ≡ false → (1 ≤ lacking need l) × (lacking need l ≤ need)
+
+abbrev pub LacksNone : Type 0
+LacksNone = (need : ℕ) (l : Vl) → meets need l ≡ true → lacking need l ≡ 0

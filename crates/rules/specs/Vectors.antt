@@ -4,13 +4,13 @@ use mathlib.Core.Path.{_≡_}
 use mathlib.Core.List.{List, [], _∷_, _++_, map}
 use lib.ListN.{replicate}
 use Rattle.terms.specs.declared.Refusal.the-variants.{Ahead as AheadOfClock, Code, Contradiction, Full, Group, Mark, Order, OtherBody}
-use Rattle.terms.specs.declared.Refusal.the-variants.{Short, TooFew, Trailing}
+use Rattle.terms.specs.declared.Refusal.the-variants.{Short, Trailing}
 use Rattle.records.specs.Tx.{Tx, txBytes}
 use Rattle.rules.specs.Answers.{Answer, Decided, Done, Logged, Refused, Settled, Vote, abort, commit, logs, settled, unsettled, unvoted, votes, waiting}
 use Rattle.rules.specs.Answers.{Ahead, Dependency, NoVersion, Overwritten, ReadMark, Undercuts, voteAbort, voteCommit}
 use Rattle.rules.specs.Table.{Box, Told, Entry, empty}
 use Rattle.rules.specs.Act.{after, receive}
-use Rattle.rules.specs.Cases.{Case, DC, LG, PR, RD, aborts, case, commits, dc, due, found, given, lg, line, list, pairs, read, reads, tx, waits, write, writes}
+use Rattle.rules.specs.Cases.{Case, DC, LG, PR, RD, aborts, case, commits, dc, due, few, found, given, lg, line, list, pairs, read, reads, tx, waits, write, writes}
 
 -- with another f or capacity; from a table that is lent
 unfoldable pub group : ℕ → ℕ → List (List ℕ) → List Answer → Case
@@ -44,25 +44,35 @@ inHex =
 -- the five thresholds, each from both sides, with f = 1 and with f = 5
 unfoldable pub thresholds : List Case
 thresholds =
-    case (PR (writes 50 3) ∷ LG (writes 50 3) commit 3 ∷ LG (writes 50 3) commit 4 ∷ []) (commits ∷ Refused TooFew ∷ Logged commit ∷ [])
-    ∷ case (PR (writes 50 3) ∷ LG (writes 50 3) abort 1 ∷ LG (writes 50 3) abort 2 ∷ []) (commits ∷ Refused TooFew ∷ Logged abort ∷ [])
-    ∷ case (DC (writes 50 3) votes commit 5 ∷ DC (writes 50 3) votes commit 6 ∷ []) (Refused TooFew ∷ Done ∷ [])
-    ∷ case (DC (writes 50 3) votes abort 3 ∷ DC (writes 50 3) votes abort 4 ∷ []) (Refused TooFew ∷ Done ∷ [])
-    ∷ case (DC (writes 50 3) logs commit 4 ∷ DC (writes 50 3) logs commit 5 ∷ []) (Refused TooFew ∷ Done ∷ [])
-    ∷ case (DC (writes 50 3) logs abort 4 ∷ DC (writes 50 3) logs abort 5 ∷ []) (Refused TooFew ∷ Done ∷ [])
-    ∷ group 5 8 (PR (writes 50 3) ∷ LG (writes 50 3) commit 15 ∷ LG (writes 50 3) commit 16 ∷ []) (commits ∷ Refused TooFew ∷ Logged commit ∷ [])
-    ∷ group 5 8 (PR (writes 50 3) ∷ LG (writes 50 3) abort 5 ∷ LG (writes 50 3) abort 6 ∷ []) (commits ∷ Refused TooFew ∷ Logged abort ∷ [])
-    ∷ group 5 8 (DC (writes 50 3) votes commit 25 ∷ DC (writes 50 3) votes commit 26 ∷ []) (Refused TooFew ∷ Done ∷ [])
-    ∷ group 5 8 (DC (writes 50 3) votes abort 15 ∷ DC (writes 50 3) votes abort 16 ∷ []) (Refused TooFew ∷ Done ∷ [])
-    ∷ group 5 8 (DC (writes 50 3) logs commit 20 ∷ DC (writes 50 3) logs commit 21 ∷ []) (Refused TooFew ∷ Done ∷ [])
-    ∷ group 5 8 (DC (writes 50 3) logs abort 20 ∷ DC (writes 50 3) logs abort 21 ∷ []) (Refused TooFew ∷ Done ∷ [])
+    case (PR (writes 50 3) ∷ LG (writes 50 3) commit 3 ∷ LG (writes 50 3) commit 4 ∷ []) (commits ∷ few 1 ∷ Logged commit ∷ [])
+    ∷ case (PR (writes 50 3) ∷ LG (writes 50 3) abort 1 ∷ LG (writes 50 3) abort 2 ∷ []) (commits ∷ few 1 ∷ Logged abort ∷ [])
+    ∷ case (DC (writes 50 3) votes commit 5 ∷ DC (writes 50 3) votes commit 6 ∷ []) (few 1 ∷ Done ∷ [])
+    ∷ case (DC (writes 50 3) votes abort 3 ∷ DC (writes 50 3) votes abort 4 ∷ []) (few 1 ∷ Done ∷ [])
+    ∷ case (DC (writes 50 3) logs commit 4 ∷ DC (writes 50 3) logs commit 5 ∷ []) (few 1 ∷ Done ∷ [])
+    ∷ case (DC (writes 50 3) logs abort 4 ∷ DC (writes 50 3) logs abort 5 ∷ []) (few 1 ∷ Done ∷ [])
+    ∷ group 5 8 (PR (writes 50 3) ∷ LG (writes 50 3) commit 15 ∷ LG (writes 50 3) commit 16 ∷ []) (commits ∷ few 1 ∷ Logged commit ∷ [])
+    ∷ group 5 8 (PR (writes 50 3) ∷ LG (writes 50 3) abort 5 ∷ LG (writes 50 3) abort 6 ∷ []) (commits ∷ few 1 ∷ Logged abort ∷ [])
+    ∷ group 5 8 (DC (writes 50 3) votes commit 25 ∷ DC (writes 50 3) votes commit 26 ∷ []) (few 1 ∷ Done ∷ [])
+    ∷ group 5 8 (DC (writes 50 3) votes abort 15 ∷ DC (writes 50 3) votes abort 16 ∷ []) (few 1 ∷ Done ∷ [])
+    ∷ group 5 8 (DC (writes 50 3) logs commit 20 ∷ DC (writes 50 3) logs commit 21 ∷ []) (few 1 ∷ Done ∷ [])
+    ∷ group 5 8 (DC (writes 50 3) logs abort 20 ∷ DC (writes 50 3) logs abort 21 ∷ []) (few 1 ∷ Done ∷ [])
     ∷ []
 
 -- a list
 unfoldable pub lists : List Case
 lists =
     -- "only entries with that answer are counted"
-    case (dc (writes 50 3) (list votes commit (pairs 0 5 commit ++ pairs 5 1 abort)) ∷ []) (Refused TooFew ∷ [])
+    case (dc (writes 50 3) (list votes commit (pairs 0 5 commit ++ pairs 5 1 abort)) ∷ []) (few 1 ∷ [])
+    -- A1: "from 1 up to the threshold": no answer counted, with f = 1 and with f = 5
+    ∷ case (lg (writes 50 3) (list votes commit (pairs 0 6 abort)) ∷ lg (writes 50 3) (list votes abort (pairs 0 6 commit)) ∷ []) (few 4 ∷ few 2 ∷ [])
+    ∷ case (dc (writes 50 3) (list votes commit (pairs 0 6 abort)) ∷ dc (writes 50 3) (list votes abort (pairs 0 6 commit)) ∷ []) (few 6 ∷ few 4 ∷ [])
+    ∷ case (dc (writes 50 3) (list logs commit (pairs 0 6 abort)) ∷ dc (writes 50 3) (list logs abort (pairs 0 6 commit)) ∷ []) (few 5 ∷ few 5 ∷ [])
+    ∷ group 5 8 (lg (writes 50 3) (list votes commit (pairs 0 26 abort)) ∷ dc (writes 50 3) (list votes commit (pairs 0 26 abort)) ∷ []) (few 16 ∷ few 26 ∷ [])
+    ∷ group 5 8 (lg (writes 50 3) (list votes abort (pairs 0 26 commit)) ∷ dc (writes 50 3) (list votes abort (pairs 0 26 commit)) ∷ []) (few 6 ∷ few 16 ∷ [])
+    ∷ group 5 8 (DC (writes 50 3) logs commit 1 ∷ DC (writes 50 3) logs abort 19 ∷ []) (few 20 ∷ few 2 ∷ [])
+    -- LG on a logged and on a decided entry tells none
+    ∷ case (LG (writes 50 3) commit 4 ∷ LG (writes 50 3) commit 1 ∷ DC (writes 50 3) logs commit 5 ∷ LG (writes 50 3) commit 1 ∷ [])
+    (Logged commit ∷ Logged commit ∷ Done ∷ Decided commit ∷ [])
     -- "13. A list naming box 2 twice: 6."
     ∷ case (dc (writes 50 3) (list votes abort (pairs 0 3 abort ++ pairs 2 1 abort)) ∷ []) (Refused Order ∷ [])
     -- "kind 2 in an LG"
@@ -124,7 +134,7 @@ helds =
     ∷ case
     (DC (writes 50 4) votes commit 6 ∷ DC (writes 50 3) votes commit 6 ∷ DC (writes 50 3) votes commit 5 ∷ DC (writes 50 4) votes abort 4
     ∷ DC (writes 50 4) logs commit 5 ∷ PR (writes 50 4) ∷ [])
-    (Done ∷ Refused Contradiction ∷ Refused TooFew ∷ Refused Contradiction ∷ Done ∷ Decided commit ∷ [])
+    (Done ∷ Refused Contradiction ∷ few 1 ∷ Refused Contradiction ∷ Done ∷ Decided commit ∷ [])
     -- of an aborted one: Decided before 11, the opposite decision 12, and another body replaces it
     ∷ case
     (DC (writes 50 3) votes abort 4 ∷ PR (writes 50 3) ∷ LG (writes 50 3) commit 1 ∷ DC (writes 50 3) votes commit 6
@@ -142,7 +152,7 @@ unfoldable pub missed : List Case
 missed =
     -- 11; logged; not live, so a reader gets reason 2; then its PR, which votes, and the log stays
     case (LG (writes 50 3) commit 3 ∷ LG (writes 50 3) commit 4 ∷ PR (reads 60 3 50) ∷ PR (writes 50 3) ∷ LG (writes 50 3) abort 2 ∷ [])
-    (Refused TooFew ∷ Logged commit ∷ aborts NoVersion ∷ commits ∷ Logged commit ∷ [])
+    (few 1 ∷ Logged commit ∷ aborts NoVersion ∷ commits ∷ Logged commit ∷ [])
     -- not live before its PR: no clash with what reads under it, nor in what RD finds
     ∷ case (LG (writes 50 3) abort 2 ∷ RD 3 50 ∷ RD 3 40 ∷ PR (reads 60 3 0) ∷ PR (writes 50 3) ∷ [])
     (Logged abort ∷ found 0 0 0 0 ∷ found 0 0 0 0 ∷ commits ∷ aborts Undercuts ∷ [])
@@ -154,7 +164,7 @@ missed =
     (Logged commit ∷ Refused OtherBody ∷ Refused OtherBody ∷ Done ∷ Decided commit ∷ [])
     -- 11, then 13; at the later PR no room is asked for
     ∷ group 1 1 (LG (writes 50 3) commit 4 ∷ LG (writes 60 3) commit 3 ∷ LG (writes 60 3) commit 4 ∷ PR (writes 50 3) ∷ PR (writes 60 3) ∷ [])
-    (Logged commit ∷ Refused TooFew ∷ Refused Full ∷ commits ∷ Refused Full ∷ [])
+    (Logged commit ∷ few 1 ∷ Refused Full ∷ commits ∷ Refused Full ∷ [])
     ∷ []
 
 -- RD

@@ -33,8 +33,8 @@ module _ {M : Type 1} (𝓤 : URA M) (H : Heap 𝓤) where
   pub stobbarel-part : Settled 𝓤 H abi.stobbarel_part.ended (abi.stobbarel_part.spec 𝓤 H) (abi.stobbarel_part.clauses 𝓤 H)
   stobbarel-part A mem run = (refl, λ k o o′. settled 𝓤 (λ p q. one p q & refl))
 
-  pub stobbarel-tally : Settled 𝓤 H abi.stobbarel_tally.ended (abi.stobbarel_tally.spec 𝓤 H) (abi.stobbarel_tally.clauses 𝓤 H)
-  stobbarel-tally A mem run = (refl, λ k o o′. settled 𝓤 (λ p q. refl & refl & one (p .1) (q .1) & one (p .2) (q .2) & refl & refl & refl & one (p .0) (q .0) & refl))
+  pub stobbarel-take : Settled 𝓤 H abi.stobbarel_take.ended (abi.stobbarel_take.spec 𝓤 H) (abi.stobbarel_take.clauses 𝓤 H)
+  stobbarel-take A mem run = (refl, λ k o o′. settled 𝓤 (λ p q. refl & refl & one (p .1) (q .1) & one (p .2) (q .2) & refl & refl & refl & one (p .0) (q .0) & refl))
 
   pub stobbarel-thresholds : Settled 𝓤 H abi.stobbarel_thresholds.ended (abi.stobbarel_thresholds.spec 𝓤 H) (abi.stobbarel_thresholds.clauses 𝓤 H)
   stobbarel-thresholds A mem run = (refl, λ k o o′. settled 𝓤 (λ p q. one (p .0) (q .0) & refl & one (p .1) (q .1) & refl))

@@ -16,6 +16,12 @@ module _ {M : Type 1} (𝓤 : URA M) (H : Heap 𝓤) where
   pub decision-number : Settled 𝓤 H terms.Decision.number.ended (terms.Decision.number.spec 𝓤 H) (terms.Decision.number.clauses 𝓤 H)
   decision-number A mem run = (refl, λ k o o′. settled 𝓤 (λ p q. one p q & refl))
 
+  pub refusal-values : Settled 𝓤 H terms.Refusal.values.ended (terms.Refusal.values.spec 𝓤 H) (terms.Refusal.values.clauses 𝓤 H)
+  refusal-values A mem run = (refl, λ k o o′. settled 𝓤 (λ p q. one p q & refl))
+
+  pub refusal-lacking : Settled 𝓤 H terms.Refusal.lacking.ended (terms.Refusal.lacking.spec 𝓤 H) (terms.Refusal.lacking.clauses 𝓤 H)
+  refusal-lacking A mem run = (refl, λ k o o′. settled 𝓤 (λ p q. one p q & refl))
+
   pub refusal-number : Settled 𝓤 H terms.Refusal.number.ended (terms.Refusal.number.spec 𝓤 H) (terms.Refusal.number.clauses 𝓤 H)
   refusal-number A mem run = (refl, λ k o o′. settled 𝓤 (λ p q. one p q & refl))
 

@@ -2,5 +2,5 @@ pub mod Masks
 pub mod Sheets
 pub mod Listed
 pub mod Sound
-pub mod Judged
+pub mod Telling
 pub mod Arrivals

@@ -1,9 +1,8 @@
 -- Laws of a sheet: one for each outcome of its definitions.
-use Prim.Native.Nat.{ℕ, zero, suc, _<_, _≤_}
+use Prim.Native.Nat.{ℕ, zero, suc, _-_, _<_, _≤_}
 use native.Mathlib.Omega.{arith}
 use mathlib.Core.Path.{_≡_, refl, sym, _∙_}
 use mathlib.Core.Bool.{Bool, true, false, _||_}
-use lib.Dec.{leb}
 use borrow.Author.Tests.{eq-eqb, ne-eqb, leb-false}
 use Rattle.terms.specs.Refusals.{refusalOf}
 use Rattle.terms.specs.Group.{boxes, groupWrong, commitList, abortList, commitProof, abortProof, logProof}
@@ -16,7 +15,7 @@ use Rattle.sheet.specs.declared.Sheet.{Sheet}
 use Rattle.sheet.specs.declared.Reply.{Reply}
 use Rattle.sheet.specs.declared.Reply.the-variants.{Votes, Logs, Repeat, Refused}
 use Rattle.sheet.specs.Masks.{has, withBox}
-use Rattle.sheet.specs.Sheets.{twice, on, joined, counted, reached, reachedBy, sheetWrong, answerWrong, sheetBy, sheetAfter, replyBy, replyTo}
+use Rattle.sheet.specs.Sheets.{twice, on, joined, counted, lackingOn, lackingBy, sheetWrong, answerWrong, sheetBy, sheetAfter, replyBy, replyTo}
 
 module _ (s : Sheet) (b : ℕ) where
   pub twice-yes : (x : Bool) → has (s .commits) b ≡ true → x ≡ has (s .aborts) b → x ≡ twice s b
@@ -70,15 +69,15 @@ module _ (f : ℕ) (s : Sheet) where
   abbrev aborts : ℕ
   aborts = howMany (has (s .aborts)) (boxes f)
 
-  pub reached-votes : (r : Reply) → s .kind ≡ 1
-      → r ≡ Votes (record { «commit_list» = leb (commitList f) commits; «abort_list» = leb (abortList f) aborts; «commit_proof» = leb (commitProof f) commits; «abort_proof» = leb (abortProof f) aborts })
-      → r ≡ reached f s
-  unfolding reached reachedBy counted kindOf
-  reached-votes r k e = rw (eq-eqb (s .kind) 1 k) e
+  pub lacking-votes : (r : Reply) → s .kind ≡ 1
+      → r ≡ Votes (record { «commit_list» = commitList f - commits; «abort_list» = abortList f - aborts; «commit_proof» = commitProof f - commits; «abort_proof» = abortProof f - aborts })
+      → r ≡ lackingOn f s
+  unfolding lackingOn lackingBy counted kindOf
+  lacking-votes r k e = rw (eq-eqb (s .kind) 1 k) e
 
-  pub reached-logs : (r : Reply) → (s .kind ≡ 1 → ⊥) → r ≡ Logs (record { commit = leb (logProof f) commits; abort = leb (logProof f) aborts }) → r ≡ reached f s
-  unfolding reached reachedBy counted kindOf
-  reached-logs r k e = rw (ne-eqb (s .kind) 1 k) e
+  pub lacking-logs : (r : Reply) → (s .kind ≡ 1 → ⊥) → r ≡ Logs (record { commit = logProof f - commits; abort = logProof f - aborts }) → r ≡ lackingOn f s
+  unfolding lackingOn lackingBy counted kindOf
+  lacking-logs r k e = rw (ne-eqb (s .kind) 1 k) e
 
 -- what a sheet without a refusal is
 pub sheet-group : (f : ℕ) (s : Sheet) (x : ℕ) → x ≡ sheetWrong f s → x ≡ 0 → (1 ≤ f) × (f ≤ 5)
@@ -113,9 +112,9 @@ module _ (s : Sheet) (f number answer : ℕ) where
     unfolding sheetAfter sheetBy
     after-joined t h e = rw (z, h) e
 
-    pub reply-reached : (r : Reply) → on s number ≡ false → r ≡ reached f (joined s number answer) → r ≡ replyTo s f number answer
+    pub reply-lacking : (r : Reply) → on s number ≡ false → r ≡ lackingOn f (joined s number answer) → r ≡ replyTo s f number answer
     unfolding replyTo replyBy
-    reply-reached r h e = rw (z, h) e
+    reply-lacking r h e = rw (z, h) e
 
   -- "A refusal returns its number only. .. tally .. stay unchanged."
   pub after-refused : (answerWrong s f number answer ≡ 0 → ⊥) → s ≡ sheetAfter s f number answer

@@ -1,5 +1,5 @@
 -- "Tally": what a sheet is after an answer, and the reply.
-use Prim.Native.Nat.{ℕ, zero, suc, _^_}
+use Prim.Native.Nat.{ℕ, zero, suc, _-_, _^_}
 use mathlib.Core.Bool.{Bool, _&&_, _||_}
 use mathlib.Core.List.{List, [], _∷_}
 use lib.Dec.{eqb, leb}
@@ -9,7 +9,7 @@ use Rattle.terms.specs.Refusals.{numberOf, refusalOf}
 use Rattle.terms.specs.Codes.{kindNumber}
 use Rattle.terms.specs.Group.{boxes, groupWrong}
 use Rattle.records.specs.Contents.{codeWrong}
-use Rattle.rules.specs.Lists.{bit, forLogging, forProof, kindOf}
+use Rattle.rules.specs.Lists.{forLogging, forProof, kindOf}
 use Rattle.rules.specs.System.{howMany}
 use Rattle.terms.specs.declared.Decision.{Decision}
 use Rattle.terms.specs.declared.Decision.the-variants.{Commit as commit, Abort as abort}
@@ -20,10 +20,10 @@ use Rattle.sheet.specs.declared.Reply.{Reply}
 use Rattle.sheet.specs.declared.Reply.the-variants.{Votes, Logs, Repeat, Refused}
 use Rattle.sheet.specs.Masks.{has, withBox}
 
--- "which of the kind's thresholds are reached: four for votes, and for logs the proof of each decision"; "answers Repeat"; a refusal's number
+-- what is lacking of the kind's thresholds: "four for votes, and for logs the proof of each decision"; "answers Repeat"; a refusal's number
 abbrev pub replyValues : Reply → List ℕ
-replyValues (Votes v) = 1 ∷ bit (v .«commit_list») ∷ bit (v .«abort_list») ∷ bit (v .«commit_proof») ∷ bit (v .«abort_proof») ∷ []
-replyValues (Logs v) = 2 ∷ bit (v .commit) ∷ bit (v .abort) ∷ 0 ∷ 0 ∷ []
+replyValues (Votes v) = 1 ∷ v .«commit_list» ∷ v .«abort_list» ∷ v .«commit_proof» ∷ v .«abort_proof» ∷ []
+replyValues (Logs v) = 2 ∷ v .commit ∷ v .abort ∷ 0 ∷ 0 ∷ []
 replyValues Repeat = 3 ∷ 0 ∷ 0 ∷ 0 ∷ 0 ∷ []
 replyValues (Refused r) = 4 ∷ numberOf r ∷ 0 ∷ 0 ∷ 0 ∷ []
 
@@ -78,21 +78,21 @@ under abort s = s .aborts
 unfoldable pub counted : ℕ → Decision → Sheet → ℕ
 counted f d s = howMany (has (under d s)) (boxes f)
 
--- "which of the kind's thresholds are reached"
-unfoldable pub reachedBy : Kind → ℕ → Sheet → Reply
-reachedBy votes f s =
+-- A1: "The tally tells the same number for each threshold it has not reached"; of one that is reached 0 is lacking
+unfoldable pub lackingBy : Kind → ℕ → Sheet → Reply
+lackingBy votes f s =
     Votes
     (record {
-      «commit_list» = leb (forLogging f commit) (counted f commit s);
-      «abort_list» = leb (forLogging f abort) (counted f abort s);
-      «commit_proof» = leb (forProof f votes commit) (counted f commit s);
-      «abort_proof» = leb (forProof f votes abort) (counted f abort s);
+      «commit_list» = forLogging f commit - counted f commit s;
+      «abort_list» = forLogging f abort - counted f abort s;
+      «commit_proof» = forProof f votes commit - counted f commit s;
+      «abort_proof» = forProof f votes abort - counted f abort s;
     })
-reachedBy logs f s =
-    Logs (record { commit = leb (forProof f logs commit) (counted f commit s); abort = leb (forProof f logs abort) (counted f abort s) })
+lackingBy logs f s =
+    Logs (record { commit = forProof f logs commit - counted f commit s; abort = forProof f logs abort - counted f abort s })
 
-unfoldable pub reached : ℕ → Sheet → Reply
-reached f s = reachedBy (kindOf (s .kind)) f s
+unfoldable pub lackingOn : ℕ → Sheet → Reply
+lackingOn f s = lackingBy (kindOf (s .kind)) f s
 
 -- "A refusal returns its number only. .. tally .. stay unchanged."; "A box already on the sheet then answers Repeat, sheet unchanged"
 unfoldable pub sheetBy : ℕ → Sheet → ℕ → ℕ → Sheet
@@ -104,7 +104,7 @@ sheetAfter s f number answer = sheetBy (answerWrong s f number answer) s number 
 
 -- the reply is of the sheet with the answer on it
 unfoldable pub replyBy : ℕ → Sheet → ℕ → ℕ → ℕ → Reply
-replyBy zero s f number answer = pick (on s number) Repeat (reached f (joined s number answer))
+replyBy zero s f number answer = pick (on s number) Repeat (lackingOn f (joined s number answer))
 replyBy (suc wrong) s f number answer = Refused (refusalOf (suc wrong))
 
 unfoldable pub replyTo : Sheet → ℕ → ℕ → ℕ → Reply

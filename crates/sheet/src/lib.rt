@@ -1,14 +1,13 @@
 // The gateway's tally sheet: for one transaction and one kind, which box has answered what. Counts are always taken from the masks.
 ghost use mathlib.Core.Path.{_≡_};
 ghost use mathlib.Core.Bool.{false};
-ghost use Prim.Native.Nat.{_<_, _≤_, _^_};
+ghost use Prim.Native.Nat.{_-_, _<_, _≤_, _^_};
 ghost use lib.Dec.{leb};
 ghost use Rattle.terms.specs.Choice.{any};
 ghost use Rattle.records.specs.Vl.{heldList};
-ghost use Rattle.rules.specs.Lists.{bit};
 ghost use Rattle.rules.specs.System.{howMany};
 ghost use Rattle.sheet.specs.Masks.{has, withBox};
-ghost use Rattle.sheet.specs.Sheets.{twice, sheetDamaged, sheetWrong, answerWrong, on, joined, reached, sheetAfter, replyTo, replyValues, emptySheet, numbers, under};
+ghost use Rattle.sheet.specs.Sheets.{twice, sheetDamaged, sheetWrong, answerWrong, on, joined, lackingOn, sheetAfter, replyTo, replyValues, emptySheet, numbers, under};
 ghost use Rattle.sheet.specs.Listing.{listFor, listFrom};
 use records::Pair;
 use records::VoteList;
@@ -24,34 +23,25 @@ pub struct Sheet {
     pub aborts: u32,
 }
 
-// Which thresholds of a sheet of votes are reached.
-pub struct VotesReached {
-    pub commit_list: bool,
-    pub abort_list: bool,
-    pub commit_proof: bool,
-    pub abort_proof: bool,
+// How many answers are lacking of each threshold of a sheet of votes; 0 where it is reached.
+pub struct VotesLacking {
+    pub commit_list: u8,
+    pub abort_list: u8,
+    pub commit_proof: u8,
+    pub abort_proof: u8,
 }
 
-// The same of a sheet of logs: the proof of each decision.
-pub struct LogsReached {
-    pub commit: bool,
-    pub abort: bool,
+// The same of a sheet of logs: of the proof of each decision.
+pub struct LogsLacking {
+    pub commit: u8,
+    pub abort: u8,
 }
 
 pub enum Reply {
-    Votes(VotesReached),
-    Logs(LogsReached),
+    Votes(VotesLacking),
+    Logs(LogsLacking),
     Repeat,
     Refused(Refusal),
-}
-
-fn bit_of(b: bool) -> u8
-    ensures { λ r. ⌜ r ≡ bit b ⌝ }
-{
-    if b {
-        return 1;
-    }
-    0
 }
 
 impl Reply {
@@ -62,12 +52,12 @@ impl Reply {
         match self {
             Reply::Votes(v) => [
                 1,
-                bit_of(v.commit_list),
-                bit_of(v.abort_list),
-                bit_of(v.commit_proof),
-                bit_of(v.abort_proof),
+                v.commit_list,
+                v.abort_list,
+                v.commit_proof,
+                v.abort_proof,
             ],
-            Reply::Logs(v) => [2, bit_of(v.commit), bit_of(v.abort), 0, 0],
+            Reply::Logs(v) => [2, v.commit, v.abort, 0, 0],
             Reply::Repeat => [3, 0, 0, 0, 0],
             Reply::Refused(why) => [4, why.number(), 0, 0, 0],
         }
@@ -239,25 +229,36 @@ fn join(s: Sheet, b: usize, answer: u64) -> Sheet
     }
 }
 
-// Which of the kind's thresholds are reached.
-fn reached_of(s: Sheet, g: Group) -> Reply
+// How many answers are lacking of a threshold; 0 where it is reached.
+fn lacking(need: usize, count: usize) -> u8
+    requires { ⌜ need ≤ 26 ⌝ }
+    ensures { λ r. ⌜ r ≡ need - count ⌝ }
+{
+    if need <= count {
+        return 0;
+    }
+    (need - count) as u8
+}
+
+// What is lacking of each of the kind's thresholds.
+fn lacking_of(s: Sheet, g: Group) -> Reply
     requires { ⌜ g .f ≤ 5 ⌝ }
-    ensures { λ r. ⌜ r ≡ reached (g .f) s ⌝ }
+    ensures { λ r. ⌜ r ≡ lackingOn (g .f) s ⌝ }
 {
     let n = g.n();
     let commits = counted(s.commits, n);
     let aborts = counted(s.aborts, n);
     if s.kind == 1 {
-        return Reply::Votes(VotesReached {
-            commit_list: g.commit_list() <= commits,
-            abort_list: g.abort_list() <= aborts,
-            commit_proof: g.commit_proof() <= commits,
-            abort_proof: g.abort_proof() <= aborts,
+        return Reply::Votes(VotesLacking {
+            commit_list: lacking(g.commit_list(), commits),
+            abort_list: lacking(g.abort_list(), aborts),
+            commit_proof: lacking(g.commit_proof(), commits),
+            abort_proof: lacking(g.abort_proof(), aborts),
         });
     }
-    Reply::Logs(LogsReached {
-        commit: g.log_proof() <= commits,
-        abort: g.log_proof() <= aborts,
+    Reply::Logs(LogsLacking {
+        commit: lacking(g.log_proof(), commits),
+        abort: lacking(g.log_proof(), aborts),
     })
 }
 
@@ -288,7 +289,7 @@ pub fn reply_to(s: Sheet, f: u64, number: u64, answer: u64) -> Reply
     if on_sheet(s, b) {
         return Reply::Repeat;
     }
-    reached_of(join(s, b, answer), Group { f: f as u8 })
+    lacking_of(join(s, b, answer), Group { f: f as u8 })
 }
 
 // A sheet takes one answer.

@@ -17,10 +17,11 @@ use Rattle.rules.specs.declared.Settled.the-variants.{None as unsettled, Is as 
 use Rattle.rules.specs.declared.Vote.{Vote}
 use Rattle.rules.specs.declared.Told.{Told}
 use Rattle.rules.specs.Bodies.{Body, sameBody, stampOf}
-use Rattle.rules.specs.Lists.{decisionOf, kindOf, forLogging, forProof, tally, meets}
+use Rattle.rules.specs.Lists.{decisionOf, kindOf, forLogging, forProof, lacking}
 use Rattle.rules.specs.Table.{Entry, Box, boxWith, find, voteIn}
 use Rattle.rules.specs.Calls.{Act, refuse, needing, prByDecision, prByEntry, prRule, lgByDecision, lgByEntry, lgRule, logAct, dcSame, dcOther, dcByEntry, dcRule}
 use Rattle.rules.proofs.Laws.{sameBody-eq}
+use Rattle.rules.proofs.Lacking.{few as too-few, enough as not-few}
 use Rattle.terms.proofs.Scans.{tab-length}
 use Rattle.table.specs.declared.State.{State}
 use Rattle.table.specs.Table.{entryAt, entries, entryWith, stateIn, place}
@@ -30,7 +31,6 @@ use Rattle.steps.specs.declared.Look.{Look}
 use Rattle.steps.specs.declared.Step.{Step}
 use Rattle.steps.specs.Step.{changeBy, stepBy, kept, put, heldBy, lookOf, prBy, lgBy, dcBy, dcProved}
 use Rattle.steps.proofs.Stored.{put-entry}
-use Rattle.steps.proofs.Tallying.{misses, reaches}
 
 -- a held entry with this body is this body with what stands beside it
 own : (b : Body) (e : Entry) → T (sameBody (e .body) b) → entryWith b (stateIn e) ≡ e
@@ -89,42 +89,41 @@ module _ (es : List Entry) (b : Body) (look : Look) (l : look ≡ lookOf es b) (
   unfolding dcProved
   dc-looked d = rw (at, what) (dc-entry (place (stampOf b) es) told (boxWith es marks) b d (find (stampOf b) es))
 
--- ---- thresholds: x pairs are counted, need of them are due
-module _ (l : VoteList) (x need : ℕ) (t : x ≡ tally (l .decision) (listIn l .pairs)) where
-  pub few : x < need → (i : ℕ) (a : Act) → kept (Refused TooFew) ≡ stepBy i (needing need (listIn l) a)
-  unfolding needing stepBy changeBy listIn
-  few m i a = rw (misses (listIn l) x need t m)
+-- ---- thresholds: need answers are due, k of them are lacking
+module _ (l : VoteList) (k need : ℕ) (t : k ≡ lacking need (listIn l)) where
+  few : (k ≡ 0 → ⊥) → (i : ℕ) (a : Act) → kept (Refused (TooFew k)) ≡ stepBy i (needing need (listIn l) a)
+  unfolding stepBy changeBy
+  few c i a = rw (too-few need (listIn l) a k t c)
 
-  pub enough : need ≤ x → (a : Act) → needing need (listIn l) a ≡ a
-  unfolding needing listIn
-  enough m a = rw (reaches (listIn l) x need t m)
+  enough : k ≡ 0 → (a : Act) → needing need (listIn l) a ≡ a
+  enough c a = not-few need (listIn l) a k t c
 
   -- LG, which asks for room after 11, or needs none
   module _ (f : ℕ) (d : Decision) (h : d ≡ decisionOf (l .decision)) (q : need ≡ forLogging f d) (i : ℕ) where
     abbrev N : ℕ
     N = forLogging f (decisionOf (listIn l .decision))
 
-    pub lg-few : x < need → (a : Act) → kept (Refused TooFew) ≡ stepBy i (needing N (listIn l) a)
+    pub lg-few : (k ≡ 0 → ⊥) → (a : Act) → kept (Refused (TooFew k)) ≡ stepBy i (needing N (listIn l) a)
     unfolding listIn
     lg-few c a = rw (← h, ← q) (few c i a)
 
-    pub lg-full : need ≤ x → (full : Bool) → full ≡ true → (a : Act) → kept (Refused Full) ≡ stepBy i (needing N (listIn l) (pick full (refuse Full) a))
+    pub lg-full : k ≡ 0 → (full : Bool) → full ≡ true → (a : Act) → kept (Refused Full) ≡ stepBy i (needing N (listIn l) (pick full (refuse Full) a))
     unfolding listIn stepBy changeBy
     lg-full c full y a = rw (← h, ← q, enough c _, y)
 
-    pub lg-logs : need ≤ x → (full : Bool) → full ≡ false → (v : Vote) (b : Body) (o : Option Entry) → voteIn o ≡ v
+    pub lg-logs : k ≡ 0 → (full : Bool) → full ≡ false → (v : Vote) (b : Body) (o : Option Entry) → voteIn o ≡ v
         → put i (record { vote = v; log = settled d; decided = unsettled }) (Logged d)
         ≡ stepBy i (needing N (listIn l) (pick full (refuse Full) (logAct b (decisionOf (listIn l .decision)) o)))
     unfolding listIn logAct stepBy changeBy stateIn
     lg-logs c full y v b o w = rw (← h, ← q, enough c _, y, w)
 
   -- "11 first."
-  module _ (told : Told) (d : Decision) (h : d ≡ decisionOf (l .decision)) (k : Kind) (a : k ≡ kindOf (l .kind)) (q : need ≡ forProof (told .f) k d)
+  module _ (told : Told) (d : Decision) (h : d ≡ decisionOf (l .decision)) (kind : Kind) (a : kind ≡ kindOf (l .kind)) (q : need ≡ forProof (told .f) kind d)
       (es : List Entry) (marks : List ℕ) (b : Body) where
-    pub dc-few : x < need → kept (Refused TooFew) ≡ stepBy (place (stampOf b) es) (dcRule told (boxWith es marks) b (listIn l))
+    pub dc-few : (k ≡ 0 → ⊥) → kept (Refused (TooFew k)) ≡ stepBy (place (stampOf b) es) (dcRule told (boxWith es marks) b (listIn l))
     unfolding dcRule listIn
     dc-few c = rw (← a, ← h, ← q) (few c (place (stampOf b) es) _)
 
-    pub dc-enough : need ≤ x → dcProved told es marks b d ≡ stepBy (place (stampOf b) es) (dcRule told (boxWith es marks) b (listIn l))
+    pub dc-enough : k ≡ 0 → dcProved told es marks b d ≡ stepBy (place (stampOf b) es) (dcRule told (boxWith es marks) b (listIn l))
     unfolding dcRule dcProved listIn
     dc-enough c = rw (← a, ← h, ← q, enough c _)

@@ -4,8 +4,7 @@ use native.Mathlib.Omega.{arith}
 use native.Mathlib.Nat.{sub-zero, zero-add}
 use mathlib.Core.Path.{_≡_}
 use mathlib.Core.Logic.{_⊎_, inl, inr}
-use mathlib.Core.Bool.{true, false}
-use borrow.Author.Tests.{eq-eqb, ne-eqb, le-leb, lt-leb}
+use borrow.Author.Tests.{eq-eqb, ne-eqb}
 use lib.Dec.{eqb}
 use Rattle.terms.specs.Choice.{tab}
 use Rattle.records.specs.declared.Pair.{Pair}
@@ -13,9 +12,9 @@ use Rattle.records.specs.Vl.{Vl}
 use Rattle.terms.specs.declared.Decision.{Decision}
 use Rattle.terms.specs.declared.Decision.the-variants.{Commit as commit, Abort as abort}
 use Rattle.terms.specs.declared.Kind.{Kind}
-use Rattle.terms.specs.declared.Kind.the-variants.{Logs as logs}
+use Rattle.terms.specs.declared.Kind.the-variants.{Votes as votes, Logs as logs}
 use Rattle.terms.specs.Group.{logProof}
-use Rattle.rules.specs.Lists.{bit, tally, meets, forProof}
+use Rattle.rules.specs.Lists.{bit, tally, lacking, forLogging, forProof}
 
 -- after an `if`: by one branch or by the other
 pub by-branch : {A B C : Type 0} → A ⊎ B → (A → C) → (B → C) → C
@@ -58,15 +57,26 @@ module _ {d : ℕ} {f : ℕ → Pair} {n : ℕ} where
         let q = rw e at (r .same) in
         omega arith
 
--- "the list misses its threshold", and meets it
+-- how many are lacking of need, x being counted
 module _ (l : Vl) (x need : ℕ) (e : x ≡ tally (l .decision) (l .pairs)) where
-  pub misses : x < need → meets need l ≡ false
-  unfolding meets
-  misses h = lt-leb need (tally (l .decision) (l .pairs)) (omega arith)
+  pub some-lack : (k : ℕ) → x < need → k ≡ need - x → k ≡ lacking need l
+  unfolding lacking
+  some-lack k h q = omega arith
 
-  pub reaches : need ≤ x → meets need l ≡ true
-  unfolding meets
-  reaches h = le-leb need (tally (l .decision) (l .pairs)) (omega arith)
+  pub none-lack : need ≤ x → 0 ≡ lacking need l
+  unfolding lacking
+  none-lack h = omega arith
+
+-- no threshold is above 26
+pub log-small : (f : ℕ) (d : Decision) → f ≤ 5 → forLogging f d ≤ 26
+log-small f commit h = omega arith
+log-small f abort h = omega arith
+
+pub proof-small : (f : ℕ) (k : Kind) (d : Decision) → f ≤ 5 → forProof f k d ≤ 26
+proof-small f votes commit h = omega arith
+proof-small f votes abort h = omega arith
+proof-small f logs commit h = omega arith
+proof-small f logs abort h = omega arith
 
 -- "proof from logs: 4f + 1 equal logged decisions", of either
 pub by-logs : (f : ℕ) (k : Kind) (d : Decision) → k ≡ logs → logProof f ≡ forProof f k d

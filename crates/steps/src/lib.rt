@@ -11,7 +11,7 @@ ghost use Rattle.records.specs.Tx.{TxThere};
 ghost use Rattle.records.specs.Vl.{listIn};
 ghost use Rattle.rules.specs.declared.Answer.the-variants.{Refused};
 ghost use Rattle.rules.specs.Bodies.{Body, stampOf};
-ghost use Rattle.rules.specs.Lists.{decisionOf, kindOf, forLogging, forProof, tally};
+ghost use Rattle.rules.specs.Lists.{decisionOf, kindOf, forLogging, forProof, tally, lacking};
 ghost use Rattle.rules.specs.Table.{Box, Entry, boxWith, voteIn};
 ghost use Rattle.rules.specs.Calls.{needing, refuse, sameDecision, prByVote, prRule, logAct, lgByLog, lgRule, decideAct, dcSame, dcOther, dcByEntry, dcRule, rdRule};
 ghost use Rattle.terms.specs.declared.Decision.the-variants.{Commit as commit};
@@ -93,6 +93,18 @@ fn tally(l: VoteList) -> usize
         j += 1;
     }
     found
+}
+
+// How many answers are lacking of those that are due.
+fn lacking(l: VoteList, need: usize) -> u8
+    requires { ⌜ (l .count ≤ 26) × (need ≤ 26) ⌝ }
+    ensures { λ r. ⌜ r ≡ lacking need (listIn l) ⌝ }
+{
+    let counted = tally(l);
+    if counted < need {
+        return (need - counted) as u8;
+    }
+    0
 }
 
 fn kind_of(code: u8) -> Kind
@@ -283,8 +295,9 @@ fn lg_unlogged(i: usize, full: bool, vote: Vote, told: Told, l: VoteList) -> Ste
     ensures { λ r. ⌜ ((b : Body) (o : Option Entry) → voteIn o ≡ vote → r ≡ stepBy i (needing (forLogging (told .f) (decisionOf (listIn l .decision))) (listIn l) (pick full (refuse Full) (logAct b (decisionOf (listIn l .decision)) o)))) ⌝ }
 {
     let d = decision_of(l.decision);
-    if tally(l) < log_need(group_of(told), d) {
-        return Step::refuse(Refusal::TooFew);
+    let lacks = lacking(l, log_need(group_of(told), d));
+    if lacks != 0 {
+        return Step::refuse(Refusal::TooFew(lacks));
     }
     if full {
         return Step::refuse(Refusal::Full);
@@ -434,8 +447,9 @@ pub fn dc_step(t: &[u8], n: usize, told: Told, b: &[u8], l: VoteList) -> Step
     ensures { λ r. ⌜ ((marks : List ℕ) → r ≡ stepBy (place (stampOf (now (b .entry))) (entries (now (t .entry)) n)) (dcRule told (boxWith (entries (now (t .entry)) n) marks) (now (b .entry)) (listIn l))) ⌝ }
 {
     let d = decision_of(l.decision);
-    if tally(l) < proof_need(group_of(told), kind_of(l.kind), d) {
-        return Step::refuse(Refusal::TooFew);
+    let lacks = lacking(l, proof_need(group_of(told), kind_of(l.kind), d));
+    if lacks != 0 {
+        return Step::refuse(Refusal::TooFew(lacks));
     }
     dc_proved(t, n, told, b, d)
 }

@@ -1,25 +1,47 @@
--- A refusal is told by its number: no two have the same one.
-use mathlib.Core.Path.{_≡_, refl}
+-- A refusal is told by its values: no two have the same ones.
+use Prim.Native.Nat.{ℕ}
+use mathlib.Core.Path.{_≡_, refl, sym, ap, _∙_}
+use mathlib.Core.List.{List, [], _∷_, map}
+use lib.Dec.{eqb}
+use lib.ListN.{getD}
+use Rattle.terms.specs.Choice.{pick}
 use Rattle.terms.specs.declared.Refusal.{Refusal}
 use Rattle.terms.specs.declared.Refusal.the-variants.{Short, Mark, Count, Trailing, Range, Order, Misbehaviour, Code, OtherBody, Unknown, TooFew, Contradiction, Full, Group, Ahead, Table, Buffer}
-use Rattle.terms.specs.Refusals.{numberOf, refusalOf}
+use Rattle.terms.specs.Refusals.{refusalValues, numberOf, refusalOf}
 
-pub number-tells : (r : Refusal) → refusalOf (numberOf r) ≡ r
+-- the refusal with these values
+unfoldable refusalIn : List ℕ → Refusal
+refusalIn v =
+    pick (eqb (getD v 0 0) 9) OtherBody
+    (pick (eqb (getD v 0 0) 10) Unknown
+    (pick (eqb (getD v 0 0) 11) (TooFew (getD v 1 0))
+    (pick (eqb (getD v 0 0) 12) Contradiction
+    (pick (eqb (getD v 0 0) 13) Full (refusalOf (getD v 0 0))))))
+
+back : (r : Refusal) → refusalIn (refusalValues r) ≡ r
+unfolding refusalIn refusalOf
+back Short = refl
+back Mark = refl
+back Count = refl
+back Trailing = refl
+back Range = refl
+back Order = refl
+back Misbehaviour = refl
+back Code = refl
+back OtherBody = refl
+back Unknown = refl
+back (TooFew lacking) = refl
+back Contradiction = refl
+back Full = refl
+back Group = refl
+back Ahead = refl
+back Table = refl
+back Buffer = refl
+
+pub values-tell : (a b : Refusal) → refusalValues a ≡ refusalValues b → a ≡ b
+values-tell a b e = sym (back a) ∙ (ap refusalIn e ∙ back b)
+
+-- a check's number is that of its refusal
+pub number-kept : map (λ n. numberOf (refusalOf n)) (1 ∷ 2 ∷ 3 ∷ 4 ∷ 5 ∷ 6 ∷ 7 ∷ 8 ∷ 14 ∷ 15 ∷ 16 ∷ 17 ∷ []) ≡ 1 ∷ 2 ∷ 3 ∷ 4 ∷ 5 ∷ 6 ∷ 7 ∷ 8 ∷ 14 ∷ 15 ∷ 16 ∷ 17 ∷ []
 unfolding refusalOf
-number-tells Short = refl
-number-tells Mark = refl
-number-tells Count = refl
-number-tells Trailing = refl
-number-tells Range = refl
-number-tells Order = refl
-number-tells Misbehaviour = refl
-number-tells Code = refl
-number-tells OtherBody = refl
-number-tells Unknown = refl
-number-tells TooFew = refl
-number-tells Contradiction = refl
-number-tells Full = refl
-number-tells Group = refl
-number-tells Ahead = refl
-number-tells Table = refl
-number-tells Buffer = refl
+number-kept = refl

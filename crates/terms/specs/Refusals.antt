@@ -1,30 +1,39 @@
--- "Refusal numbers": each refusal's number in the papers, and the refusal of a number.
+-- "Refusal numbers": what each refusal tells, its number in the papers first, and the refusal of a check's number.
 use Prim.Native.Nat.{ℕ}
+use mathlib.Core.List.{List, [], _∷_}
 use lib.Dec.{eqb}
+use lib.ListN.{getD}
 use Rattle.terms.specs.Choice.{pick}
 use Rattle.terms.specs.declared.Refusal.{Refusal}
 use Rattle.terms.specs.declared.Refusal.the-variants.{Short, Mark, Count, Trailing, Range, Order, Misbehaviour, Code, OtherBody, Unknown, TooFew, Contradiction, Full, Group, Ahead, Table, Buffer}
 
-abbrev pub numberOf : Refusal → ℕ
-numberOf Short = 1
-numberOf Mark = 2
-numberOf Count = 3
-numberOf Trailing = 4
-numberOf Range = 5
-numberOf Order = 6
-numberOf Misbehaviour = 7
-numberOf Code = 8
-numberOf OtherBody = 9
-numberOf Unknown = 10
-numberOf TooFew = 11
-numberOf Contradiction = 12
-numberOf Full = 13
-numberOf Group = 14
-numberOf Ahead = 15
-numberOf Table = 16
-numberOf Buffer = 17
+-- its number, and then how many counted answers are lacking: A1, "Refusal 11 should carry how many counted answers are lacking"; 0 beside every other one
+abbrev pub refusalValues : Refusal → List ℕ
+refusalValues Short = 1 ∷ 0 ∷ []
+refusalValues Mark = 2 ∷ 0 ∷ []
+refusalValues Count = 3 ∷ 0 ∷ []
+refusalValues Trailing = 4 ∷ 0 ∷ []
+refusalValues Range = 5 ∷ 0 ∷ []
+refusalValues Order = 6 ∷ 0 ∷ []
+refusalValues Misbehaviour = 7 ∷ 0 ∷ []
+refusalValues Code = 8 ∷ 0 ∷ []
+refusalValues OtherBody = 9 ∷ 0 ∷ []
+refusalValues Unknown = 10 ∷ 0 ∷ []
+refusalValues (TooFew lacking) = 11 ∷ lacking ∷ []
+refusalValues Contradiction = 12 ∷ 0 ∷ []
+refusalValues Full = 13 ∷ 0 ∷ []
+refusalValues Group = 14 ∷ 0 ∷ []
+refusalValues Ahead = 15 ∷ 0 ∷ []
+refusalValues Table = 16 ∷ 0 ∷ []
+refusalValues Buffer = 17 ∷ 0 ∷ []
 
--- the other way: the refusal whose number it is; 17 stands for every number past 16
+abbrev pub numberOf : Refusal → ℕ
+numberOf r = getD (refusalValues r) 0 0
+
+abbrev pub lackingOf : Refusal → ℕ
+lackingOf r = getD (refusalValues r) 1 0
+
+-- the refusal that a check's number stands for; a check gives 1 to 8 and 14 to 17, never 9 to 13, which are the rules', and 17 stands for all others
 unfoldable pub refusalOf : ℕ → Refusal
 refusalOf n =
     pick (eqb n 1) Short
@@ -35,11 +44,6 @@ refusalOf n =
     (pick (eqb n 6) Order
     (pick (eqb n 7) Misbehaviour
     (pick (eqb n 8) Code
-    (pick (eqb n 9) OtherBody
-    (pick (eqb n 10) Unknown
-    (pick (eqb n 11) TooFew
-    (pick (eqb n 12) Contradiction
-    (pick (eqb n 13) Full
     (pick (eqb n 14) Group
     (pick (eqb n 15) Ahead
-    (pick (eqb n 16) Table Buffer)))))))))))))))
+    (pick (eqb n 16) Table Buffer))))))))))

@@ -2,7 +2,7 @@
 ghost use mathlib.Core.Path.{_≡_};
 ghost use Rattle.terms.specs.Checks.{orElse, when};
 ghost use Rattle.terms.specs.Codes.{decisionNumber};
-ghost use Rattle.terms.specs.Refusals.{numberOf, refusalOf};
+ghost use Rattle.terms.specs.Refusals.{refusalValues, numberOf, lackingOf, refusalOf};
 ghost use Rattle.terms.specs.Group.{boxes, commitList, abortList, commitProof, abortProof, logProof, groupWrong, groupOf};
 
 // A moment and a writer; 1 or more where it is in order.
@@ -94,7 +94,8 @@ pub enum Refusal {
     Code,
     OtherBody,
     Unknown,
-    TooFew,
+    // How many counted answers are lacking, 1 to the threshold.
+    TooFew(u8),
     Contradiction,
     Full,
     Group,
@@ -104,32 +105,46 @@ pub enum Refusal {
 }
 
 impl Refusal {
-    // The paper's number.
-    pub fn number(self) -> u8
-        ensures { λ r. ⌜ r ≡ numberOf self ⌝ }
+    // The paper's number, and how many counted answers are lacking: 0 beside all but 11.
+    pub fn values(self) -> [u8; 2]
+        ensures { λ r. ⌜ r ≡ refusalValues self ⌝ }
     {
         match self {
-            Refusal::Short => 1,
-            Refusal::Mark => 2,
-            Refusal::Count => 3,
-            Refusal::Trailing => 4,
-            Refusal::Range => 5,
-            Refusal::Order => 6,
-            Refusal::Misbehaviour => 7,
-            Refusal::Code => 8,
-            Refusal::OtherBody => 9,
-            Refusal::Unknown => 10,
-            Refusal::TooFew => 11,
-            Refusal::Contradiction => 12,
-            Refusal::Full => 13,
-            Refusal::Group => 14,
-            Refusal::Ahead => 15,
-            Refusal::Table => 16,
-            Refusal::Buffer => 17,
+            Refusal::Short => [1, 0],
+            Refusal::Mark => [2, 0],
+            Refusal::Count => [3, 0],
+            Refusal::Trailing => [4, 0],
+            Refusal::Range => [5, 0],
+            Refusal::Order => [6, 0],
+            Refusal::Misbehaviour => [7, 0],
+            Refusal::Code => [8, 0],
+            Refusal::OtherBody => [9, 0],
+            Refusal::Unknown => [10, 0],
+            Refusal::TooFew(lacking) => [11, lacking],
+            Refusal::Contradiction => [12, 0],
+            Refusal::Full => [13, 0],
+            Refusal::Group => [14, 0],
+            Refusal::Ahead => [15, 0],
+            Refusal::Table => [16, 0],
+            Refusal::Buffer => [17, 0],
         }
     }
 
-    // The refusal with this number.
+    pub fn number(self) -> u8
+        ensures { λ r. ⌜ r ≡ numberOf self ⌝ }
+    {
+        let values = self.values();
+        values[0]
+    }
+
+    pub fn lacking(self) -> u8
+        ensures { λ r. ⌜ r ≡ lackingOf self ⌝ }
+    {
+        let told = self.values();
+        told[1]
+    }
+
+    // The refusal that a check's number stands for.
     pub fn of(n: u8) -> Self
         ensures { λ r. ⌜ r ≡ refusalOf n ⌝ }
     {
@@ -142,11 +157,6 @@ impl Refusal {
             6 => Refusal::Order,
             7 => Refusal::Misbehaviour,
             8 => Refusal::Code,
-            9 => Refusal::OtherBody,
-            10 => Refusal::Unknown,
-            11 => Refusal::TooFew,
-            12 => Refusal::Contradiction,
-            13 => Refusal::Full,
             14 => Refusal::Group,
             15 => Refusal::Ahead,
             16 => Refusal::Table,

@@ -9,6 +9,7 @@ use Rattle.rules.proofs.Vote.number.Reads as Vote-number-reads
 use Rattle.rules.proofs.Vote.reason.Reads as reason-reads
 use Rattle.terms.proofs.Decision.number.Reads as Decision-number-reads
 use Rattle.terms.proofs.Refusal.number.Reads as Refusal-number-reads
+use Rattle.terms.proofs.Refusal.lacking.Reads as lacking-reads
 
 enum-known-a : tie.Need-enum-known-a
 enum-known-a c = search needs
@@ -58,6 +59,12 @@ number-requires-4 c κs = search needs
 widened-requires-5 : tie.Need-widened-requires-5
 widened-requires-5 c κs = search needs
 
+lacking-requires : tie.Need-lacking-requires
+lacking-requires c κs = search needs
+
+widened-requires-6 : tie.Need-widened-requires-6
+widened-requires-6 c κs = search needs
+
 returns : tie.Need-returns
 returns c = rw (c .before .before .before .before .before .a .given .1, c .before .before .widened .ensures .0, c .before .before .before .number .ensures, c .widened2 .ensures .0, c .before .reason .ensures)
 
@@ -74,7 +81,7 @@ returns-5 : tie.Need-returns-5
 returns-5 c = rw (c .before .a4 .given .1)
 
 returns-6 : tie.Need-returns-6
-returns-6 c = rw (c .before .before .before .a5 .given .1, c .widened5 .ensures .0, c .before .number4 .ensures)
+returns-6 c = rw (c .before .before .before .before .before .a5 .given .1, c .before .before .widened5 .ensures .0, c .before .before .before .number4 .ensures, c .widened6 .ensures .0, c .before .lacking .ensures)
 
 pub values-spec : {M : Type 1} → statement M
 values-spec =
@@ -96,6 +103,8 @@ values-spec =
     enum-known-a-5
     number-requires-4
     widened-requires-5
+    lacking-requires
+    widened-requires-6
     returns
     returns-2
     returns-3

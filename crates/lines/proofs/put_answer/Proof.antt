@@ -1,9 +1,16 @@
 use Rattle.lines.proofs.Putting.{puts-text, puts-both, puts-within}
-use Rattle.lines.specs.Lines.{answerText, decidedBlank, loggedBlank, refusedBlank}
+use Rattle.lines.specs.Lines.{answerText, decidedBlank, loggedBlank}
 use native.Mathlib.Omega.{arith}
 use borrow.Author.Needs.{needs}
 use Rattle.lines.proofs.put_answer.Statement.{statement}
 use Rattle.lines.proofs.put_answer.Tie as tie
+use Rattle.lines.proofs.put_answer.Reads as reads
+use Rattle.lines.proofs.put_answer.Lts as lts
+use Rattle.lines.proofs.put_decision.Reads as put-decision-reads
+use Rattle.lines.proofs.put_found.Reads as put-found-reads
+use Rattle.lines.proofs.put_refusal.Reads as put-refusal-reads
+use Rattle.lines.proofs.put_text.Reads as put-text-reads
+use Rattle.lines.proofs.put_vote.Reads as put-vote-reads
 
 enum-known-answer : tie.Need-enum-known-answer
 enum-known-answer c = search needs
@@ -53,20 +60,8 @@ put-found-requires c κs = search needs
 enum-known-answer-5 : tie.Need-enum-known-answer-5
 enum-known-answer-5 c = search needs
 
-slice-aggregate-put-text-4 : tie.Need-slice-aggregate-put-text-4
-slice-aggregate-put-text-4 c = search needs
-
-put-text-requires-4 : tie.Need-put-text-requires-4
-put-text-requires-4 c κs = search needs
-
-number-requires : tie.Need-number-requires
-number-requires c κs = search needs
-
-cast-put-decimal : tie.Need-cast-put-decimal
-cast-put-decimal c = search needs
-
-put-decimal-requires : tie.Need-put-decimal-requires
-put-decimal-requires c κs = search needs
+put-refusal-requires : tie.Need-put-refusal-requires
+put-refusal-requires c κs = search needs
 
 same-length : tie.Need-same-length
 same-length c = search needs
@@ -116,11 +111,7 @@ same-length-6 c = search needs
 
 returns-6 : tie.Need-returns-6
 unfolding answerText
-returns-6 c =
-    let w = c .before .before .before .before .before .before .before in
-    let h = puts-text {t = refusedBlank} {n = 8} (w .put-text4 .ensures) (omega arith) in
-    rw (w .before .before .before .before .answer5 .given .1, ← c .before .before .before .number .ensures)
-    (puts-within (puts-both h (c .before .before .put-decimal .ensures) (omega arith)) (omega arith))
+returns-6 c = rw (c .before .before .before .before .before .answer5 .given .1) (puts-within (c .before .before .put-refusal .ensures) (omega arith))
 
 pub put-answer-spec : {M : Type 1} → statement M
 put-answer-spec =
@@ -142,11 +133,7 @@ put-answer-spec =
     enum-known-answer-4
     put-found-requires
     enum-known-answer-5
-    slice-aggregate-put-text-4
-    put-text-requires-4
-    number-requires
-    cast-put-decimal
-    put-decimal-requires
+    put-refusal-requires
     same-length
     returns
     same-length-2

@@ -1,4 +1,4 @@
-use Rattle.sheet.proofs.Sheets.{small-box, reply-refused, reply-repeat, reply-reached}
+use Rattle.sheet.proofs.Sheets.{small-box, reply-refused, reply-repeat, reply-lacking}
 use native.Mathlib.Omega.{arith}
 use borrow.Author.Needs.{needs}
 use Rattle.sheet.proofs.reply_to.Statement.{statement}
@@ -25,11 +25,11 @@ join-requires c κs = (omega (arith, small-box _ _ _ _ _ (c .before .before .bef
 cast-t11 : tie.Need-cast-t11
 cast-t11 c = let g = small-box _ _ _ _ _ (c .before .before .before .before .answer-wrong .ensures) (c .before .before .before .if1 .left) in search needs
 
-reached-of-requires : tie.Need-reached-of-requires
-reached-of-requires c κs = small-box _ _ _ _ _ (c .before .before .before .before .answer-wrong .ensures) (c .before .before .before .if1 .left) .1
+lacking-of-requires : tie.Need-lacking-of-requires
+lacking-of-requires c κs = small-box _ _ _ _ _ (c .before .before .before .before .answer-wrong .ensures) (c .before .before .before .if1 .left) .1
 
 returns-3 : tie.Need-returns-3
-returns-3 c = reply-reached _ _ _ _ (cc) _ (cc) (cc)
+returns-3 c = reply-lacking _ _ _ _ (cc) _ (cc) (cc)
 
 pub reply-to-spec : {M : Type 1} → statement M
 reply-to-spec =
@@ -42,5 +42,5 @@ reply-to-spec =
     returns-2
     join-requires
     cast-t11
-    reached-of-requires
+    lacking-of-requires
     returns-3)

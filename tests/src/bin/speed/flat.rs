@@ -257,14 +257,14 @@ impl List<'_> {
         self.pairs.chunks_exact(2).filter(|pair| pair[1] == self.decision).count()
     }
 
-    /// Whether it meets its threshold, for logging or as a proof.
-    fn meets(&self, settings: &Settings, logging: bool) -> bool {
+    /// How many counted answers it lacks, for logging or as a proof.
+    fn lacking(&self, settings: &Settings, logging: bool) -> u8 {
         let column = match (logging, self.kind, self.decision) {
             (true, _, decision) => decision as usize - 1,
             (false, 1, decision) => decision as usize + 1,
             (false, _, _) => 4,
         };
-        self.counted() >= THRESHOLDS[settings.f as usize - 1][column]
+        THRESHOLDS[settings.f as usize - 1][column].saturating_sub(self.counted()) as u8
     }
 }
 
@@ -319,8 +319,9 @@ fn prepare(rows: Rows, marks: &[u64], tx: Body, settings: &Settings) -> Step {
 
 fn log(rows: Rows, tx: Body, list: &List, settings: &Settings) -> Step {
     let Some(place) = rows.place(tx.stamp()) else {
-        if !list.meets(settings, true) {
-            return keep(Answer::Refused(11));
+        let lacking = list.lacking(settings, true);
+        if lacking > 0 {
+            return keep(Answer::TooFew(lacking));
         }
         if rows.0.len() as u64 >= settings.capacity {
             return keep(Answer::Refused(13));
@@ -339,15 +340,17 @@ fn log(rows: Rows, tx: Body, list: &List, settings: &Settings) -> Step {
     if codes.log != NONE {
         return keep(Answer::Logged(decision(codes.log)));
     }
-    if !list.meets(settings, true) {
-        return keep(Answer::Refused(11));
+    let lacking = list.lacking(settings, true);
+    if lacking > 0 {
+        return keep(Answer::TooFew(lacking));
     }
     (Answer::Logged(decision(list.decision)), Some((place, Codes { log: list.decision, ..codes })))
 }
 
 fn decide(rows: Rows, tx: Body, list: &List, settings: &Settings) -> Step {
-    if !list.meets(settings, false) {
-        return keep(Answer::Refused(11));
+    let lacking = list.lacking(settings, false);
+    if lacking > 0 {
+        return keep(Answer::TooFew(lacking));
     }
     let alone = Codes { vote: NONE, reason: 0, log: NONE, decided: list.decision };
     let Some(place) = rows.place(tx.stamp()) else {

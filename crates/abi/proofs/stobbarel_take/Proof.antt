@@ -2,10 +2,10 @@ use mathlib.Core.Path.{_∙_, ap}
 use Rattle.sheet.specs.Sheets.{replyValues}
 use native.Mathlib.Omega.{arith}
 use borrow.Author.Needs.{needs}
-use Rattle.abi.proofs.stobbarel_tally.Statement.{statement}
-use Rattle.abi.proofs.stobbarel_tally.Tie as tie
-use Rattle.abi.proofs.stobbarel_tally.Reads as reads
-use Rattle.abi.proofs.stobbarel_tally.Lts as lts
+use Rattle.abi.proofs.stobbarel_take.Statement.{statement}
+use Rattle.abi.proofs.stobbarel_take.Tie as tie
+use Rattle.abi.proofs.stobbarel_take.Reads as reads
+use Rattle.abi.proofs.stobbarel_take.Lts as lts
 use Rattle.abi.proofs.put_reply.Reads as put-reply-reads
 use Rattle.sheet.proofs.Reply.values.Reads as values-reads
 use Rattle.sheet.proofs.added.Reads as added-reads
@@ -26,7 +26,7 @@ put-reply-requires c κs = search needs
 returns : tie.Need-returns
 returns c = (c .put-reply .ensures ∙ c .before .values .ensures ∙ ap replyValues (c .before .before .before .before .reply-to .ensures), ap (λ x. x .commits) (c .before .before .before .added .ensures), ap (λ x. x .aborts) (c .before .before .before .added .ensures))
 
-pub stobbarel-tally-spec : {M : Type 1} → statement M
-stobbarel-tally-spec =
+pub stobbarel-take-spec : {M : Type 1} → statement M
+stobbarel-take-spec =
     tie.close
     (tie.spec reply-to-requires added-requires values-requires put-reply-requires returns)

@@ -1,9 +1,9 @@
--- What a sheet says is what a box finds: the list from a sheet passes a box's checks, and meets the thresholds that the reply says are reached.
-use Prim.Native.Nat.{ℕ, suc, _<_, _≤_}
+-- What a sheet tells is what a box tells: the list from a sheet passes a box's checks, and lacks of each threshold what the reply says.
+use Prim.Native.Nat.{ℕ, zero, suc, _-_, _<_, _≤_}
 use native.Mathlib.Omega.{arith}
 use mathlib.Core.Path.{_≡_, refl, ap, sym, _∙_}
 use mathlib.Core.Bool.{Bool, true, false}
-use lib.Dec.{eqb, leb, leb→le}
+use lib.Dec.{eqb}
 use lib.ListN.{length}
 use Rattle.terms.specs.Choice.{pick}
 use Rattle.terms.specs.Checks.{orElse, ifSame, ifLess, count as few, code}
@@ -18,15 +18,17 @@ use Rattle.records.specs.Vl.{heldList, listIn}
 use Rattle.records.specs.Contents.{answerOdd, codeWrong, countWrong, listWrong, logListWrong}
 use Rattle.records.proofs.Held.{list-in}
 use Rattle.terms.specs.Codes.{decisionNumber}
-use Rattle.rules.specs.Lists.{decisionOf, forLogging, forProof, kindOf, meets}
+use Rattle.rules.specs.Lists.{decisionOf, forLogging, forProof, kindOf, lacking}
+use Rattle.rules.specs.Calls.{Act, needing}
 use Rattle.rules.specs.System.{howMany}
+use Rattle.rules.proofs.Lacking as rules
 use Rattle.sheet.specs.declared.Sheet.{Sheet}
 use Rattle.sheet.specs.Masks.{has}
-use Rattle.sheet.specs.Sheets.{answerWrong, counted, joined, on, reached, reachedBy, replyTo, sheetAfter, sheetDamaged, sheetWrong, under}
-use Rattle.sheet.specs.Listing.{judged, listFrom, listFor, loggingMet, proofMet}
+use Rattle.sheet.specs.Sheets.{answerWrong, counted, joined, lackingBy, lackingOn, on, replyTo, sheetAfter, sheetDamaged, sheetWrong, under}
+use Rattle.sheet.specs.Listing.{BoxesTellTheSame, TellsAsBoxes, boxesTell, dcLacks, dcNeed, lgLacks, lgNeed, listFrom, listFor, withLacking}
 use Rattle.sheet.proofs.Listed.{list-is, listed-answers, listed-below, listed-length, listed-rises, listed-tally}
 use Rattle.sheet.proofs.Masks.{count-most}
-use Rattle.sheet.proofs.Sheets.{after-joined, reply-reached, right-answer, right-box, right-sheet, sheet-group}
+use Rattle.sheet.proofs.Sheets.{after-joined, reply-lacking, right-answer, right-box, right-sheet, sheet-group}
 use Rattle.sheet.proofs.Sound.{joins-sound, one-or-two}
 
 -- what one check of a number shows, another shows too
@@ -52,6 +54,17 @@ answer-even : (d : Decision) → answerOdd (record { number = 0; answer = decisi
 answer-even commit = refl
 answer-even abort = refl
 
+-- every threshold asks for a box
+some-logging : (f : ℕ) (d : Decision) → 1 ≤ forLogging f d
+some-logging f commit = omega arith
+some-logging f abort = omega arith
+
+some-proof : (f : ℕ) (k : Kind) (d : Decision) → 1 ≤ forProof f k d
+some-proof f votes commit = omega arith
+some-proof f votes abort = omega arith
+some-proof f logs commit = omega arith
+some-proof f logs abort = omega arith
+
 module _ (s : Sheet) (f : ℕ) (sound : sheetWrong f s ≡ 0) where
   kind-right : codeWrong (s .kind) ≡ 0
   unfolding codeWrong sheetWrong sheetDamaged
@@ -66,9 +79,9 @@ module _ (s : Sheet) (f : ℕ) (sound : sheetWrong f s ≡ 0) where
   unfolding listFor counted
   list-counts d = rw (list-is s f d sound) (listed-length (has (under d s)) (decisionNumber d) (boxes f))
 
-  pub list-meets : (need : ℕ) (d : Decision) → meets need (listFrom s f d) ≡ leb need (counted f d s)
-  unfolding meets listFor counted
-  list-meets need d = rw (list-is s f d sound, listed-tally (has (under d s)) (decisionNumber d) (boxes f))
+  pub list-lacks : (need : ℕ) (d : Decision) → lacking need (listFrom s f d) ≡ need - counted f d s
+  unfolding lacking listFor counted
+  list-lacks need d = rw (list-is s f d sound, listed-tally (has (under d s)) (decisionNumber d) (boxes f))
 
   -- a list of one box or more has no refusal 3
   pub list-count : (d : Decision) → 0 < counted f d s → countWrong (length (listFrom s f d .pairs)) ≡ 0
@@ -103,56 +116,63 @@ module _ (s : Sheet) (f : ℕ) (sound : sheetWrong f s ≡ 0) where
   unfolding listFor
   decision-listed d = rw (list-is s f d sound) (decision-known d)
 
-  -- a box that gets the list in an LG, or in a DC, finds the threshold met just where the sheet has as many boxes
-  pub logged-is : (d : Decision) → loggingMet f (listFrom s f d) ≡ leb (forLogging f d) (counted f d s)
-  unfolding loggingMet
-  logged-is d = ap (λ (x : Decision). meets (forLogging f x) (listFrom s f d)) (decision-listed d) ∙ list-meets (forLogging f d) d
+  -- the threshold that a box asks of the list is that of the sheet's kind and the decision
+  lg-need : (d : Decision) → lgNeed f (listFrom s f d) ≡ forLogging f d
+  unfolding lgNeed
+  lg-need d = ap (λ (x : Decision). forLogging f x) (decision-listed d)
 
-  pub proved-is : (k : Kind) (d : Decision) → kindOf (s .kind) ≡ k → proofMet f (listFrom s f d) ≡ leb (forProof f k d) (counted f d s)
-  unfolding proofMet
-  proved-is k d e =
-      ap (λ (x : Decision). meets (forProof f (kindOf (listFrom s f d .kind)) x) (listFrom s f d)) (decision-listed d)
-      ∙ ap (λ (x : ℕ). meets (forProof f (kindOf x) d) (listFrom s f d)) (kind-listed d)
-      ∙ ap (λ (x : Kind). meets (forProof f x d) (listFrom s f d)) e
-      ∙ list-meets (forProof f k d) d
+  dc-need : (d : Decision) → dcNeed f (listFrom s f d) ≡ forProof f (kindOf (s .kind)) d
+  unfolding dcNeed
+  dc-need d =
+      ap (λ (x : Decision). forProof f (kindOf (listFrom s f d .kind)) x) (decision-listed d)
+      ∙ ap (λ (x : ℕ). forProof f (kindOf x) d) (kind-listed d)
 
-  -- a list that meets a threshold has a box: it passes every check of a box
-  pub logged-count : (d : Decision) → loggingMet f (listFrom s f d) ≡ true → countWrong (length (listFrom s f d .pairs)) ≡ 0
-  logged-count d h = list-count d (omega (arith, some-needed d, leb→le (forLogging f d) (counted f d s) (rw (← logged-is d, h) tt)))
-    where
-      some-needed : (d : Decision) → 1 ≤ forLogging f d
-      some-needed commit = omega arith
-      some-needed abort = omega arith
+  -- a box that gets the list in an LG, or in a DC, finds lacking what the sheet lacks
+  pub lg-lacks : (d : Decision) → lgLacks f (listFrom s f d) ≡ forLogging f d - counted f d s
+  unfolding lgLacks
+  lg-lacks d = ap (λ (need : ℕ). lacking need (listFrom s f d)) (lg-need d) ∙ list-lacks (forLogging f d) d
 
-  pub proved-count : (d : Decision) → proofMet f (listFrom s f d) ≡ true → countWrong (length (listFrom s f d .pairs)) ≡ 0
-  proved-count d h =
-      list-count d
-      (omega (arith, some-needed (kindOf (s .kind)) d, leb→le (forProof f (kindOf (s .kind)) d) (counted f d s) (rw (← proved-is (kindOf (s .kind)) d refl, h) tt)))
-    where
-      some-needed : (k : Kind) (d : Decision) → 1 ≤ forProof f k d
-      some-needed votes commit = omega arith
-      some-needed votes abort = omega arith
-      some-needed logs commit = omega arith
-      some-needed logs abort = omega arith
+  pub dc-lacks : (d : Decision) → dcLacks f (listFrom s f d) ≡ forProof f (kindOf (s .kind)) d - counted f d s
+  unfolding dcLacks
+  dc-lacks d = ap (λ (need : ℕ). lacking need (listFrom s f d)) (dc-need d) ∙ list-lacks (forProof f (kindOf (s .kind)) d) d
 
-  -- the reply says of each threshold what a box finds of the list
-  pub reached-judged : reached f s ≡ judged (kindOf (s .kind)) f s
-  unfolding reached reachedBy
-  reached-judged = by (kindOf (s .kind)) refl
-    where
-      by : (k : Kind) → kindOf (s .kind) ≡ k → reachedBy k f s ≡ judged k f s
-      by votes e = rw (logged-is commit, logged-is abort, proved-is votes commit e, proved-is votes abort e)
-      by logs e = rw (proved-is logs commit e, proved-is logs abort e)
+  -- a list that lacks none has a box: it passes every check of a box
+  pub lg-count : (d : Decision) → lgLacks f (listFrom s f d) ≡ 0 → countWrong (length (listFrom s f d .pairs)) ≡ 0
+  lg-count d h = list-count d (omega (arith, some-logging f d, lg-lacks d, h))
+
+  pub dc-count : (d : Decision) → dcLacks f (listFrom s f d) ≡ 0 → countWrong (length (listFrom s f d .pairs)) ≡ 0
+  dc-count d h = list-count d (omega (arith, some-proof f (kindOf (s .kind)) d, dc-lacks d, h))
+
+  -- and then goes on; else it tells the number with 11
+  box-tells : (need k : ℕ) (d : Decision) (a : Act) → need - counted f d s ≡ k → needing need (listFrom s f d) a ≡ withLacking k a
+  unfolding withLacking
+  box-tells need zero d a e = rules.enough need (listFrom s f d) a zero (sym (list-lacks need d ∙ e)) refl
+  box-tells need (suc k) d a e = rules.few need (listFrom s f d) a (suc k) (sym (list-lacks need d ∙ e)) (λ z. omega arith)
+
+-- the reply says of each threshold what a box tells of the list
+pub tells-as-boxes : TellsAsBoxes
+unfolding lackingOn lackingBy boxesTell
+tells-as-boxes s f sound = by (kindOf (s .kind)) refl
+  where
+    by : (k : Kind) → kindOf (s .kind) ≡ k → lackingBy k f s ≡ boxesTell k f s
+    by votes e = rw (lg-lacks s f sound commit, lg-lacks s f sound abort, dc-lacks s f sound commit, dc-lacks s f sound abort, e)
+    by logs e = rw (dc-lacks s f sound commit, dc-lacks s f sound abort, e)
+
+pub boxes-tell-the-same : BoxesTellTheSame
+boxes-tell-the-same s f d a sound = (
+  ap (λ (need : ℕ). needing need (listFrom s f d) a) (lg-need s f sound d) ∙ box-tells s f sound (forLogging f d) _ d a refl,
+  ap (λ (need : ℕ). needing need (listFrom s f d) a) (dc-need s f sound d) ∙ box-tells s f sound (forProof f (kindOf (s .kind)) d) _ d a refl,
+)
 
 -- the same of the reply to an answer that joins: it is of the sheet as it is then
-pub reply-judged : (s : Sheet) (f number answer : ℕ) → answerWrong s f number answer ≡ 0 → on s number ≡ false
-    → replyTo s f number answer ≡ judged (kindOf (sheetAfter s f number answer .kind)) f (sheetAfter s f number answer)
-reply-judged s f number answer z off =
+pub reply-tells : (s : Sheet) (f number answer : ℕ) → answerWrong s f number answer ≡ 0 → on s number ≡ false
+    → replyTo s f number answer ≡ boxesTell (kindOf (sheetAfter s f number answer .kind)) f (sheetAfter s f number answer)
+reply-tells s f number answer z off =
     let e : joined s number answer ≡ sheetAfter s f number answer = after-joined s f number answer z _ off refl in
-    let r : reached f (joined s number answer) ≡ replyTo s f number answer = reply-reached s f number answer z _ off refl in
+    let r : lackingOn f (joined s number answer) ≡ replyTo s f number answer = reply-lacking s f number answer z _ off refl in
     let w = one-or-two answer (right-answer s f number answer z) in
     let t = joins-sound s number answer off f (right-sheet s f number answer z) (right-box s f number answer z) w in
-    rw (← e) (sym r ∙ reached-judged (joined s number answer) f t)
+    rw (← e) (sym r ∙ tells-as-boxes (joined s number answer) f t)
 
 -- the struct that `list_from` returns holds that list
 pub list-held : (s : Sheet) (f : ℕ) (d : Decision) (l : VoteList) → l ≡ heldList (listFrom s f d) → listIn l ≡ listFrom s f d
