@@ -3,3 +3,4 @@ pub mod Waiting
 pub mod Written
 pub mod Naming
 pub mod Skipping
+pub mod Keys

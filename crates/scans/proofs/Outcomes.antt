@@ -149,7 +149,7 @@ module _ (a b : Body) where
       (sym (any-never (asked false) (λ r. and-false (writesKey b (readKey r)) (ltb (readVersion r) (stampOf b))) (readsOf a)))
 
   -- nothing below, no undercut, however the stamps stand
-  under-none : any (below b) (readsOf a) ≡ false → undercut a b ≡ false
+  pub under-none : any (below b) (readsOf a) ≡ false → undercut a b ≡ false
   unfolding undercut below
   under-none e =
       any-clear (below b) (asked (ltb (stampOf b) (stampOf a)))
@@ -182,9 +182,15 @@ module _ (b : Body) (r : List ℕ) where
   pub hit3-old : (low : ℕ) → any (older low) (readsOf b) ≡ false → stampOf (rowTx r) ≤ low → false ≡ hit3 b (entryOf r)
   hit3-old low e h = hit3-clear (under-none b (rowTx r) (below-none b (rowTx r) low e h))
 
+  pub hit3-late : stampOf b ≤ stampOf (rowTx r) → false ≡ hit3 b (entryOf r)
+  hit3-late h = hit3-clear (sym (under-no b (rowTx r) h))
+
   pub hit4-clear : undercut (rowTx r) b ≡ false → false ≡ hit4 b (entryOf r)
   unfolding hit4
   hit4-clear d = rw (row-under, d) (and-no (live (entryOf r)))
+
+  pub hit4-early : stampOf (rowTx r) ≤ stampOf b → false ≡ hit4 b (entryOf r)
+  hit4-early h = hit4-clear (sym (under-no (rowTx r) b h))
 
 -- ---- test 5
 module _ (ms : List ℕ) (s : ℕ) (w : Write) {x : ℕ} (e : x ≡ getD ms (writeKey w) 0) where

@@ -1,4 +1,4 @@
--- The lowest version read: the loop that finds it.
+-- Loops that leave none behind: the lowest version read, and a set that has every key.
 use Prim.Native.Nat.{ℕ, _+_, _<_, _≤_, zero-le}
 use native.Mathlib.Omega.{arith}
 use mathlib.Core.Path.{_≡_, refl}
@@ -11,23 +11,32 @@ use Rattle.records.specs.Tx.{readVersion}
 use Rattle.table.proofs.Checked.{any-false}
 use Rattle.scans.specs.Scans.{older}
 
--- none of the first j is older
-pub record Low (f : ℕ → Read) (n low j : ℕ) : Type 0 where
+-- none of the first j passes
+pub record NoneYet {A : Type 0} (P : A → Bool) (f : ℕ → A) (n j : ℕ) : Type 0 where
   pub within : j ≤ n
-  pub all : (i : ℕ) → i < j → low ≤ readVersion (f i)
+  pub all : (i : ℕ) → i < j → P (f i) ≡ false
 
-module _ {f : ℕ → Read} {n : ℕ} where
-  pub low-begin : {low : ℕ} → Low f n low 0
-  low-begin = record { within = zero-le; all = λ i h. absurd (omega arith) }
+module _ {A : Type 0} {f : ℕ → A} {n : ℕ} where
+  pub none-begin : {P : A → Bool} → NoneYet P f n 0
+  none-begin = record { within = zero-le; all = λ i h. absurd (omega arith) }
 
-  module _ {low j : ℕ} (r : Low f n low j) where
-    pub low-more : {to : ℕ} → j < n → to ≤ low → to ≤ readVersion (f j) → Low f n to (j + 1)
-    low-more {to} h a b = record { within = omega arith; all = λ i k. by i k (ltb i j) refl }
+  module _ {P : A → Bool} {j : ℕ} (r : NoneYet P f n j) where
+    -- one more, by a test Q that passes nothing new
+    pub none-more : {Q : A → Bool} → j < n → ((x : A) → P x ≡ false → Q x ≡ false) → Q (f j) ≡ false → NoneYet Q f n (j + 1)
+    none-more {Q} h less last = record { within = omega arith; all = λ i k. by i k (ltb i j) refl }
       where
-        by : (i : ℕ) → i < j + 1 → (c : Bool) → ltb i j ≡ c → to ≤ readVersion (f i)
-        by i k true e = let g : low ≤ readVersion (f i) = r .all i (ltb-true i j e) in omega arith
-        by i k false e = let g : j ≤ i = ltb-false i j e in let d : i ≡ j = omega arith in rw d b
+        by : (i : ℕ) → i < j + 1 → (c : Bool) → ltb i j ≡ c → Q (f i) ≡ false
+        by i k true e = less (f i) (r .all i (ltb-true i j e))
+        by i k false e = let g : j ≤ i = ltb-false i j e in let d : i ≡ j = omega arith in rw d last
 
-    pub low-end : n ≤ j → any (older low) (tab f 0 n) ≡ false
-    unfolding older
-    low-end h = any-false (older low) f 0 n (λ i p q. let g : low ≤ readVersion (f i) = r .all i (omega arith) in le-ltb (readVersion (f i)) low g)
+    pub none-end : n ≤ j → any P (tab f 0 n) ≡ false
+    none-end h = any-false P f 0 n (λ i p q. r .all i (omega arith))
+
+-- a bound that falls, and one that a version reaches
+pub older-less : {low to : ℕ} → to ≤ low → (r : Read) → older low r ≡ false → older to r ≡ false
+unfolding older
+older-less {low} {to} h r e = let g : low ≤ readVersion r = ltb-false (readVersion r) low e in le-ltb (readVersion r) to (omega arith)
+
+pub older-not : {low : ℕ} (r : Read) → low ≤ readVersion r → older low r ≡ false
+unfolding older
+older-not {low} r h = le-ltb (readVersion r) low h

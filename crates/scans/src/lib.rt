@@ -2,18 +2,19 @@
 ghost use mathlib.Core.Path.{_≡_};
 ghost use mathlib.Core.Bool.{_||_, false};
 ghost use mathlib.Core.Option.{some};
-ghost use Prim.Native.Nat.{_≤_};
+ghost use Prim.Native.Nat.{_+_, _*_, _≤_};
 ghost use lib.Dec.{ltb, eqb};
-ghost use lib.ListN.{getD};
+ghost use lib.ListN.{length, getD};
 ghost use mathlib.Core.List.{[]};
 ghost use Rattle.terms.specs.Choice.{any};
-ghost use Rattle.records.specs.Tx.{TxThere};
+ghost use Rattle.records.specs.Tx.{TxThere, writesFrom};
 ghost use Rattle.rules.specs.Bodies.{readsOf, writesOf};
 ghost use Rattle.rules.specs.Table.{boxWith, limit};
 ghost use Rattle.rules.specs.Tests.{test1, test3, test4, test5, undercut, statusOf, status, waitingRule, firstVote};
 ghost use Rattle.rules.specs.Calls.{valueAt, rdAnswer};
 ghost use Rattle.table.specs.Table.{WfRow, Wf, entryOf, entries};
 ghost use Rattle.scans.specs.Scans.{over, namedBy, named, namedAll, below, older, hit3, hit4, statusNumber, newerBy, nextWriters, newestWriters};
+ghost use Rattle.scans.specs.Keys.{inKeys, withKey, lacks, keysAt, keysRead, keysWritten};
 use records::Read;
 use rules::Answer;
 use rules::Reason;
@@ -29,6 +30,9 @@ const FINE: u8 = 0;
 const PENDING: u8 = 1;
 
 const BAD: u8 = 2;
+
+// Where a transaction's reads begin.
+const READS_AT: usize = 12;
 
 // What the newest committed writer wrote, and the newest live undecided one.
 pub struct Writers {
@@ -182,13 +186,71 @@ fn lowest_read(b: &[u8]) -> Stamp
     low
 }
 
-// Test 3 at one row: the stamps first, which settle most rows, as one not above the lowest version read.
-fn hit_3(e: &[u8], b: &[u8], low: Stamp) -> bool
-    requires { ⌜ WfRow (now e) × TxThere (now b) × (any (older (low .0)) (readsOf (now b)) ≡ false) ⌝ }
+// Whether a key may be in a set: each of a message's 512 has a bit of its own, and a higher one, as a lent row may have, shares one.
+fn in_keys(keys: &[u64; 8], k: Key) -> bool
+    ensures { λ r. ⌜ r ≡ inKeys (now (keys .entry)) (k .0) ⌝ }
+{
+    let at = (k.0 / 64 % 8) as usize;
+    (keys[at] >> (k.0 % 64)) % 2 == 1
+}
+
+// A key joins a set; what the set lets in is compared, so that it may have too many and never one too few.
+fn add_key(keys: &mut [u64; 8], k: Key)
+    ensures { λ r. ⌜ now (keys .exit) ≡ withKey (now (keys .entry)) (k .0) ⌝ }
+{
+    let at = (k.0 / 64 % 8) as usize;
+    keys[at] = keys[at] | (1 << (k.0 % 64));
+}
+
+// The keys of `n` reads or writes that begin at `p` join a set.
+fn add_keys(keys: &mut [u64; 8], s: &[u8], p: usize, n: usize)
+    requires { ⌜ (p + n * 10 ≤ length (now s)) × (length (now keys) ≡ 8) ⌝ }
+    ensures { λ r. ⌜ any (lacks (now (keys .exit))) (keysAt (now (s .entry)) p n) ≡ false ⌝ }
+{
+    let mut j = 0;
+    while j < n {
+        add_key(keys, Key(records::u16_at(s, p + j * 10)));
+        j += 1;
+    }
+}
+
+// Whether one of the keys of `n` reads or writes that begin at `p` may be in a set.
+fn any_in(keys: &[u64; 8], s: &[u8], p: usize, n: usize) -> bool
+    requires { ⌜ p + n * 10 ≤ length (now s) ⌝ }
+    ensures { λ r. ⌜ r ≡ any (inKeys (now (keys .entry))) (keysAt (now (s .entry)) p n) ⌝ }
+{
+    let mut j = 0;
+    while j < n {
+        if in_keys(keys, Key(records::u16_at(s, p + j * 10))) {
+            return true;
+        }
+        j += 1;
+    }
+    false
+}
+
+// Where the writes begin, behind the reads.
+fn writes_from(s: &[u8]) -> usize
+    requires { ⌜ TxThere (now s) ⌝ }
+    ensures { λ r. ⌜ r ≡ writesFrom (now (s .entry)) ⌝ }
+{
+    READS_AT + table::read_count(s) * 10
+}
+
+// Test 3 at one row: the stamps first, then the set of the keys read here, which settle most rows; what is left is compared.
+fn hit_3(e: &[u8], b: &[u8], low: Stamp, read: &[u64; 8]) -> bool
+    requires { ⌜ WfRow (now e) × TxThere (now b) × (any (older (low .0)) (readsOf (now b)) ≡ false) × (any (lacks (now read)) (keysRead (now b)) ≡ false) ⌝ }
     ensures { λ r. ⌜ r ≡ hit3 (now (b .entry)) (entryOf (now (e .entry))) ⌝ }
 {
     let a = table::tx_of(e);
-    if table::stamp_of(a).0 <= low.0 {
+    let s = table::stamp_of(a);
+    if s.0 <= low.0 {
+        return false;
+    }
+    if table::stamp_of(b).0 <= s.0 {
+        return false;
+    }
+    if !any_in(read, a, writes_from(a), table::write_count(a)) {
         return false;
     }
     if undercut(b, a) {
@@ -203,10 +265,12 @@ pub fn test_3(t: &[u8], n: usize, b: &[u8]) -> bool
     ensures { λ r. ⌜ r ≡ test3 (over (entries (now (t .entry)) n)) (now (b .entry)) ⌝ }
 {
     let low = lowest_read(b);
+    let mut read = [0u64; 8];
+    add_keys(&mut read, b, READS_AT, table::read_count(b));
     let mut i = 0;
     while i < n {
         let e = table::row(t, i);
-        if hit_3(e, b, low) {
+        if hit_3(e, b, low, &read) {
             return true;
         }
         i += 1;
@@ -214,12 +278,19 @@ pub fn test_3(t: &[u8], n: usize, b: &[u8]) -> bool
     false
 }
 
-// Test 4 at one row: the stamps first, which settle most rows.
-fn hit_4(e: &[u8], b: &[u8]) -> bool
-    requires { ⌜ WfRow (now e) × TxThere (now b) ⌝ }
+// Test 4 at one row: the stamps first, then the set of the keys written here, which settle most rows; what is left is compared.
+fn hit_4(e: &[u8], b: &[u8], written: &[u64; 8]) -> bool
+    requires { ⌜ WfRow (now e) × TxThere (now b) × (any (lacks (now written)) (keysWritten (now b)) ≡ false) ⌝ }
     ensures { λ r. ⌜ r ≡ hit4 (now (b .entry)) (entryOf (now (e .entry))) ⌝ }
 {
-    if undercut(table::tx_of(e), b) {
+    let a = table::tx_of(e);
+    if table::stamp_of(a).0 <= table::stamp_of(b).0 {
+        return false;
+    }
+    if !any_in(written, a, READS_AT, table::read_count(a)) {
+        return false;
+    }
+    if undercut(a, b) {
         return table::live(e);
     }
     false
@@ -230,10 +301,12 @@ pub fn test_4(t: &[u8], n: usize, b: &[u8]) -> bool
     requires { ⌜ Wf (now t) n × TxThere (now b) ⌝ }
     ensures { λ r. ⌜ r ≡ test4 (over (entries (now (t .entry)) n)) (now (b .entry)) ⌝ }
 {
+    let mut written = [0u64; 8];
+    add_keys(&mut written, b, writes_from(b), table::write_count(b));
     let mut i = 0;
     while i < n {
         let e = table::row(t, i);
-        if hit_4(e, b) {
+        if hit_4(e, b, &written) {
             return true;
         }
         i += 1;

@@ -1,14 +1,15 @@
+use Rattle.scans.specs.Scans.{older}
 use Prim.Native.Nat.{_-_}
 use Rattle.records.specs.Tx.{readAt, txOf}
 use Rattle.rules.specs.Bodies.{readsOf}
-use Rattle.scans.proofs.Skipping.{Low, low-begin, low-more, low-end}
+use Rattle.scans.proofs.Skipping.{NoneYet, none-begin, none-more, none-end, older-less, older-not}
 use native.Mathlib.Omega.{arith}
 use borrow.Author.Needs.{needs}
 use Rattle.scans.proofs.lowest_read.Statement.{statement}
 use Rattle.scans.proofs.lowest_read.Tie as tie
 
 abbrev Inv-loop : tie.InvT-loop
-Inv-loop b m low₀ j₀ low j = Low (readAt b 12) m (low .0) j
+Inv-loop b m low₀ j₀ low j = NoneYet (older (low .0)) (readAt b 12) m j
 
 abbrev μ-loop : tie.MeasureT-loop
 μ-loop b m low₀ j₀ low j = m - j
@@ -20,7 +21,7 @@ stamp-of-requires : tie.Need-stamp-of-requires Inv-loop μ-loop
 stamp-of-requires c κs = search needs
 
 loop-holds : tie.Need-loop-holds Inv-loop μ-loop
-loop-holds c = low-begin
+loop-holds c = none-begin
 
 read-at-requires : tie.Need-read-at-requires Inv-loop μ-loop
 read-at-requires c κs = search needs
@@ -35,11 +36,11 @@ loop-less : tie.Need-loop-less Inv-loop μ-loop
 loop-less c = search needs
 
 loop-again : tie.Need-loop-again Inv-loop μ-loop
-loop-again c = low-more (c .before .before .before .loop .inv) (omega arith) (c .lower .ensures .0) (rw (← c .before .read-at .ensures) (c .lower .ensures .1))
+loop-again c = none-more (c .before .before .before .loop .inv) (omega arith) (older-less (c .lower .ensures .0)) (rw (← c .before .read-at .ensures) (older-not _ (c .lower .ensures .1)))
 
 returns : tie.Need-returns Inv-loop μ-loop
 unfolding readsOf txOf
-returns c = rw (← c .before .before .before .read-count .ensures .0) (low-end (c .before .loop .inv) (omega arith))
+returns c = rw (← c .before .before .before .read-count .ensures .0) (none-end (c .before .loop .inv) (omega arith))
 
 pub lowest-read-spec : {M : Type 1} → statement M
 lowest-read-spec =
