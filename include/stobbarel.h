@@ -39,7 +39,7 @@ extern "C" {
 #define STOBBAREL_TABLE_LEN(capacity) (STOBBAREL_HEAD + STOBBAREL_ROW * (capacity)) /* Bytes of a table with room for so many entries. */
 
 #define STOBBAREL_KEYS 512    /* Keys of a register, and read marks of a box. */
-#define STOBBAREL_LONGEST 231 /* Bytes of the longest record: an LG or a DC with eight reads, eight writes and 26 pairs. */
+#define STOBBAREL_LONGEST 233 /* Bytes of the longest record: a DC of logs with eight reads, eight writes and 26 pairs. */
 
 /* The marks of the four messages, wherever one is named by a number. */
 enum stobbarel_mark {
@@ -133,17 +133,18 @@ uint8_t stobbarel_reading_tx(const uint8_t *bytes, size_t bytes_len);
 /* A VL by itself, of either kind: 0, or the refusal's number (14, 1 to 6, 8). */
 uint8_t stobbarel_reading_vl(uint64_t f, const uint8_t *bytes, size_t bytes_len);
 
-/* A message read alone, and its values: 0, or the refusal's number, as stobbarel_reading. The head's eight numbers:
+/* A message read alone, and its values: 0, or the refusal's number, as stobbarel_reading. The head's nine numbers:
  *   mark       1 PR, 2 LG, 3 DC, 4 RD; 0 refused
  *   stamp      of the transaction, or of an RD
  *   r, w       how many reads and writes there are
  *   key        of an RD
  *   kind       1 votes, 2 logs
  *   decision   1 commit, 2 abort
+ *   view       of a list of logs, 0 to 65535; votes have none
  *   count      how many pairs the list has
  * then the keys and versions read, the keys and values written, the boxes and their answers, in the places' order. What a
  * message does not have, every place that is not used, and all of them where the message is refused, are 0. */
-uint8_t stobbarel_fields(uint64_t f, const uint8_t *message, size_t message_len, uint64_t head[8], uint16_t reads[8],
+uint8_t stobbarel_fields(uint64_t f, const uint8_t *message, size_t message_len, uint64_t head[9], uint16_t reads[8],
                          uint64_t versions[8], uint16_t writes[8], uint64_t values[8], uint8_t numbers[26],
                          uint8_t answers[26]);
 
@@ -153,8 +154,9 @@ size_t stobbarel_part(uint64_t f, const uint8_t *message, size_t message_len);
 /* ---- records written
  *
  * A transaction is lent as its stamp, r and w, and four arrays of eight: the keys and versions read, the keys and values
- * written. A list is lent as its kind (1 votes, 2 logs), decision (1 commit, 2 abort) and count, and two arrays of 26: the
- * boxes and their answers (1 commit, 2 abort). The first r, w and count places are written; the others may be anything.
+ * written. A list is lent as its kind (1 votes, 2 logs), decision (1 commit, 2 abort), view and count, and two arrays of 26: the
+ * boxes and their answers (1 commit, 2 abort). The first r, w and count places are written; the others may be anything. The view
+ * of a list of logs may be any number and is written behind the count; beside votes it is not looked at, and none is written.
  *
  * Each answers 0, and the record stands at the front of out, `length` bytes of it, the bytes behind it being as they were; or
  * the refusal's number, with length 0 and out unchanged. Any numbers may be lent: what is wrong with them is told by 14 (f,
@@ -165,7 +167,7 @@ uint8_t stobbarel_write_tx(uint64_t stamp, size_t r, size_t w, const uint16_t re
                            const uint16_t writes[8], const uint64_t values[8], uint8_t *out, size_t out_len, size_t *length);
 
 /* A VL by itself, of either kind. */
-uint8_t stobbarel_write_vl(uint64_t f, uint8_t kind, uint8_t decision, size_t count, const uint8_t numbers[26],
+uint8_t stobbarel_write_vl(uint64_t f, uint8_t kind, uint8_t decision, uint16_t view, size_t count, const uint8_t numbers[26],
                            const uint8_t answers[26], uint8_t *out, size_t out_len, size_t *length);
 
 /* PR. */
@@ -175,25 +177,25 @@ uint8_t stobbarel_write_pr(uint64_t stamp, size_t r, size_t w, const uint16_t re
 /* A message with a list: LG or DC by its number above. Any other number is refused with 2, where the list's 8, 5, 6 would stand. */
 uint8_t stobbarel_write_listed(uint64_t mark, uint64_t f, uint64_t stamp, size_t r, size_t w, const uint16_t reads[8],
                                const uint64_t versions[8], const uint16_t writes[8], const uint64_t values[8], uint8_t kind,
-                               uint8_t decision, size_t count, const uint8_t numbers[26], const uint8_t answers[26],
-                               uint8_t *out, size_t out_len, size_t *length);
+                               uint8_t decision, uint16_t view, size_t count, const uint8_t numbers[26],
+                               const uint8_t answers[26], uint8_t *out, size_t out_len, size_t *length);
 
-/* LG: its list is of votes, kind 1. */
+/* LG: its list is of votes, kind 1, and has no view. */
 static inline uint8_t stobbarel_write_lg(uint64_t f, uint64_t stamp, size_t r, size_t w, const uint16_t reads[8],
                                          const uint64_t versions[8], const uint16_t writes[8], const uint64_t values[8],
-                                         uint8_t kind, uint8_t decision, size_t count, const uint8_t numbers[26],
+                                         uint8_t kind, uint8_t decision, uint16_t view, size_t count, const uint8_t numbers[26],
                                          const uint8_t answers[26], uint8_t *out, size_t out_len, size_t *length) {
-    return stobbarel_write_listed(STOBBAREL_LG, f, stamp, r, w, reads, versions, writes, values, kind, decision, count, numbers, answers,
-                                  out, out_len, length);
+    return stobbarel_write_listed(STOBBAREL_LG, f, stamp, r, w, reads, versions, writes, values, kind, decision, view, count, numbers,
+                                  answers, out, out_len, length);
 }
 
 /* DC. */
 static inline uint8_t stobbarel_write_dc(uint64_t f, uint64_t stamp, size_t r, size_t w, const uint16_t reads[8],
                                          const uint64_t versions[8], const uint16_t writes[8], const uint64_t values[8],
-                                         uint8_t kind, uint8_t decision, size_t count, const uint8_t numbers[26],
+                                         uint8_t kind, uint8_t decision, uint16_t view, size_t count, const uint8_t numbers[26],
                                          const uint8_t answers[26], uint8_t *out, size_t out_len, size_t *length) {
-    return stobbarel_write_listed(STOBBAREL_DC, f, stamp, r, w, reads, versions, writes, values, kind, decision, count, numbers, answers,
-                                  out, out_len, length);
+    return stobbarel_write_listed(STOBBAREL_DC, f, stamp, r, w, reads, versions, writes, values, kind, decision, view, count, numbers,
+                                  answers, out, out_len, length);
 }
 
 /* RD: 12 bytes; 5 or 17. */
@@ -207,7 +209,9 @@ uint8_t stobbarel_thresholds(uint64_t f, uint64_t out[6]);
 
 /* The gateway's tally: a sheet of one kind (1 votes, 2 logs) takes a box's answer (1 commit, 2 abort), the number of the vote or
  * the decision that the box answered; a wait, 3, is refused with 8. Bit b of a mask says that box b gave this answer; a new
- * sheet's masks are 0. The reply is five numbers:
+ * sheet's masks are 0. A sheet of logs is for one view, that of the list made from it. The gateway keeps the view beside the
+ * masks, and which answers belong to that view is its business: the call takes the box and its answer only, and counts what it
+ * is given. The reply is five numbers:
  *   1 votes    what is lacking, 0 where it is reached: commit list, abort list, commit proof, abort proof
  *   2 logs     what is lacking, 0 where it is reached: commit proof, abort proof, 0, 0
  *   3 repeat   0, 0, 0, 0; the sheet is unchanged

@@ -1,5 +1,6 @@
 /* The paper's bench example by way of the C interface: 50 writes key 3, 60 reads it, an RD shows it. Then a gateway: votes go to
- * its tally as they were answered, a list is logged. Two messages are written by the engine, two are bytes. */
+ * its tally as they were answered, a list is logged; the logs of five boxes, on a sheet for view 0, prove the decision. Of the
+ * messages two are bytes, the others are written by the engine. */
 #include <stdio.h>
 
 #include "../include/stobbarel.h"
@@ -22,12 +23,16 @@ static uint64_t send(entrance *by, const uint8_t *message, size_t length) {
 int main(void) {
     const uint16_t none[8] = {0}, written[8] = {3};
     const uint64_t never[8] = {0}, values[8] = {7};
-    const uint8_t boxes[26] = {0, 1, 2, 3}, commit[26] = {STOBBAREL_COMMIT, STOBBAREL_COMMIT, STOBBAREL_COMMIT, STOBBAREL_COMMIT};
+    const uint8_t boxes[26] = {0, 1, 2, 3, 4};
+    const uint8_t commit[26] = {STOBBAREL_COMMIT, STOBBAREL_COMMIT, STOBBAREL_COMMIT, STOBBAREL_COMMIT, STOBBAREL_COMMIT};
+    const uint16_t view = 0; /* of what an LG has logged */
     const uint8_t reader[] = {'P', 'R', 'T', 'X', 1, 0, 60, 0, 0, 0, 0, 0, 0, 0, 3, 0, 50, 0, 0, 0, 0, 0, 0, 0};
     const uint8_t read[] = {'R', 'D', 3, 0, 60, 0, 0, 0, 0, 0, 0, 0};
     uint8_t write[STOBBAREL_LONGEST], list[STOBBAREL_LONGEST], reply[5];
-    uint32_t commits = 0, aborts = 0;
-    uint64_t needed[6];
+    uint32_t commits = 0, aborts = 0, logged = 0, logged_aborts = 0;
+    uint64_t needed[6], head[9], versions[8], read_values[8];
+    uint16_t reads[8], writes[8];
+    uint8_t numbers[26], answers[26];
     size_t length, listed;
     if (stobbarel_write_pr(50, 0, 1, none, never, written, values, write, sizeof write, &length) != 0) return 1;
     uint64_t vote = send(stobbarel_prepare, write, length);
@@ -39,11 +44,18 @@ int main(void) {
     stobbarel_take(1, &commits, &aborts, F, 4, wait, reply);
     printf("%d %d\n", reply[0], reply[1]);
     for (size_t votes = 3; votes <= 4; votes++) { /* three are one too few */
-        if (stobbarel_write_lg(F, 50, 0, 1, none, never, written, values, 1, STOBBAREL_COMMIT, votes, boxes, commit, list, sizeof list, &listed) != 0) return 1;
+        if (stobbarel_write_lg(F, 50, 0, 1, none, never, written, values, 1, STOBBAREL_COMMIT, 0, votes, boxes, commit, list, sizeof list, &listed) != 0) return 1;
         send(stobbarel_log, list, listed);
     }
+    for (uint64_t b = 0; b < 5; b++) stobbarel_take(2, &logged, &logged_aborts, F, b, STOBBAREL_COMMIT, reply);
+    printf("%d %d %d\n", reply[0], reply[1], reply[2]); /* the commit proof is reached */
+    if (stobbarel_write_dc(F, 50, 0, 1, none, never, written, values, 2, STOBBAREL_COMMIT, view, 5, boxes, commit, list, sizeof list, &listed) != 0) return 1;
+    send(stobbarel_decide, list, listed);
+    if (stobbarel_fields(F, list, listed, head, reads, versions, writes, read_values, numbers, answers) != 0) return 1;
+    printf("%d bytes: kind %d, decision %d, view %d, %d boxes\n", (int)listed, (int)head[5], (int)head[6], (int)head[7], (int)head[8]);
     for (const uint8_t *row = table + STOBBAREL_HEAD; row < table + STOBBAREL_TABLE_LEN(table[0]); row += STOBBAREL_ROW)
-        printf("stamp %d: vote %d, log %d\n", row[STOBBAREL_BODY_AT + 4], row[STOBBAREL_VOTE_AT], row[STOBBAREL_LOG_AT]);
+        printf("stamp %d: vote %d, log %d, decision %d\n", row[STOBBAREL_BODY_AT + 4], row[STOBBAREL_VOTE_AT], row[STOBBAREL_LOG_AT],
+               row[STOBBAREL_DECIDED_AT]);
     printf("%d %d\n", stobbarel_reading(F, write, length), (int)stobbarel_part(F, write, length));
     if (stobbarel_thresholds(F, needed) != 0) return 1;
     printf("%d boxes: %d %d %d %d %d\n", (int)needed[0], (int)needed[1], (int)needed[2], (int)needed[3], (int)needed[4], (int)needed[5]);

@@ -55,29 +55,32 @@ static size_t transaction(uint8_t *at, uint64_t stamp) {
     return 12 + 10 * 16;
 }
 
-/* A PR, or a message with a list of 26 of this kind. */
+static uint8_t *list, *pairs;
+
+/* The message with a list, for a decision. */
+static void say(int decision) {
+    list[3] = (uint8_t)decision;
+    for (int i = 0; i < 26; i++) pairs[2 * i + 1] = (uint8_t)decision;
+}
+
+/* A PR, or a message with a list of 26 of this kind; logs are of the last view. */
 static void make(const char *letters, uint64_t number, uint64_t stamp, int kind) {
     mark = number;
     memcpy(message, letters, 2);
     message_len = 2 + transaction(message + 2, stamp);
     if (kind == 0) return;
-    uint8_t *list = message + message_len;
+    list = message + message_len;
     memcpy(list, "VL", 2);
     list[2] = (uint8_t)kind;
-    list[3] = 1;
     list[4] = 26;
-    for (int i = 0; i < 26; i++) {
-        list[5 + 2 * i] = (uint8_t)i;
-        list[6 + 2 * i] = 1;
+    pairs = list + 5;
+    if (kind == 2) {
+        put(pairs, 65535, 2);
+        pairs += 2;
     }
-    message_len += 57;
-}
-
-/* The message with a list, for a decision. */
-static void say(int decision) {
-    uint8_t *list = message + message_len - 57;
-    list[3] = (uint8_t)decision;
-    for (int i = 0; i < 26; i++) list[6 + 2 * i] = (uint8_t)decision;
+    for (int i = 0; i < 26; i++) pairs[2 * i] = (uint8_t)i;
+    say(STOBBAREL_COMMIT);
+    message_len = (size_t)(pairs + 2 * 26 - message);
 }
 
 /* The message with another body: the last byte of its last value is another. */
@@ -137,6 +140,9 @@ int main(void) {
     show("DC commit, another body, which replaces the held one", STOBBAREL_DONE, 0);
     say(STOBBAREL_ABORT);
     show("DC abort, another body", STOBBAREL_REFUSED, STOBBAREL_OTHER_BODY);
+    make("DC", STOBBAREL_DC, 2 * 254, 2);
+    if (message_len != STOBBAREL_LONGEST) return 1;
+    show("DC, a list of 26 logs, the longest message", STOBBAREL_DONE, 0);
     mark = STOBBAREL_RD;
     memcpy(message, "RD", 2);
     put(message + 2, 110, 2);

@@ -1,7 +1,7 @@
 //! One box of a register, its records, and the gateway's tally: the proved engine behind safe functions.
 //!
 //! ```
-//! use stobbarel::{write_pr, write_rd, Answer, Decision, Group, Key, Kind, Reply, Sheet, Stamp, Table, Transaction, Version, Vote, LONGEST};
+//! use stobbarel::{write_lg, write_pr, write_rd, Answer, Decision, Group, Key, Reply, Sheet, Stamp, Table, Transaction, Version, Vote, LONGEST};
 //!
 //! let group = Group::of(1)?;
 //! let mut table = Table::new(group, 8)?;
@@ -18,7 +18,7 @@
 //! assert_eq!(table.receive(100, 10, &buffer[..length]), Answer::Found(none, Version { stamp: Stamp(50), value: 7 }));
 //!
 //! // A gateway hears commit from four of the six boxes: enough to log it.
-//! let mut sheet = Sheet::new(group, Kind::Votes);
+//! let mut sheet = Sheet::votes(group);
 //! for number in 0..3 {
 //!     assert!(!sheet.take(number, Decision::Commit).list_reached(Decision::Commit));
 //! }
@@ -26,6 +26,10 @@
 //! assert!(reply.list_reached(Decision::Commit));
 //! // Two more would prove it.
 //! assert_eq!(reply, Reply::Votes { commit_list: 0, abort_list: 2, commit_proof: 2, abort_proof: 4 });
+//!
+//! // The box logs it. What boxes log goes on a sheet of its own, which is for one view: Sheet::logs(group, View(0)).
+//! let length = write_lg(group, &tx, &sheet.list(Decision::Commit), &mut buffer)?;
+//! assert_eq!(table.receive(100, 10, &buffer[..length]), Answer::Logged(Decision::Commit));
 //! # Ok::<(), stobbarel::Refusal>(())
 //! ```
 #![deny(missing_docs)]
@@ -45,4 +49,4 @@ pub use layout::LONGEST;
 pub use records::{check_tx, check_vl, read_message, tx_part, write_dc, write_lg, write_pr, write_rd, write_tx, write_vl, Message, Transaction, VoteList};
 pub use sheet::{Reply, Sheet};
 pub use table::{Answer, Table, Version, Vote};
-pub use terms::{Decision, Group, Key, Kind, Mark, Reason, Refusal, Stamp};
+pub use terms::{Decision, Group, Key, Kind, Mark, Reason, Refusal, Stamp, View};

@@ -1,7 +1,7 @@
 //! The records: written into a lent buffer, read from any bytes.
 
 use crate::c;
-use crate::terms::{Decision, Group, Key, Kind, Mark, Refusal, Stamp};
+use crate::terms::{Decision, Group, Key, Kind, Mark, Refusal, Stamp, View};
 
 /// Up to eight reads and up to eight writes, at least one of either; more are refused when it is written.
 #[derive(Clone, Debug, Default, PartialEq, Eq, Hash)]
@@ -14,15 +14,29 @@ pub struct Transaction {
     pub writes: Vec<(Key, u64)>,
 }
 
-/// What boxes answered: 1 to 26 of them, their numbers strictly rising.
+/// What boxes answered: 1 to 26 of them, their numbers strictly rising. A tally sheet makes one of its answers ([`Sheet::list`](crate::Sheet::list)).
 #[derive(Clone, Debug, PartialEq, Eq, Hash)]
 pub struct VoteList {
     /// Votes or logged decisions.
     pub kind: Kind,
     /// The decision that the list is for; only these answers are counted.
     pub decision: Decision,
+    /// The view that all of the logs were given in. Votes have none: what stands here beside them is not written, and 0 is read.
+    pub view: View,
     /// Box numbers and their answers.
     pub pairs: Vec<(u8, Decision)>,
+}
+
+impl VoteList {
+    /// A list of votes.
+    pub fn votes(decision: Decision, pairs: Vec<(u8, Decision)>) -> VoteList {
+        VoteList { kind: Kind::Votes, decision, view: View(0), pairs }
+    }
+
+    /// A list of logged decisions, all of them of this view.
+    pub fn logs(view: View, decision: Decision, pairs: Vec<(u8, Decision)>) -> VoteList {
+        VoteList { kind: Kind::Logs, decision, view, pairs }
+    }
 }
 
 /// A message that was read.
@@ -65,6 +79,7 @@ impl LentTx {
 struct LentList {
     kind: u8,
     decision: u8,
+    view: u16,
     count: usize,
     numbers: [u8; 26],
     answers: [u8; 26],
@@ -72,7 +87,8 @@ struct LentList {
 
 impl LentList {
     fn of(list: &VoteList) -> LentList {
-        let mut lent = LentList { kind: list.kind as u8, decision: list.decision as u8, count: list.pairs.len(), numbers: [0; 26], answers: [0; 26] };
+        let mut lent =
+            LentList { kind: list.kind as u8, decision: list.decision as u8, view: list.view.0, count: list.pairs.len(), numbers: [0; 26], answers: [0; 26] };
         for (i, (number, answer)) in list.pairs.iter().take(26).enumerate() {
             (lent.numbers[i], lent.answers[i]) = (*number, *answer as u8);
         }
@@ -101,7 +117,7 @@ pub fn write_tx(tx: &Transaction, out: &mut [u8]) -> Result<usize, Refusal> {
 pub fn write_vl(group: Group, list: &VoteList, out: &mut [u8]) -> Result<usize, Refusal> {
     let l = LentList::of(list);
     told(|length| unsafe {
-        c::stobbarel_write_vl(group.f(), l.kind, l.decision, l.count, l.numbers.as_ptr(), l.answers.as_ptr(), out.as_mut_ptr(), out.len(), length)
+        c::stobbarel_write_vl(group.f(), l.kind, l.decision, l.view, l.count, l.numbers.as_ptr(), l.answers.as_ptr(), out.as_mut_ptr(), out.len(), length)
     })
 }
 
@@ -118,12 +134,12 @@ fn write_listed(mark: Mark, group: Group, tx: &Transaction, list: &VoteList, out
     told(|length| unsafe {
         c::stobbarel_write_listed(
             mark as u64, group.f(), x.stamp, x.r, x.w, x.reads.as_ptr(), x.versions.as_ptr(), x.writes.as_ptr(), x.values.as_ptr(),
-            l.kind, l.decision, l.count, l.numbers.as_ptr(), l.answers.as_ptr(), out.as_mut_ptr(), out.len(), length,
+            l.kind, l.decision, l.view, l.count, l.numbers.as_ptr(), l.answers.as_ptr(), out.as_mut_ptr(), out.len(), length,
         )
     })
 }
 
-/// LG: its list is of votes.
+/// LG: its list is of votes, and has no view.
 pub fn write_lg(group: Group, tx: &Transaction, list: &VoteList, out: &mut [u8]) -> Result<usize, Refusal> {
     write_listed(Mark::Lg, group, tx, list, out)
 }
@@ -150,7 +166,7 @@ pub fn check_vl(group: Group, bytes: &[u8]) -> Result<(), Refusal> {
 
 /// A message's values. Without a clock, so never [`Refusal::Ahead`].
 pub fn read_message(group: Group, message: &[u8]) -> Result<Message, Refusal> {
-    let mut head = [0; 8];
+    let mut head = [0; 9];
     let (mut reads, mut versions, mut writes, mut values) = ([0; 8], [0; 8], [0; 8], [0; 8]);
     let (mut numbers, mut answers) = ([0; 26], [0; 26]);
     // Each pointer is to as many numbers as the function takes, and they do not overlap.
@@ -160,7 +176,7 @@ pub fn read_message(group: Group, message: &[u8]) -> Result<Message, Refusal> {
             values.as_mut_ptr(), numbers.as_mut_ptr(), answers.as_mut_ptr(),
         )
     })?;
-    let [mark, stamp, r, w, key, kind, decision, count] = head;
+    let [mark, stamp, r, w, key, kind, decision, view, count] = head;
     let tx = Transaction {
         stamp: Stamp(stamp),
         reads: (0..r as usize).map(|i| (Key(reads[i]), Stamp(versions[i]))).collect(),
@@ -169,6 +185,7 @@ pub fn read_message(group: Group, message: &[u8]) -> Result<Message, Refusal> {
     let list = || VoteList {
         kind: if kind == 1 { Kind::Votes } else { Kind::Logs },
         decision: Decision::of(decision).expect("a list that was read names a decision"),
+        view: View(view as u16),
         pairs: (0..count as usize).map(|i| (numbers[i], Decision::of(answers[i].into()).expect("a pair that was read has an answer"))).collect(),
     };
     Ok(match Mark::of(mark).expect("a message that was read has a mark") {

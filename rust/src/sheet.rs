@@ -1,7 +1,8 @@
 //! The gateway's tally.
 
 use crate::c;
-use crate::terms::{Decision, Group, Kind, Refusal};
+use crate::records::VoteList;
+use crate::terms::{Decision, Group, Kind, Refusal, View};
 
 /// What a sheet says after an answer: for each threshold of its kind how many answers it lacks, 0 where the threshold is reached. A box says the same
 /// of the list made from the sheet ([`Refusal::TooFew`]).
@@ -61,19 +62,31 @@ impl Reply {
     }
 }
 
-/// The answers of one kind for one transaction.
+/// The answers of one kind for one transaction; logged decisions are of one view.
 #[derive(Clone, Copy, Debug, PartialEq, Eq, Hash)]
 pub struct Sheet {
     group: Group,
     kind: Kind,
+    view: View,
     commits: u32,
     aborts: u32,
 }
 
 impl Sheet {
-    /// An empty sheet.
-    pub fn new(group: Group, kind: Kind) -> Sheet {
-        Sheet { group, kind, commits: 0, aborts: 0 }
+    /// An empty sheet for votes.
+    pub fn votes(group: Group) -> Sheet {
+        Sheet { group, kind: Kind::Votes, view: View(0), commits: 0, aborts: 0 }
+    }
+
+    /// An empty sheet for the decisions that boxes have logged in this view. Which answers are of it is the gateway's business: the sheet counts what
+    /// it is given, and an answer of another view belongs on a sheet of that view.
+    pub fn logs(group: Group, view: View) -> Sheet {
+        Sheet { group, kind: Kind::Logs, view, commits: 0, aborts: 0 }
+    }
+
+    /// The view that a sheet of logged decisions is for; none of votes.
+    pub fn view(&self) -> Option<View> {
+        (self.kind == Kind::Logs).then_some(self.view)
     }
 
     /// Takes one box's answer.
@@ -98,5 +111,15 @@ impl Sheet {
     pub fn boxes(&self, answer: Decision) -> Vec<u8> {
         let mask = if answer == Decision::Commit { self.commits } else { self.aborts };
         (0..32).filter(|number| mask & 1 << number != 0).collect()
+    }
+
+    /// All answers on the sheet as a list for this decision, of the sheet's kind and view. That of an empty sheet cannot be written ([`Refusal::Count`]).
+    pub fn list(&self, decision: Decision) -> VoteList {
+        let mut pairs: Vec<(u8, Decision)> = Vec::new();
+        for answer in [Decision::Commit, Decision::Abort] {
+            pairs.extend(self.boxes(answer).into_iter().map(|number| (number, answer)));
+        }
+        pairs.sort_unstable_by_key(|pair| pair.0);
+        VoteList { kind: self.kind, decision, view: self.view, pairs }
     }
 }

@@ -1,4 +1,4 @@
-//! The papers' words: stamp, key, mark, decision, kind, reason, refusal, and the group of boxes.
+//! The papers' words: stamp, key, view, mark, decision, kind, reason, refusal, and the group of boxes.
 
 use crate::c;
 
@@ -9,6 +9,10 @@ pub struct Stamp(pub u64);
 /// A register place; 0 to 511 where it is in order.
 #[derive(Clone, Copy, Debug, Default, PartialEq, Eq, PartialOrd, Ord, Hash)]
 pub struct Key(pub u16);
+
+/// In which round a decision was logged: any number, 0 for what an LG had logged. A proof from logs is of one view.
+#[derive(Clone, Copy, Debug, Default, PartialEq, Eq, PartialOrd, Ord, Hash)]
+pub struct View(pub u16);
 
 /// What a message begins with.
 #[derive(Clone, Copy, Debug, PartialEq, Eq, Hash)]

@@ -11,7 +11,11 @@ fn tx(stamp: u64, reads: &[(u16, u64)], writes: &[(u16, u64)]) -> Transaction {
 }
 
 fn votes(decision: Decision, count: u8) -> VoteList {
-    VoteList { kind: Kind::Votes, decision, pairs: (0..count).map(|number| (number, decision)).collect() }
+    VoteList::votes(decision, (0..count).map(|number| (number, decision)).collect())
+}
+
+fn logs(view: u16, decision: Decision, count: u8) -> VoteList {
+    VoteList::logs(View(view), decision, (0..count).map(|number| (number, decision)).collect())
 }
 
 fn bytes(write: impl FnOnce(&mut [u8]) -> Result<usize, Refusal>) -> Vec<u8> {
@@ -119,15 +123,13 @@ fn a_box_that_missed_the_prepare_logs() {
 fn a_box_lacks_what_the_sheet_lacks() {
     let group = Group::of(2).unwrap();
     let x = tx(50, &[], &[(3, 7)]);
-    let mut sheet = Sheet::new(group, Kind::Votes);
+    let mut sheet = Sheet::votes(group);
     for number in 0..group.boxes() {
         let answer = if number % 3 == 2 { Decision::Abort } else { Decision::Commit };
         let reply = sheet.take(number, answer);
         assert_eq!((sheet.take(number, answer), Reply::Repeat.list_lacks(answer), Reply::Repeat.proof_reached(answer)), (Reply::Repeat, None, false));
-        let mut pairs: Vec<(u8, Decision)> = [Decision::Commit, Decision::Abort].iter().flat_map(|of| sheet.boxes(*of).into_iter().map(|number| (number, *of))).collect();
-        pairs.sort_unstable_by_key(|pair| pair.0);
         for decision in [Decision::Commit, Decision::Abort] {
-            let list = VoteList { kind: Kind::Votes, decision, pairs: pairs.clone() };
+            let list = sheet.list(decision);
             let told = |lacking: Option<u8>, taken| match lacking {
                 Some(0) => taken,
                 lacking => Answer::Refused(Refusal::TooFew(lacking.expect("a sheet of votes tells"))),
@@ -159,7 +161,7 @@ fn a_vote_goes_to_the_tally_as_it_stands() {
     let (table, _) = three_votes(group);
     let [commit, waiting, abort] = [0, 1, 2].map(|place| u64::from(table.bytes()[HEAD + ROW * place + VOTE_AT]));
     assert_eq!([commit, abort, waiting], [Vote::Commit, Vote::Abort(Reason::Undercuts), Vote::Waiting].map(Vote::number));
-    let mut sheet = Sheet::new(group, Kind::Votes);
+    let mut sheet = Sheet::votes(group);
     assert!(matches!(sheet.take_number(0, commit), Reply::Votes { .. }));
     assert!(matches!(sheet.take_number(1, abort), Reply::Votes { .. }));
     let before = sheet;
@@ -175,8 +177,7 @@ fn what_is_written_is_read() {
     let group = Group::of(5).unwrap();
     let all: Vec<(u16, u64)> = (0..8).map(|i| (73 * i, u64::from(i))).collect();
     let x = tx(u64::MAX, &all, &all);
-    let mut list = votes(Decision::Abort, 26);
-    list.kind = Kind::Logs;
+    let list = logs(65535, Decision::Abort, 26);
     let message = bytes(|out| write_dc(group, &x, &list, out));
     assert_eq!(message.len(), LONGEST);
     assert_eq!(read_message(group, &message), Ok(Message::Decide(x.clone(), list.clone())));
@@ -188,6 +189,61 @@ fn what_is_written_is_read() {
     assert_eq!(read_message(group, &rd), Ok(Message::Read(Key(511), Stamp(1))));
     assert_eq!(read_message(group, &[]), Err(Refusal::Short));
     assert!(tx_part(group, &rd).is_empty());
+}
+
+#[test]
+fn logs_carry_their_view() {
+    let group = Group::of(1).unwrap();
+    let x = tx(50, &[], &[(3, 7)]);
+    for view in [0, 1, 255, 256, 65535] {
+        let list = logs(view, Decision::Abort, 2);
+        let [low, high] = view.to_le_bytes();
+        let listed = bytes(|out| write_vl(group, &list, out));
+        assert_eq!(listed, [b'V', b'L', 2, 2, 2, low, high, 0, 2, 1, 2]);
+        let message = bytes(|out| write_dc(group, &x, &list, out));
+        assert_eq!(read_message(group, &message), Ok(Message::Decide(x.clone(), list)));
+        for end in 0..listed.len() {
+            assert_eq!(check_vl(group, &listed[..end]), Err(Refusal::Short));
+        }
+        // without its view, as lists of logs were before
+        assert_eq!(check_vl(group, &[&listed[..5], &listed[7..]].concat()), Err(Refusal::Short));
+    }
+    assert_eq!(check_vl(group, &[b'V', b'L', 1, 2, 1, 0, 0, 0, 2]), Err(Refusal::Trailing));
+    assert_eq!(check_vl(group, &[b'V', b'L', 3, 2, 1, 0, 2]), Err(Refusal::Code));
+}
+
+#[test]
+fn votes_have_no_view() {
+    let group = Group::of(1).unwrap();
+    let x = tx(50, &[], &[(3, 7)]);
+    let (plain, mut lent) = (votes(Decision::Commit, 4), votes(Decision::Commit, 4));
+    lent.view = View(300);
+    assert_eq!(bytes(|out| write_vl(group, &lent, out)), bytes(|out| write_vl(group, &plain, out)));
+    let message = bytes(|out| write_lg(group, &x, &lent, out));
+    assert_eq!(read_message(group, &message), Ok(Message::Log(x, plain)));
+}
+
+#[test]
+fn a_sheet_of_logs_is_for_one_view() {
+    let group = Group::of(1).unwrap();
+    let x = tx(50, &[], &[(3, 7)]);
+    assert_eq!((Sheet::votes(group).view(), Sheet::logs(group, View(0)).view()), (None, Some(View(0))));
+    for view in [0, 7, 65535] {
+        let mut sheet = Sheet::logs(group, View(view));
+        assert_eq!(write_dc(group, &x, &sheet.list(Decision::Commit), &mut [0; LONGEST]), Err(Refusal::Count));
+        for number in [5, 3, 1, 0, 4] {
+            sheet.take(number, Decision::Commit);
+        }
+        assert_eq!(sheet.take(2, Decision::Abort), Reply::Logs { commit_proof: 0, abort_proof: 4 });
+        let mut answers = [Decision::Commit; 6];
+        answers[2] = Decision::Abort;
+        assert_eq!(sheet.list(Decision::Commit), VoteList::logs(View(view), Decision::Commit, (0..).zip(answers).collect()));
+        // a box takes the proof, whatever view it is of
+        let proof = bytes(|out| write_dc(group, &x, &sheet.list(Decision::Commit), out));
+        assert_eq!(Table::new(group, 1).unwrap().decide(100, 10, &proof), Answer::Done);
+        let against = bytes(|out| write_dc(group, &x, &sheet.list(Decision::Abort), out));
+        assert_eq!(Table::new(group, 1).unwrap().decide(100, 10, &against), Answer::Refused(Refusal::TooFew(4)));
+    }
 }
 
 #[test]
@@ -204,6 +260,7 @@ fn refusals_leave_the_buffer() {
     assert_eq!(write_vl(group, &list, &mut out), Err(Refusal::Range));
     list.pairs.truncate(1);
     list.kind = Kind::Logs;
+    list.view = View(1);
     assert_eq!(write_lg(group, &tx(5, &[], &[(1, 1)]), &list, &mut out), Err(Refusal::Code));
     list.pairs = (0..27).map(|number| (number, Decision::Commit)).collect();
     assert_eq!(write_vl(group, &list, &mut out), Err(Refusal::Count));
@@ -218,7 +275,7 @@ fn groups_and_sheets() {
     assert_eq!((row(0), row(6)), (Err(Refusal::Group), Err(Refusal::Group)));
     let group = Group::of(1).unwrap();
     assert_eq!((Table::new(group, 0), Table::new(group, 256)), (Err(Refusal::Group), Err(Refusal::Group)));
-    let mut sheet = Sheet::new(group, Kind::Logs);
+    let mut sheet = Sheet::logs(group, View(0));
     for number in 0..4 {
         assert_eq!(sheet.take(number, Decision::Abort), Reply::Logs { commit_proof: 5, abort_proof: 4 - number as u8 });
     }

@@ -1,6 +1,6 @@
 //! The bench program once more, as a function of its input, and a bench program held against it.
 
-use crate::messages::{pr, rd, tx, with_list};
+use crate::messages::{pr, rd, tx, with_list, with_view};
 use crate::mix;
 use crate::model::{self, Answer, Decision, Kind, Settings, MARKS};
 use crate::random::Random;
@@ -233,14 +233,31 @@ fn particular(random: &mut Random) -> Vec<Vec<u8>> {
 /// The example with one byte of a record set wrong: counts, marks inside, codes.
 fn wrong_bytes() -> Vec<Vec<u8>> {
     let body = tx(70, &[], &[(3, 7)]);
-    let list = |mark| with_list(mark, &body, Kind::Votes, Decision::Commit, &[(0, Decision::Commit)]);
     let mut inputs = Vec::new();
-    // TX: mark, r, w, stamp; VL behind the 22 bytes of the body: mark, kind, decision, count, box, answer
-    for (place, byte) in [(2, b'V'), (3, 0), (4, 9), (5, 9), (5, 0), (6, 0), (15, 2), (24, b'T'), (26, 2), (27, 3), (28, 0), (28, 27), (29, 26), (30, 0)] {
-        for mark in [b"LG", b"DC"] {
-            let mut message = list(mark);
-            message[place] = byte;
+    // TX: mark, r, w, stamp; VL behind the 22 bytes of the body: mark, kind, decision, count, a view of logs, box, answer
+    for (place, byte) in [(2, b'V'), (3, 0), (4, 9), (5, 9), (5, 0), (6, 0), (15, 2), (24, b'T'), (26, 2), (26, 1), (26, 3), (27, 3), (28, 0), (28, 27), (29, 26), (30, 0), (31, 26), (32, 0)] {
+        for (mark, kind) in [(b"LG", Kind::Votes), (b"DC", Kind::Votes), (b"LG", Kind::Logs), (b"DC", Kind::Logs)] {
+            let mut message = with_view(mark, &body, kind, Decision::Commit, 0x0102, &[(0, Decision::Commit)]);
+            message.get_mut(place).into_iter().for_each(|at| *at = byte);
             inputs.push([&example()[..], &message, &rd(3, 80)].concat());
+        }
+    }
+    inputs
+}
+
+/// The example, then a DC of logs: of views whose bytes could begin the next record among them, an RD behind it; the same cut at every byte; and without its view, as
+/// lists were before, so that it goes on into whatever follows.
+fn views() -> Vec<Vec<u8>> {
+    let (body, answers) = (tx(70, &[], &[(3, 7)]), [0, 1, 2, 3, 4].map(|number| (number, Decision::Commit)));
+    let mut inputs = Vec::new();
+    for view in [0, 1, 255, 256, 65535, u16::from_le_bytes(*b"RD"), u16::from_le_bytes(*b"VL"), 0x0101] {
+        let message = with_view(b"DC", &body, Kind::Logs, Decision::Commit, view, &answers);
+        inputs.push([&example()[..], &message, &rd(3, 80), &message].concat());
+        let from = example().len();
+        inputs.extend((from..from + message.len()).map(|end| [&example()[..], &message].concat()[..end].to_vec()));
+        let old = [&message[..29], &message[31..]].concat();
+        for behind in [vec![], rd(3, 80), pr(&body), message.clone(), ck(1), vec![5, 1], vec![5, 1, b'R']] {
+            inputs.push([&example()[..], &old, &behind].concat());
         }
     }
     inputs
@@ -249,6 +266,7 @@ fn wrong_bytes() -> Vec<Vec<u8>> {
 fn inputs(random: &mut Random, runs: u64) -> Vec<Vec<u8>> {
     let mut inputs = particular(random);
     inputs.extend(wrong_bytes());
+    inputs.extend(views());
     for _ in 0..runs {
         let long = random.one_of(&[100, 500, 2000, 2000, 8000]);
         let mut bytes = if random.chance(85) { stream(random, long) } else { filled(random, long) };

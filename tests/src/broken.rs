@@ -1,15 +1,18 @@
 //! A test that cannot fail is a defect. Here boxes that are wrong stand in the engine's place, and each must be noticed: by the
-//! cluster, where demand 3 falls with the rule, and always by the comparison with the model.
+//! cluster, where demand 3 falls with the rule, and always by the comparison with the model. What only its records show of a box has to be noticed there.
 
 use crate::cluster::{self, Counts, Plan};
 use crate::compare::{first_difference, first_difference_in_tally};
 use crate::engine::Entrance;
 use crate::member::{Engine, Member, Model};
 use crate::model::{self, Answer, Reply, Rule, Rules, Settings, Sheet, PAPER};
+use crate::records;
 use stobbarel::layout::{BODY_AT, HEAD, REASON_AT, ROW, VOTE_AT};
 
 /// Messages, or answers for sheets, within which the comparison has to notice a wrong box.
 const COMPARED: u64 = 50_000;
+/// Records within which the comparison of records has to notice one.
+const RECORDS: u64 = 1_000;
 /// Clusters in which demand 3 has to hold where it is said to hold.
 const HELD: u64 = 500;
 
@@ -85,6 +88,20 @@ const LATE: [Broken; 9] = [
     falls("what is logged is not live after its PR", &[Rule::LoggedLives]),
 ];
 
+/// Lists of logs carry their view.
+const VIEWS: [Broken; 3] = [
+    holds("a reader that takes no view of logs", &[Rule::LogsHaveAView], "a box only takes fewer DCs"),
+    holds("a reader that takes a view of votes too", &[Rule::VotesHaveNone], "a box only takes fewer lists"),
+    holds("a reader that takes a view of a kind that is neither", &[Rule::OtherKindsHaveNone], "only the number differs"),
+];
+
+/// What a box that does not look at a view never shows, and its readers and writers do; the three above are held against these too.
+const IN_RECORDS: [(&str, Rules); 3] = [
+    ("a view's higher byte stands first", Rules { broken: &[Rule::LowByteFirst] }),
+    ("a reader that gives a view of votes", Rules { broken: &[Rule::VotesReadAsZero] }),
+    ("a writer that writes the view lent beside votes", Rules { broken: &[Rule::VotesWrittenWithout] }),
+];
+
 /// Where to look: so many clusters from a seed on.
 #[derive(Clone, Copy)]
 struct Search {
@@ -116,6 +133,15 @@ fn noticed(broken: &Broken, search: Search) -> bool {
     };
     let differs = differs.map_or("NO message".into(), |at| format!("message {at:5}"));
     println!("{:60} {differs}  {seen}{}", broken.what, if passed { "" } else { "  FAILED" });
+    passed
+}
+
+/// Readers and writers with a broken rule, and whether they must be refused: by records of the generator, and by lists cut at every byte.
+fn recorded(what: &str, clerk: &dyn records::Clerk, seed: u64, wrong: bool) -> bool {
+    let (first, cuts) = (records::first_difference(clerk, RECORDS, seed), records::cuts_wrong(clerk));
+    let passed = (first.is_some(), cuts > 0) == (wrong, wrong);
+    let seen = first.map_or(format!("agrees on {RECORDS} records"), |at| format!("record {at:5}"));
+    println!("{what:60} {seen}, {cuts} of the lists that are cut at every byte{}", if passed { "" } else { "  FAILED" });
     passed
 }
 
@@ -271,9 +297,13 @@ pub fn check(most: u64, seed: u64) -> bool {
     let search = Search { most, seed };
     println!("a rule broken: the first message at which the comparison differs, the first cluster that sees demand 3 broken");
     let mut passed = true;
-    for broken in SLIPS.iter().chain(&THRESHOLDS_AND_LISTS).chain(&TESTS).chain(&ENTRIES).chain(&LATE) {
+    for broken in SLIPS.iter().chain(&THRESHOLDS_AND_LISTS).chain(&TESTS).chain(&ENTRIES).chain(&LATE).chain(&VIEWS) {
         passed &= noticed(broken, search);
     }
+    for (what, rules) in VIEWS.iter().map(|broken| (broken.what, broken.rules)).chain(IN_RECORDS) {
+        passed &= recorded(what, &Model(rules), seed, true);
+    }
+    passed &= recorded("the engine's records", &Engine, seed, false);
     passed &= proved_with_a_late_box(search);
     passed &= one_liar_too_many(search);
     passed &= compared("a box that refuses all", Bad::RefusesAll, seed, true);

@@ -8,7 +8,7 @@
 use crate::engine::Entrance;
 use crate::judge::{Judge, Word};
 use crate::member::Member;
-use crate::messages::{code, pr, rd, transaction, with_list};
+use crate::messages::{code, pr, rd, transaction, with_view};
 use crate::model::{Answer, Decision, Kind, Reply, Rules, Settings, Sheet, Transaction, PAPER};
 use crate::random::Random;
 use std::collections::{BTreeMap, VecDeque};
@@ -21,7 +21,7 @@ const WAITING: u64 = 3;
 pub const PROVED_WITH_IT: &str = "a proof from logs, not to be had without such a box";
 
 /// What a standard number of runs has to meet.
-const EVENTS: [&str; 65] = [
+const EVENTS: [&str; 67] = [
     "run with f = 1",
     "run with f = 2",
     "run with f = 3",
@@ -53,6 +53,8 @@ const EVENTS: [&str; 65] = [
     "commit list and abort list for one body",
     "one body logged both ways",
     "done",
+    "done, by logs of view 0",
+    "done, by logs of another view",
     "a decision brought to a box that had not seen the body",
     "a held body was replaced",
     "abort 6, the body waited for replaced by one that lacks the key",
@@ -193,7 +195,7 @@ struct Letter {
     from: usize,
     to: usize,
     mark: [u8; 2],
-    /// Kind, decision and answers of an LG's or a DC's list.
+    /// Kind, decision, view and answers of an LG's or a DC's list.
     list: Option<Listed>,
 }
 
@@ -201,6 +203,8 @@ struct Letter {
 struct Listed {
     kind: Kind,
     decision: Decision,
+    /// Of logs, 0 beside votes. All that boxes log is of view 0; a gateway may write another, which a box does not look at.
+    view: u16,
     pairs: Vec<(u8, Decision)>,
 }
 
@@ -769,7 +773,8 @@ impl Cluster<'_> {
         }
         let bold = self.gateways[from].wants == Some(decision);
         let short = have + 1 == needed && (bold || self.random.chance(20)) || self.random.chance(4);
-        (twice || have >= needed || short).then_some(Listed { kind, decision, pairs }).filter(|list| !list.pairs.is_empty())
+        let view = if kind == Kind::Votes || self.random.chance(70) { 0 } else { self.random.one_of(&[1, 255, 256, 65535]) };
+        (twice || have >= needed || short).then_some(Listed { kind, decision, view, pairs }).filter(|list| !list.pairs.is_empty())
     }
 
     fn leave_out(&mut self, pairs: &mut Vec<(u8, Decision)>, decision: Decision, surplus: usize) {
@@ -841,7 +846,7 @@ impl Cluster<'_> {
         let body = &self.judge.bodies[self.gateways[letter.from].body].bytes;
         match &letter.list {
             None => pr(body),
-            Some(list) => with_list(&letter.mark, body, list.kind, list.decision, &list.pairs),
+            Some(list) => with_view(&letter.mark, body, list.kind, list.decision, list.view, &list.pairs),
         }
     }
 
@@ -849,7 +854,8 @@ impl Cluster<'_> {
         let body = self.gateways[letter.from].body;
         let list = letter.list.as_ref().map_or(String::new(), |list| {
             let pairs: Vec<String> = list.pairs.iter().map(|(number, answer)| format!("{number}:{}", code(*answer))).collect();
-            format!(" {:?} {:?} [{}]", list.kind, list.decision, pairs.join(" "))
+            let view = if list.kind == Kind::Logs { format!(" of view {}", list.view) } else { String::new() };
+            format!(" {:?}{view} {:?} [{}]", list.kind, list.decision, pairs.join(" "))
         });
         let tx = &self.judge.bodies[body].tx;
         println!("  box {}: {} body {body} (stamp {}, reads {:?}, writes {:?}){list}: {answer:?}", letter.to, String::from_utf8_lossy(&letter.mark), tx.stamp, tx.reads, tx.writes);
@@ -920,6 +926,11 @@ impl Cluster<'_> {
             }
             Answer::Done => {
                 self.counts.count("done");
+                match letter.list.as_ref().filter(|list| list.kind == Kind::Logs).map(|list| list.view) {
+                    Some(0) => self.counts.count("done, by logs of view 0"),
+                    Some(_) => self.counts.count("done, by logs of another view"),
+                    None => {}
+                }
                 match self.boxes[letter.to].held.insert(stamp, body) {
                     None => self.counts.count("a decision brought to a box that had not seen the body"),
                     Some(before) if before != body => self.counts.count("a held body was replaced"),

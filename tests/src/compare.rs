@@ -4,7 +4,7 @@
 
 use crate::engine::{self, Entrance};
 use crate::member::Member;
-use crate::messages::{tx, with_list};
+use crate::messages::{tx, with_view};
 use crate::mix;
 use crate::model::{self, Answer, Decision, Kind, Reply, Settings, Sheet, MARKS};
 use crate::random::Random;
@@ -96,7 +96,7 @@ struct Call<'a> {
 }
 
 /// Circumstances that a mixture of calls has to meet.
-const CIRCUMSTANCES: [&str; 10] = [
+const CIRCUMSTANCES: [&str; 15] = [
     "due another mark than the message has",
     "due no mark, and the message is short",
     "due no mark, 14 before it",
@@ -107,7 +107,29 @@ const CIRCUMSTANCES: [&str; 10] = [
     "16 between two calls that were taken, on one table",
     "another capacity than the call before had, both taken",
     "a table that every entrance has changed or read",
+    "an LG of logs with their view, refused for its kind",
+    "a list of logs that ends before its view or inside it",
+    "a list of logs without its view",
+    "a list of another kind with two bytes too many",
+    "a list of a kind that is neither, cut without a view",
 ];
+
+/// What a message's list shows of a view, beside the refusal's number.
+fn viewed(message: &[u8], refused: u8) -> Option<&'static str> {
+    let [mark, rest] = [message.get(..2)?, message.get(14 + 10 * (usize::from(*message.get(4)?) + usize::from(*message.get(5)?))..)?];
+    let [b'V', b'L', kind, _, count @ 1..=26, rest @ ..] = rest else { return None };
+    let pairs = 2 * usize::from(*count);
+    match (kind, refused, rest.len()) {
+        _ if mark != b"LG" && mark != b"DC" => None,
+        (2, 8, _) if mark == b"LG" => Some(CIRCUMSTANCES[10]),
+        (2, 1, 0 | 1) => Some(CIRCUMSTANCES[11]),
+        (2, 1, length) if length == pairs => Some(CIRCUMSTANCES[12]),
+        (2, _, _) => None,
+        (_, 4, length) if length == pairs + 2 => Some(CIRCUMSTANCES[13]),
+        (0 | 3.., 8, _) => Some(CIRCUMSTANCES[14]),
+        _ => None,
+    }
+}
 
 /// What the calls of one run have met so far.
 #[derive(Default)]
@@ -132,6 +154,7 @@ impl Trail {
             Answer::Refused(number) => number,
             _ => 0,
         };
+        met.extend(viewed(how.message, refused));
         let mut meet = |circumstance: &'static str, does: bool| met.extend(does.then_some(circumstance));
         let (mark, taken) = (how.message.first_chunk().filter(|mark| MARKS.contains(mark)), how.entrance.taken());
         let no_mark = taken.is_empty();
@@ -321,13 +344,15 @@ fn told_by_a_box(one: &mut dyn Member, f: u64, sheet: &Sheet, reply: Reply) -> R
         Reply::Repeat | Reply::Refused(_) => return Ok([0, 0]),
     };
     let (body, answers, mut told) = (tx(50, &[], &[(3, 7)]), listed(sheet), [0, 0]);
+    // a sheet of logs is for one view, whichever that is
+    let view = (sheet.commits ^ sheet.aborts >> 5) as u16;
     for (place, lacking) in lacking.iter().enumerate() {
         let decision = [Decision::Commit, Decision::Abort][place % 2];
         // a sheet of votes says first what the two lists lack
         let (mark, taken) = if kind == Kind::Votes && place < 2 { (b"LG", Answer::Logged(decision)) } else { (b"DC", Answer::Done) };
         let due = if *lacking == 0 { taken } else { Answer::TooFew(*lacking) };
         let settings = Settings { f, capacity: 1, clock: 0, delta: 0 };
-        let message = with_list(mark, &body, kind, decision, &answers);
+        let message = with_view(mark, &body, kind, decision, view, &answers);
         let given = one.call(Entrance::Receive, &mut vec![0; table_len(1)], &mut vec![0; 512], &settings, &message)?;
         if given != due {
             return Err(format!("f {f}, {sheet:?} says {reply:?}, and of its list in a {} for {decision:?} the box says {given:?}", String::from_utf8_lossy(mark)));

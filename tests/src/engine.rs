@@ -13,9 +13,9 @@ extern "C" {
     fn stobbarel_reading_vl(f: u64, bytes: *const u8, bytes_len: usize) -> u8;
     fn stobbarel_fields(f: u64, message: *const u8, message_len: usize, head: *mut u64, reads: *mut u16, versions: *mut u64, writes: *mut u16, values: *mut u64, numbers: *mut u8, answers: *mut u8) -> u8;
     fn stobbarel_write_tx(stamp: u64, r: usize, w: usize, reads: *const u16, versions: *const u64, writes: *const u16, values: *const u64, out: *mut u8, out_len: usize, length: *mut usize) -> u8;
-    fn stobbarel_write_vl(f: u64, kind: u8, decision: u8, count: usize, numbers: *const u8, answers: *const u8, out: *mut u8, out_len: usize, length: *mut usize) -> u8;
+    fn stobbarel_write_vl(f: u64, kind: u8, decision: u8, view: u16, count: usize, numbers: *const u8, answers: *const u8, out: *mut u8, out_len: usize, length: *mut usize) -> u8;
     fn stobbarel_write_pr(stamp: u64, r: usize, w: usize, reads: *const u16, versions: *const u64, writes: *const u16, values: *const u64, out: *mut u8, out_len: usize, length: *mut usize) -> u8;
-    fn stobbarel_write_listed(mark: u64, f: u64, stamp: u64, r: usize, w: usize, reads: *const u16, versions: *const u64, writes: *const u16, values: *const u64, kind: u8, decision: u8, count: usize, numbers: *const u8, answers: *const u8, out: *mut u8, out_len: usize, length: *mut usize) -> u8;
+    fn stobbarel_write_listed(mark: u64, f: u64, stamp: u64, r: usize, w: usize, reads: *const u16, versions: *const u64, writes: *const u16, values: *const u64, kind: u8, decision: u8, view: u16, count: usize, numbers: *const u8, answers: *const u8, out: *mut u8, out_len: usize, length: *mut usize) -> u8;
     fn stobbarel_write_rd(key: u16, stamp: u64, out: *mut u8, out_len: usize, length: *mut usize) -> u8;
     fn stobbarel_thresholds(f: u64, out: *mut u64) -> u8;
 }
@@ -166,9 +166,9 @@ pub fn write(record: &Record, f: u64, out: &mut Vec<u8>) -> Result<(u8, usize), 
     let number = unsafe {
         match record {
             Record::Tx(_) => stobbarel_write_tx(s, r, w, k, v, l, u, o, n, &mut length),
-            Record::Vl(_) => stobbarel_write_vl(f, list.kind, list.decision, list.count, b, a, o, n, &mut length),
+            Record::Vl(_) => stobbarel_write_vl(f, list.kind, list.decision, list.view, list.count, b, a, o, n, &mut length),
             Record::Pr(_) => stobbarel_write_pr(s, r, w, k, v, l, u, o, n, &mut length),
-            Record::Listed(mark, ..) => stobbarel_write_listed(*mark, f, s, r, w, k, v, l, u, list.kind, list.decision, list.count, b, a, o, n, &mut length),
+            Record::Listed(mark, ..) => stobbarel_write_listed(*mark, f, s, r, w, k, v, l, u, list.kind, list.decision, list.view, list.count, b, a, o, n, &mut length),
             Record::Rd { key, stamp } => stobbarel_write_rd(*key, *stamp, o, n, &mut length),
         }
     };
@@ -192,9 +192,12 @@ pub fn reading_vl(bytes: &[u8], f: u64) -> u8 {
     unsafe { stobbarel_reading_vl(f, bytes.as_ptr(), bytes.len()) }
 }
 
-/// A message's head and its values as drafts, over what stood there before; the refusal's number, or 0.
-pub fn fields(message: &[u8], f: u64) -> (u8, [u64; 8], Draft, ListDraft) {
-    let (mut head, mut reads, mut versions, mut writes, mut values) = ([99; 8], [99; 8], [99; 8], [99; 8], [99; 8]);
+/// What a reader makes of a message: the refusal's number, or 0; the head's nine numbers; its values as drafts.
+pub type Fields = (u8, [u64; 9], Draft, ListDraft);
+
+/// A message's values, over what stood there before; 255 where a number behind the ninth was written.
+pub fn fields(message: &[u8], f: u64) -> Fields {
+    let (mut head, mut reads, mut versions, mut writes, mut values) = ([99; 10], [99; 8], [99; 8], [99; 8], [99; 8]);
     let (mut numbers, mut answers) = ([99; 26], [99; 26]);
     let number = unsafe {
         stobbarel_fields(f, message.as_ptr(), message.len(), head.as_mut_ptr(), reads.as_mut_ptr(), versions.as_mut_ptr(), writes.as_mut_ptr(), values.as_mut_ptr(), numbers.as_mut_ptr(), answers.as_mut_ptr())
@@ -206,8 +209,15 @@ pub fn fields(message: &[u8], f: u64) -> (u8, [u64; 8], Draft, ListDraft) {
         reads: std::array::from_fn(|i| (reads[i], versions[i])),
         writes: std::array::from_fn(|i| (writes[i], values[i])),
     };
-    let list = ListDraft { kind: head[5] as u8, decision: head[6] as u8, count: head[7] as usize, pairs: std::array::from_fn(|i| (numbers[i], answers[i])) };
-    (number, head, draft, list)
+    let list = ListDraft {
+        kind: head[5] as u8,
+        decision: head[6] as u8,
+        view: head[7] as u16,
+        count: head[8] as usize,
+        pairs: std::array::from_fn(|i| (numbers[i], answers[i])),
+    };
+    let [head @ .., behind] = head;
+    (if behind == 99 { number } else { 255 }, head, draft, list)
 }
 
 /// n and the five thresholds, over what stood there before; 14 or 0.

@@ -26,10 +26,18 @@ pub fn code(decision: Decision) -> u8 {
     }
 }
 
-/// An LG or a DC.
+/// An LG or a DC; logs are of view 0, as those from an LG are.
 pub fn with_list(mark: &[u8; 2], tx: &[u8], kind: Kind, decision: Decision, answers: &[(u8, Decision)]) -> Vec<u8> {
-    let kind = if kind == Kind::Votes { 1 } else { 2 };
-    let mut bytes = [&mark[..], tx, b"VL", &[kind, code(decision), answers.len() as u8]].concat();
+    with_view(mark, tx, kind, decision, 0, answers)
+}
+
+/// The same with logs of a view; votes have none.
+pub fn with_view(mark: &[u8; 2], tx: &[u8], kind: Kind, decision: Decision, view: u16, answers: &[(u8, Decision)]) -> Vec<u8> {
+    let number = if kind == Kind::Votes { 1 } else { 2 };
+    let mut bytes = [&mark[..], tx, b"VL", &[number, code(decision), answers.len() as u8]].concat();
+    if kind == Kind::Logs {
+        bytes.extend(view.to_le_bytes());
+    }
     bytes.extend(answers.iter().flat_map(|(number, answer)| [*number, code(*answer)]));
     bytes
 }

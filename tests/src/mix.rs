@@ -207,6 +207,9 @@ impl Run {
         let decided = if decision == Decision::Commit { 1 } else { 2 };
         let pairs = pairs(random, boxes, counted, decided);
         let mut bytes = vec![b'V', b'L', kind, decided, pairs.len() as u8];
+        if kind == 2 {
+            bytes.extend(view(random).to_le_bytes());
+        }
         for (number, answer) in pairs {
             bytes.extend([number, answer]);
         }
@@ -278,20 +281,21 @@ impl Run {
         let parts = Parts::of(m);
         let pair = parts.some_pair(random);
         let place = parts.some_listed(random);
-        match random.below(20) {
+        match random.below(22) {
             choice @ 0..=5 => spoil_contents(random, m, &parts, pair, choice),
             choice @ 6..=8 => spoil_counts(random, m, choice),
-            choice @ 9..=15 => self.spoil_list(random, m, &parts, place, choice),
-            choice @ 16..=18 => spoil_mark(random, m, &parts, choice),
+            choice @ 9..=17 => self.spoil_list(random, m, &parts, place, choice),
+            choice @ 18..=20 => spoil_mark(random, m, &parts, choice),
             _ => spoil_raw(random, m),
         }
     }
 
-    /// Kind, decision or count of the list, or box number or answer at `place` in it.
+    /// Kind, decision, count or view of the list, or box number or answer at `place` in it.
     fn spoil_list(&self, random: &mut Random, m: &mut Vec<u8>, parts: &Parts, place: usize, choice: u64) {
         let n = (5 * self.settings.f.clamp(1, 5) + 1) as u8;
         match choice {
-            9 => put(m, parts.list + 2, &[random.one_of(&[0, 2, 3, 255])]),
+            9 | 16 => spoil_kind(random, m, parts),
+            17 => spoil_view(random, m, parts),
             10 => put(m, parts.list + 3, &[random.one_of(&[0, 3, 255])]),
             11 => put(m, parts.list + 4, &[random.one_of(&[0, 26, 27, 255])]),
             12 => put(m, place + 1, &[random.one_of(&[0, 3, 255])]),
@@ -566,6 +570,16 @@ fn pairs(random: &mut Random, boxes: u64, counted: u64, decided: u8) -> Vec<(u8,
     pairs
 }
 
+/// Any number is a view: mostly one beside a line.
+fn view(random: &mut Random) -> u16 {
+    match random.below(4) {
+        0 => 0,
+        1 => random.one_of(&[1, 2, 255, 256, 257, 65534, 65535]),
+        2 => random.below(256) as u16,
+        _ => random.next() as u16,
+    }
+}
+
 // ---- damage
 
 /// Where a PR, LG or DC has its parts, as far as its counts can be believed.
@@ -575,6 +589,8 @@ struct Parts {
     pairs: u64,
     /// Where the list begins.
     list: usize,
+    /// It is of logs, and has a view.
+    logs: bool,
     /// Pairs in the list.
     listed: u64,
 }
@@ -584,7 +600,7 @@ impl Parts {
         let [reads, writes] = [4, 5].map(|at| byte(m, at).min(8) as u64);
         let pairs = reads + writes;
         let list = 14 + 10 * pairs as usize;
-        Parts { reads, pairs, list, listed: byte(m, list + 4).min(26) as u64 }
+        Parts { reads, pairs, list, logs: byte(m, list + 2) == 2, listed: byte(m, list + 4).min(26) as u64 }
     }
 
     /// Where one of the reads and writes begins.
@@ -599,7 +615,7 @@ impl Parts {
 
     /// Where one of the list's pairs begins.
     fn some_listed(&self, random: &mut Random) -> usize {
-        self.list + 5 + 2 * random.below(self.listed) as usize
+        self.list + if self.logs { 7 } else { 5 } + 2 * random.below(self.listed) as usize
     }
 }
 
@@ -657,11 +673,40 @@ fn spoil_counts(random: &mut Random, m: &mut [u8], choice: u64) {
     }
 }
 
+/// Another kind of list; mostly the view goes or comes with it, so that the list is as long as that kind is.
+fn spoil_kind(random: &mut Random, m: &mut Vec<u8>, parts: &Parts) {
+    let kind = random.one_of(&[0, 1, 2, 2, 3, 255]);
+    put(m, parts.list + 2, &[kind]);
+    let at = parts.list + 5;
+    if m.len() < at + 2 || random.chance(40) {
+        return;
+    }
+    match (parts.logs, kind == 2) {
+        (true, false) => drop(m.drain(at..at + 2)),
+        (false, true) => drop(m.splice(at..at, view(random).to_le_bytes())),
+        _ => {}
+    }
+}
+
+/// The view of a list of logs taken out, wholly or by half, or the list cut at it; two bytes put into a list of votes, where a view would stand.
+fn spoil_view(random: &mut Random, m: &mut Vec<u8>, parts: &Parts) {
+    let at = parts.list + 5;
+    if m.len() < at + 2 {
+        return;
+    }
+    match random.below(3) {
+        _ if !parts.logs => drop(m.splice(at..at, view(random).to_le_bytes())),
+        0 => drop(m.drain(at..at + 2)),
+        1 => drop(m.remove(at)),
+        _ => m.truncate(at + random.below(3) as usize),
+    }
+}
+
 /// The mark of the message, of its transaction or of its list.
 fn spoil_mark(random: &mut Random, m: &mut [u8], parts: &Parts, choice: u64) {
     match choice {
-        16 => put(m, 0, random.one_of(&[b"PR", b"LG", b"DC", b"RD", b"TX", b"VL", b"GP", b"pr"])),
-        17 => put(m, 2, random.one_of(&[b"VL", b"TY", b"tx"])),
+        18 => put(m, 0, random.one_of(&[b"PR", b"LG", b"DC", b"RD", b"TX", b"VL", b"GP", b"pr"])),
+        19 => put(m, 2, random.one_of(&[b"VL", b"TY", b"tx"])),
         _ => put(m, parts.list, random.one_of(&[b"TX", b"VM", b"vl"])),
     }
 }
@@ -673,7 +718,7 @@ fn spoil_raw(random: &mut Random, m: &mut Vec<u8>) {
         3 => {
             // cut at or beside the end of a mark, of the counts, or of a part
             let list = m.len().min(Parts::of(m).list);
-            let length = if random.chance(50) { random.below(7) as usize } else { list.saturating_sub(1) + random.below(8) as usize };
+            let length = if random.chance(50) { random.below(7) as usize } else { list.saturating_sub(1) + random.below(10) as usize };
             if m.len() > 4 && random.chance(50) {
                 m[4] = random.one_of(&[0, 9, 255]);
             }

@@ -23,6 +23,18 @@ pub enum Rule {
     MostLogs,
     /// 6 of a list: it may name a box twice, and both answers count.
     NamedOnce,
+    /// A list of logs has no view.
+    LogsHaveAView,
+    /// A list of votes has a view too, before its pairs.
+    VotesHaveNone,
+    /// A list whose kind is neither votes nor logs has a view too.
+    OtherKindsHaveNone,
+    /// A view's higher byte stands first.
+    LowByteFirst,
+    /// The view of a list of votes: what stands behind its count.
+    VotesReadAsZero,
+    /// A list of votes is written with the view that is lent beside it.
+    VotesWrittenWithout,
     /// 7: a version above the own stamp may be read.
     PastReads,
     /// Entries that answer otherwise than the list's decision are counted too.
@@ -164,6 +176,8 @@ pub struct Transaction {
 pub struct List {
     pub kind: Kind,
     pub decision: Decision,
+    /// Of logs; 0 beside votes, which have none.
+    pub view: u16,
     pub answers: Vec<(u8, Decision)>,
 }
 
@@ -291,22 +305,52 @@ fn cut_transaction(bytes: &mut Bytes) -> Result<Transaction, u8> {
     Ok(Transaction { mark, stamp: little(stamp), reads: pairs(reads), writes: pairs(writes) })
 }
 
-/// A VL cut: kind, decision and pairs as numbers.
+/// A VL cut: kind, decision, view and pairs as numbers. The view is 0 where the kind has none.
 struct CutList {
     kind: u8,
     decision: u8,
+    view: u16,
     pairs: Vec<(u8, u8)>,
 }
 
-fn cut_list(bytes: &mut Bytes) -> Result<CutList, u8> {
+impl Rules {
+    /// "a list of kind 2 carries its view, two bytes, after the count"; no other kind does.
+    fn has_a_view(self, kind: u8) -> bool {
+        match kind {
+            1 => !self.hold(Rule::VotesHaveNone),
+            2 => self.hold(Rule::LogsHaveAView),
+            _ => !self.hold(Rule::OtherKindsHaveNone),
+        }
+    }
+
+    /// Little-endian, like every number.
+    fn view_of(self, two: &[u8]) -> u16 {
+        let view = little(two) as u16;
+        if self.hold(Rule::LowByteFirst) {
+            view
+        } else {
+            view.swap_bytes()
+        }
+    }
+}
+
+/// Kind, decision and count first; the view belongs to the rest.
+fn cut_list(bytes: &mut Bytes, rules: Rules) -> Result<CutList, u8> {
     bytes.mark(&[b"VL"])?;
     let head = bytes.next(3)?;
-    let count = head[2] as usize;
+    let (kind, count) = (head[0], head[2] as usize);
     if count == 0 || count > 26 {
         return Err(COUNT);
     }
-    let rest = bytes.next(2 * count)?;
-    Ok(CutList { kind: head[0], decision: head[1], pairs: rest.chunks(2).map(|pair| (pair[0], pair[1])).collect() })
+    let viewed = if rules.has_a_view(kind) { 2 } else { 0 };
+    let rest = bytes.next(viewed + 2 * count)?;
+    let view = match kind {
+        2 => rules.view_of(&rest[..viewed]),
+        1 if !rules.hold(Rule::VotesReadAsZero) => rules.view_of(&rest[..2]),
+        _ => 0,
+    };
+    let pairs = rest[viewed..].chunks(2).map(|pair| (pair[0], pair[1])).collect();
+    Ok(CutList { kind, decision: head[1], view, pairs })
 }
 
 fn rises<T: PartialOrd>(numbers: &[T]) -> bool {
@@ -358,7 +402,7 @@ fn judge_list(cut: &CutList, settings: &Settings, logs_allowed: bool, rules: Rul
     if rules.hold(Rule::NamedOnce) && !rises(&answers.iter().map(|pair| pair.0).collect::<Vec<_>>()) {
         return Err(ORDER);
     }
-    Ok(List { kind, decision: named, answers })
+    Ok(List { kind, decision: named, view: cut.view, answers })
 }
 
 /// How long the message is that these bytes begin with, whatever follows it; or why it cannot be cut.
@@ -371,7 +415,7 @@ pub fn cut(bytes: &[u8]) -> Result<usize, u8> {
         cut_transaction(&mut left)?;
     }
     if &mark == b"LG" || &mark == b"DC" {
-        cut_list(&mut left)?;
+        cut_list(&mut left, PAPER)?;
     }
     Ok(bytes.len() - left.0.len())
 }
@@ -395,7 +439,7 @@ pub fn read_message(message: &[u8], settings: &Settings, due: &[&[u8; 2]], rules
         return Ok(Message::Read { key, stamp });
     }
     let tx = cut_transaction(&mut bytes)?;
-    let list = if &mark == b"PR" { None } else { Some(cut_list(&mut bytes)?) };
+    let list = if &mark == b"PR" { None } else { Some(cut_list(&mut bytes, rules)?) };
     if !bytes.0.is_empty() {
         return Err(TRAILING);
     }
@@ -451,7 +495,7 @@ pub struct Store {
 }
 
 /// The cases that a mixture of messages has to meet.
-pub const CASES: [&str; 40] = [
+pub const CASES: [&str; 43] = [
     "PR new, no test fails",
     "PR again, vote cast",
     "PR again, waiting: waits on",
@@ -483,6 +527,9 @@ pub const CASES: [&str; 40] = [
     "DC 11, one lacking",
     "DC 11, no vote counted",
     "DC 11, no log counted",
+    "DC, logs of view 0",
+    "DC, logs of view 1 to 255",
+    "DC, logs of a view above 255",
     "DC new",
     "DC, undecided takes it",
     "DC, undecided takes it, logged with no vote",
@@ -763,6 +810,14 @@ impl Store {
             let none = if list.kind == Kind::Votes { "DC 11, no vote counted" } else { "DC 11, no log counted" };
             return self.too_few(&list, lacking, ["DC 11, one lacking", none]);
         }
+        // which view it is does not matter
+        if list.kind == Kind::Logs {
+            self.met.push(match list.view {
+                0 => "DC, logs of view 0",
+                1..=255 => "DC, logs of view 1 to 255",
+                _ => "DC, logs of a view above 255",
+            });
+        }
         let Some(place) = self.place(tx.stamp) else {
             if self.full(settings) {
                 return Answer::Refused(FULL);
@@ -856,11 +911,12 @@ pub struct Draft {
     pub writes: [(u16, u64); 8],
 }
 
-/// A list as a writer is given it: a count, and 26 places.
+/// A list as a writer is given it: a view, be the kind one that has none; a count, and 26 places.
 #[derive(Clone, Copy, Debug, Default, PartialEq, Eq)]
 pub struct ListDraft {
     pub kind: u8,
     pub decision: u8,
+    pub view: u16,
     pub count: usize,
     pub pairs: [(u8, u8); 26],
 }
@@ -889,12 +945,16 @@ impl ListDraft {
         if self.count == 0 || self.count > 26 {
             return Err(COUNT);
         }
-        Ok(CutList { kind: self.kind, decision: self.decision, pairs: self.pairs[..self.count].to_vec() })
+        Ok(CutList { kind: self.kind, decision: self.decision, view: self.view, pairs: self.pairs[..self.count].to_vec() })
     }
 }
 
-fn list_bytes(list: &CutList) -> Vec<u8> {
+/// The view is written where the kind has one, and not where one is lent beside votes.
+fn list_bytes(list: &CutList, rules: Rules) -> Vec<u8> {
     let mut bytes = vec![b'V', b'L', list.kind, list.decision, list.pairs.len() as u8];
+    if rules.has_a_view(list.kind) || !rules.hold(Rule::VotesWrittenWithout) {
+        bytes.extend(if rules.hold(Rule::LowByteFirst) { list.view.to_le_bytes() } else { list.view.to_be_bytes() });
+    }
     bytes.extend(list.pairs.iter().flat_map(|pair| [pair.0, pair.1]));
     bytes
 }
@@ -911,30 +971,35 @@ fn group(f: u64) -> Result<Settings, u8> {
 
 /// "3, the content order without 15, then 17": the record's bytes for a buffer with this room, or the refusal.
 pub fn written(record: &Record, f: u64, room: usize) -> Result<Vec<u8>, u8> {
+    written_by(PAPER, record, f, room)
+}
+
+/// The same with rules that may be broken.
+pub fn written_by(rules: Rules, record: &Record, f: u64, room: usize) -> Result<Vec<u8>, u8> {
     let bytes = match record {
         Record::Tx(draft) | Record::Pr(draft) => {
             let tx = draft.counted()?;
-            judge_transaction(&tx, PAPER)?;
+            judge_transaction(&tx, rules)?;
             let mark: &[u8] = if matches!(record, Record::Pr(_)) { b"PR" } else { b"" };
             [mark.to_vec(), transaction_bytes(&tx)].concat()
         }
         Record::Vl(draft) => {
             let settings = group(f)?;
             let list = draft.counted()?;
-            judge_list(&list, &settings, true, PAPER)?;
-            list_bytes(&list)
+            judge_list(&list, &settings, true, rules)?;
+            list_bytes(&list, rules)
         }
         Record::Listed(number, draft, list) => {
             let settings = group(f)?;
             let (tx, list) = (draft.counted()?, list.counted()?);
-            judge_transaction(&tx, PAPER)?;
+            judge_transaction(&tx, rules)?;
             let mark: &[u8; 2] = match *number {
                 LG => b"LG",
                 DC => b"DC",
                 _ => return Err(MARK),
             };
-            judge_list(&list, &settings, mark == b"DC", PAPER)?;
-            [mark.to_vec(), transaction_bytes(&tx), list_bytes(&list)].concat()
+            judge_list(&list, &settings, mark == b"DC", rules)?;
+            [mark.to_vec(), transaction_bytes(&tx), list_bytes(&list, rules)].concat()
         }
         Record::Rd { key, stamp } => {
             if *stamp == 0 || *key > 511 {
@@ -961,17 +1026,22 @@ pub fn reading_tx(record: &[u8]) -> Result<(), u8> {
 
 /// A VL by itself.
 pub fn reading_vl(record: &[u8], f: u64) -> Result<(), u8> {
+    reading_vl_by(PAPER, record, f)
+}
+
+/// The same with rules that may be broken.
+pub fn reading_vl_by(rules: Rules, record: &[u8], f: u64) -> Result<(), u8> {
     let settings = group(f)?;
     let mut bytes = Bytes(record);
-    let list = cut_list(&mut bytes)?;
+    let list = cut_list(&mut bytes, rules)?;
     if !bytes.0.is_empty() {
         return Err(TRAILING);
     }
-    judge_list(&list, &settings, true, PAPER).map(|_| ())
+    judge_list(&list, &settings, true, rules).map(|_| ())
 }
 
-/// The values of a message, as drafts with zeros in the places that are not used.
-pub fn fields(message: &[u8], f: u64) -> Result<Record, u8> {
+/// The values of a message, as drafts with zeros in the places that are not used, by rules that may be broken.
+pub fn fields_by(rules: Rules, message: &[u8], f: u64) -> Result<Record, u8> {
     fn front<T: Copy + Default, const N: usize>(from: &[T]) -> [T; N] {
         let mut places = [T::default(); N];
         places[..from.len()].copy_from_slice(from);
@@ -982,11 +1052,12 @@ pub fn fields(message: &[u8], f: u64) -> Result<Record, u8> {
     let listed = |list: &List| ListDraft {
         kind: if list.kind == Kind::Votes { 1 } else { 2 },
         decision: code(list.decision),
+        view: list.view,
         count: list.answers.len(),
         pairs: front(&list.answers.iter().map(|(number, answer)| (*number, code(*answer))).collect::<Vec<_>>()),
     };
     let settings = group(f)?;
-    Ok(match read_message(message, &settings, &MARKS, PAPER)? {
+    Ok(match read_message(message, &settings, &MARKS, rules)? {
         Message::Prepare(tx) => Record::Pr(draft(&tx)),
         Message::Log(tx, list) => Record::Listed(LG, draft(&tx), listed(&list)),
         Message::Decide(tx, list) => Record::Listed(DC, draft(&tx), listed(&list)),
@@ -1014,7 +1085,7 @@ pub enum Reply {
     Refused(u8),
 }
 
-/// A sheet as it is lent: a kind, and a mask of boxes for each answer.
+/// A sheet as it is lent: a kind, and a mask of boxes for each answer. A sheet of logs is for one view, which its keeper knows; it is not lent.
 #[derive(Clone, Copy, Debug, PartialEq, Eq)]
 pub struct Sheet {
     pub kind: u8,

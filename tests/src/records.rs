@@ -1,14 +1,71 @@
 //! Records written, read by themselves and taken apart, against the model: every answer, and every byte of the buffer.
 
-use crate::engine;
-use crate::model::{self, Draft, ListDraft, Record, DC, LG};
+use crate::engine::{self, Fields};
+use crate::member::{Engine, Model};
+use crate::messages::tx;
+use crate::model::{self, Draft, ListDraft, Record, DC, LG, PAPER};
 use crate::random::Random;
 use std::collections::BTreeMap;
 
-/// How often each writer and reader gave each number (0: accepted), and how often it was another than the model's.
+/// One that writes records and reads them: the engine; or the model, with rules that may be broken.
+pub trait Clerk {
+    /// The number and the length; the buffer becomes what is left.
+    fn write(&self, record: &Record, f: u64, out: &mut Vec<u8>) -> Result<(u8, usize), String>;
+    fn reading_vl(&self, bytes: &[u8], f: u64) -> u8;
+    fn fields(&self, bytes: &[u8], f: u64) -> Fields;
+}
+
+impl Clerk for Engine {
+    fn write(&self, record: &Record, f: u64, out: &mut Vec<u8>) -> Result<(u8, usize), String> {
+        engine::write(record, f, out)
+    }
+
+    fn reading_vl(&self, bytes: &[u8], f: u64) -> u8 {
+        engine::reading_vl(bytes, f)
+    }
+
+    fn fields(&self, bytes: &[u8], f: u64) -> Fields {
+        engine::fields(bytes, f)
+    }
+}
+
+impl Clerk for Model {
+    fn write(&self, record: &Record, f: u64, out: &mut Vec<u8>) -> Result<(u8, usize), String> {
+        Ok(match model::written_by(self.0, record, f, out.len()) {
+            Ok(bytes) => {
+                out[..bytes.len()].copy_from_slice(&bytes);
+                (0, bytes.len())
+            }
+            Err(number) => (number, 0),
+        })
+    }
+
+    fn reading_vl(&self, bytes: &[u8], f: u64) -> u8 {
+        model::reading_vl_by(self.0, bytes, f).err().unwrap_or(0)
+    }
+
+    /// Zeros are what a message does not have.
+    fn fields(&self, bytes: &[u8], f: u64) -> Fields {
+        let read = model::fields_by(self.0, bytes, f);
+        let (mark, key, tx, vl) = match read {
+            Ok(Record::Pr(tx)) => (1, 0, tx, ListDraft::default()),
+            Ok(Record::Listed(mark, tx, vl)) => (mark, 0, tx, vl),
+            Ok(Record::Rd { key, stamp }) => (4, u64::from(key), Draft { stamp, ..Draft::default() }, ListDraft::default()),
+            _ => (0, 0, Draft::default(), ListDraft::default()),
+        };
+        let listed = [u64::from(vl.kind), u64::from(vl.decision), u64::from(vl.view), vl.count as u64];
+        let head = [mark, tx.stamp, tx.r as u64, tx.w as u64, key, listed[0], listed[1], listed[2], listed[3]];
+        (read.err().unwrap_or(0), head, tx, vl)
+    }
+}
+
+/// How often each writer and reader gave each number (0: accepted), and how often it was another than the model's; how often a view was met.
 pub struct Outcome {
     pub answers: BTreeMap<(&'static str, u8), u64>,
+    met: BTreeMap<&'static str, u64>,
     pub disagreements: u64,
+    /// Disagreements are printed.
+    told: bool,
 }
 
 /// Every answer that each can give.
@@ -26,12 +83,57 @@ const REACHABLE: [(&str, &[u8]); 11] = [
     ("thresholds", &[0, 14]),
 ];
 
+/// Views, and what stands in their place, that have to be met.
+const VIEWED: [&str; 9] = [
+    "logs written, view 0",
+    "logs written, view 1 to 255",
+    "logs written, a view above 255",
+    "votes written, a view lent beside them",
+    "logs read, a view whose bytes differ",
+    "a list of logs that ends before its view",
+    "a list of logs that ends inside its view",
+    "a list of logs without its view",
+    "a list of another kind with two bytes too many",
+];
+
+/// What a list shows of a view as it is written.
+fn viewed(list: &ListDraft) -> Option<&'static str> {
+    match (list.kind, list.view) {
+        (1, 1..) => Some(VIEWED[3]),
+        (2, 0) => Some(VIEWED[0]),
+        (2, 1..=255) => Some(VIEWED[1]),
+        (2, _) => Some(VIEWED[2]),
+        _ => None,
+    }
+}
+
+/// What the bytes of a list show of one.
+fn shows(bytes: &[u8]) -> Option<&'static str> {
+    let [b'V', b'L', kind, _, count @ 1..=26, rest @ ..] = bytes else { return None };
+    match (kind, rest.len()) {
+        (2, 0) => Some(VIEWED[5]),
+        (2, 1) => Some(VIEWED[6]),
+        (2, length) if length == 2 * usize::from(*count) => Some(VIEWED[7]),
+        (2, length) if length == 2 + 2 * usize::from(*count) && rest[0] != rest[1] => Some(VIEWED[4]),
+        (kind, length) if *kind != 2 && length == 2 + 2 * usize::from(*count) => Some(VIEWED[8]),
+        _ => None,
+    }
+}
+
 impl Outcome {
+    fn new(told: bool) -> Outcome {
+        Outcome { answers: BTreeMap::new(), met: BTreeMap::new(), disagreements: 0, told }
+    }
+
+    fn meet(&mut self, what: Option<&'static str>) {
+        what.into_iter().for_each(|what| *self.met.entry(what).or_default() += 1);
+    }
+
     fn note(&mut self, who: &'static str, due: u8, same: bool, what: impl FnOnce() -> String) {
         *self.answers.entry((who, due)).or_default() += 1;
         if !same {
             self.disagreements += 1;
-            if self.disagreements <= 5 {
+            if self.told && self.disagreements <= 5 {
                 println!("DISAGREEMENT: {who}, model {due}: {}", what());
             }
         }
@@ -50,6 +152,11 @@ impl Outcome {
                 })
                 .collect();
             println!("{who:>13}  {}", times.join(", "));
+        }
+        for what in VIEWED {
+            let times = self.met.get(what).copied().unwrap_or(0);
+            println!("{times:9}  {what}{}", if times == 0 { "  DID NOT OCCUR" } else { "" });
+            missing += u64::from(times == 0);
         }
         missing
     }
@@ -93,11 +200,15 @@ fn draft(random: &mut Random) -> Draft {
     made
 }
 
-/// A list in order for f.
+/// Both sides of where a view outgrows a byte, and the last.
+const VIEWS: [u16; 5] = [0, 1, 255, 256, 65535];
+
+/// A list in order for f; a view stands beside votes too.
 fn list(random: &mut Random, f: u64) -> ListDraft {
     let boxes = 5 * f.clamp(1, 5) + 1;
     let count = random.between(1, boxes) as usize;
-    let mut made = ListDraft { kind: random.between(1, 2) as u8, decision: random.between(1, 2) as u8, count, ..ListDraft::default() };
+    let view = if random.chance(50) { random.one_of(&VIEWS) } else { random.next() as u16 };
+    let mut made = ListDraft { kind: random.between(1, 2) as u8, decision: random.between(1, 2) as u8, view, count, ..ListDraft::default() };
     made.pairs = std::array::from_fn(|_| (random.next() as u8, random.next() as u8));
     for (i, number) in rising(random, count, boxes).into_iter().enumerate() {
         made.pairs[i] = (number as u8, random.between(1, 2) as u8);
@@ -179,7 +290,7 @@ fn writer(record: &Record) -> &'static str {
 }
 
 /// One record into a buffer of any length; what was written, where it was.
-fn compare_writer(outcome: &mut Outcome, random: &mut Random, record: &Record, f: u64) -> Option<Vec<u8>> {
+fn compare_writer(outcome: &mut Outcome, clerk: &dyn Clerk, random: &mut Random, record: &Record, f: u64) -> Option<Vec<u8>> {
     let whole = model::written(record, f, usize::MAX).map_or(40, |bytes| bytes.len());
     let room = match random.below(10) {
         0 => 0,
@@ -189,6 +300,11 @@ fn compare_writer(outcome: &mut Outcome, random: &mut Random, record: &Record, f
         6 => whole + 1,
         _ => whole + random.below(300) as usize,
     };
+    compare_written(outcome, clerk, random, record, f, room)
+}
+
+/// One record into a buffer with this room.
+fn compare_written(outcome: &mut Outcome, clerk: &dyn Clerk, random: &mut Random, record: &Record, f: u64, room: usize) -> Option<Vec<u8>> {
     let before: Vec<u8> = (0..room).map(|_| random.next() as u8).collect();
     let due = model::written(record, f, room);
     let mut after = before.clone();
@@ -197,15 +313,39 @@ fn compare_writer(outcome: &mut Outcome, random: &mut Random, record: &Record, f
         after[..length].copy_from_slice(bytes);
     }
     let mut got = before;
-    let given = engine::write(record, f, &mut got);
+    let given = clerk.write(record, f, &mut got);
     let same = given == Ok((number, length)) && got == after;
     outcome.note(writer(record), number, same, || format!("f {f}, room {room}, {record:?}: engine {given:?}, buffer {got:?}, due {after:?}"));
+    if let (0, Record::Vl(list) | Record::Listed(_, _, list)) = (number, record) {
+        outcome.meet(viewed(list));
+    }
     due.ok()
+}
+
+/// Where the list of these bytes begins, as far as their counts can be believed.
+fn list_in(bytes: &[u8]) -> usize {
+    match bytes {
+        [b'L', b'G', ..] | [b'D', b'C', ..] if bytes.len() > 5 => 14 + 10 * (usize::from(bytes[4]) + usize::from(bytes[5])),
+        _ => 0,
+    }
+}
+
+/// A list's view taken out or put in, wholly or by half, or its kind another.
+fn damage_view(random: &mut Random, bytes: &mut Vec<u8>) {
+    let list = list_in(bytes);
+    let from = list + 5;
+    let length = random.between(1, 2) as usize;
+    match random.below(3) {
+        0 if bytes.len() > from + length => drop(bytes.drain(from..from + length)),
+        1 if bytes.len() > from => drop(bytes.splice(from..from, (0..length).map(|_| random.one_of(&[0, 1, 2, 255])))),
+        _ if bytes.len() > from => bytes[list + 2] = random.one_of(&[0, 1, 2, 3, 255]),
+        _ => {}
+    }
 }
 
 /// Bytes cut, flipped, lengthened or with another mark.
 fn damage(random: &mut Random, bytes: &mut Vec<u8>) {
-    match random.below(10) {
+    match random.below(11) {
         0 => bytes.truncate(random.below(bytes.len() as u64 + 1) as usize),
         1 => bytes.truncate(random.below(7) as usize),
         2 => bytes.push(random.next() as u8),
@@ -216,8 +356,8 @@ fn damage(random: &mut Random, bytes: &mut Vec<u8>) {
             let at = random.one_of(&[4, 6]);
             bytes[at..at + 8].fill(0);
         }
-        6 if bytes.len() > 6 => {
-            // a box number of a VL
+        6 if bytes.len() > 8 => {
+            // a box number of a VL, or a byte of its view
             let at = 5 + 2 * random.below((bytes.len() as u64 - 5) / 2) as usize;
             bytes[at] = random.one_of(&[0, 5, 6, 25, 26, 255]);
         }
@@ -226,6 +366,7 @@ fn damage(random: &mut Random, bytes: &mut Vec<u8>) {
             let at = random.one_of(&[12, 14]);
             bytes.copy_within(at..at + 2, at + 10);
         }
+        8 if bytes.len() > 5 => damage_view(random, bytes),
         _ if !bytes.is_empty() => {
             let at = random.below(bytes.len() as u64) as usize;
             bytes[at] = if random.chance(50) { random.one_of(&[0, 1, 2, 3, 255]) } else { bytes[at] ^ 1 << random.below(8) };
@@ -235,40 +376,87 @@ fn damage(random: &mut Random, bytes: &mut Vec<u8>) {
 }
 
 /// The same bytes by each reader, and their values.
-fn compare_readers(outcome: &mut Outcome, bytes: &[u8], f: u64) {
-    let number = |due: Result<(), u8>| due.err().unwrap_or(0);
-    let (tx, vl) = (number(model::reading_tx(bytes)), number(model::reading_vl(bytes, f)));
-    let (got_tx, got_vl) = (engine::reading_tx(bytes), engine::reading_vl(bytes, f));
+fn compare_readers(outcome: &mut Outcome, clerk: &dyn Clerk, bytes: &[u8], f: u64) {
+    let (tx, got_tx) = (model::reading_tx(bytes).err().unwrap_or(0), engine::reading_tx(bytes));
+    let (vl, got_vl) = (Model(PAPER).reading_vl(bytes, f), clerk.reading_vl(bytes, f));
     outcome.note("read TX", tx, got_tx == tx, || format!("{bytes:?}: engine {got_tx}"));
     outcome.note("read VL", vl, got_vl == vl, || format!("f {f}, {bytes:?}: engine {got_vl}"));
-    let due = model::fields(bytes, f);
-    let (mark, key, tx, vl) = match due {
-        Ok(Record::Pr(tx)) => (1, 0, tx, ListDraft::default()),
-        Ok(Record::Listed(mark, tx, vl)) => (mark, 0, tx, vl),
-        Ok(Record::Rd { key, stamp }) => (4, u64::from(key), Draft { stamp, ..Draft::default() }, ListDraft::default()),
-        _ => (0, 0, Draft::default(), ListDraft::default()),
-    };
-    let number = due.err().unwrap_or(0);
-    let head = [mark, tx.stamp, tx.r as u64, tx.w as u64, key, u64::from(vl.kind), u64::from(vl.decision), vl.count as u64];
-    let got = engine::fields(bytes, f);
-    outcome.note("fields", number, got == (number, head, tx, vl), || format!("f {f}, {bytes:?}: engine {got:?}, due {head:?} {tx:?} {vl:?}"));
+    let (due, got) = (Model(PAPER).fields(bytes, f), clerk.fields(bytes, f));
+    outcome.note("fields", due.0, got == due, || format!("f {f}, {bytes:?}: engine {got:?}, due {due:?}"));
+    outcome.meet(bytes.get(list_in(bytes)..).and_then(shows));
 }
 
-/// So many records written, and each read by every reader, sound and damaged; then the thresholds.
-pub fn run(random: &mut Random, count: u64) -> Outcome {
-    let mut outcome = Outcome { answers: BTreeMap::new(), disagreements: 0 };
-    for _ in 0..count {
-        let f = random.between(1, 5);
-        let given_f = if random.chance(96) { f } else { random.one_of(&[0, 6, 7, 255, 256 + 1, (1 << 32) + 1, u64::MAX]) };
-        let made = record(random, f);
-        if let Some(mut bytes) = compare_writer(&mut outcome, random, &made, given_f) {
-            compare_readers(&mut outcome, &bytes, given_f);
-            for _ in 0..random.one_of(&[1, 1, 2]) {
-                damage(random, &mut bytes);
+/// A record of the generator written, and read by every reader, sound and damaged.
+fn compare_one(outcome: &mut Outcome, clerk: &dyn Clerk, random: &mut Random) {
+    let f = random.between(1, 5);
+    let given_f = if random.chance(96) { f } else { random.one_of(&[0, 6, 7, 255, 256 + 1, (1 << 32) + 1, u64::MAX]) };
+    let made = record(random, f);
+    if let Some(mut bytes) = compare_writer(outcome, clerk, random, &made, given_f) {
+        compare_readers(outcome, clerk, &bytes, given_f);
+        for _ in 0..random.one_of(&[1, 1, 2]) {
+            damage(random, &mut bytes);
+        }
+        compare_readers(outcome, clerk, &bytes, given_f);
+    }
+}
+
+/// Lists of every kind, right or not, with a view on each side of each line, short and of all boxes: written, by themselves and in a message, into just enough room, less
+/// and more; read with two bytes for a view and without, cut at every byte from the list's first on, and with bytes behind. Returns how many were read.
+fn every_cut(outcome: &mut Outcome, clerk: &dyn Clerk, random: &mut Random) -> u64 {
+    let (body, mut read) = (tx(50, &[], &[(3, 7)]), 0);
+    let mut wrote = Draft { stamp: 50, w: 1, ..Draft::default() };
+    wrote.writes[0] = (3, 7);
+    let lists = [1, 5].into_iter().flat_map(|f| [1, 2, 5 * f + 1].map(|count| (f, count)));
+    for (f, count) in lists {
+        for (kind, view) in [0, 1, 2, 3, 255].into_iter().flat_map(|kind| VIEWS.map(|view| (kind, view))) {
+            let mut list = ListDraft { kind, decision: 1, view, count: count as usize, ..ListDraft::default() };
+            list.pairs = std::array::from_fn(|number| (number as u8, 1 + number as u8 % 2));
+            for record in [Record::Vl(list), Record::Listed(LG, wrote, list), Record::Listed(DC, wrote, list)] {
+                let whole = model::written(&record, f, usize::MAX).map_or(60, |bytes| bytes.len());
+                for room in [whole - 1, whole, whole + 1] {
+                    compare_written(outcome, clerk, random, &record, f, room);
+                }
             }
-            compare_readers(&mut outcome, &bytes, given_f);
+            let pairs: Vec<u8> = list.pairs[..list.count].iter().flat_map(|pair| [pair.0, pair.1]).collect();
+            for two in [&view.to_le_bytes()[..], &[]] {
+                let bytes = [&b"VL"[..], &[kind, 1, count as u8], two, &pairs].concat();
+                for before in [vec![], [b"LG", &body[..]].concat(), [b"DC", &body[..]].concat()] {
+                    let message = [&before[..], &bytes, &[0, 1, 1]].concat();
+                    for end in before.len()..=message.len() {
+                        compare_readers(outcome, clerk, &message[..end], f);
+                        read += 1;
+                    }
+                }
+            }
         }
     }
+    read
+}
+
+/// The first record of the generator, counted from 1, at which a clerk differs from the model.
+pub fn first_difference(clerk: &dyn Clerk, count: u64, seed: u64) -> Option<u64> {
+    let (mut random, mut outcome) = (Random::new(seed), Outcome::new(false));
+    (1..=count).find(|_| {
+        compare_one(&mut outcome, clerk, &mut random);
+        outcome.disagreements > 0
+    })
+}
+
+/// How many of every list's cuts and forms a clerk gets wrong.
+pub fn cuts_wrong(clerk: &dyn Clerk) -> u64 {
+    let mut outcome = Outcome::new(false);
+    every_cut(&mut outcome, clerk, &mut Random::new(1));
+    outcome.disagreements
+}
+
+/// So many records written, and each read by every reader, sound and damaged; then every cut of a list, and the thresholds.
+pub fn run(random: &mut Random, count: u64) -> Outcome {
+    let mut outcome = Outcome::new(true);
+    for _ in 0..count {
+        compare_one(&mut outcome, &Engine, random);
+    }
+    let read = every_cut(&mut outcome, &Engine, random);
+    println!("lists of every kind, with a view and without, cut at every byte: {read} read");
     for f in (0..300).chain([1 << 8, 1 << 16, 1 << 32, (1 << 32) + 5, u64::MAX]) {
         let before = std::array::from_fn(|_| random.next());
         let due = model::thresholds(f).map_or_else(|number| (number, before), |row| (0, row));

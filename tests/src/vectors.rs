@@ -3,8 +3,10 @@
 //! and the model have to give them.
 //! What the bench program can show of reading stands in tests/bench; here is the rest.
 
-use crate::engine::{self, Entrance};
-use crate::model::{self, Answer, Decision, Draft, ListDraft, Record, Reply, Settings, Sheet, DC, LG, THRESHOLDS};
+use crate::engine::{self, Entrance, Fields};
+use crate::member::Model;
+use crate::model::{self, Answer, Decision, Draft, ListDraft, Record, Reply, Settings, Sheet, DC, LG, PAPER, THRESHOLDS};
+use crate::records::Clerk;
 use stobbarel::layout::{table_len, DECIDED_AT, HEAD, LOG_AT, REASON_AT, ROW, VOTE_AT};
 
 /// How many were tried, and how many differ.
@@ -33,15 +35,24 @@ const BODY: &[u8] = b"TX\x00\x01\x32\0\0\0\0\0\0\0\x03\0\x07\0\0\0\0\0\0\0";
 const STAMP_0: &[u8] = b"TX\x00\x01\0\0\0\0\0\0\0\0\x03\0\x07\0\0\0\0\0\0\0";
 const BOTH: &[u8] = b"TX\x01\x01\x32\0\0\0\0\0\0\0\x03\0\x28\0\0\0\0\0\0\0\x03\0\x07\0\0\0\0\0\0\0";
 const VOTE: &[u8] = b"VL\x01\x01\x01\x00\x01";
+/// A log of view 0, and one of view 0x1234.
+const LOG: &[u8] = b"VL\x02\x01\x01\0\0\x00\x01";
+const LOG_LATER: &[u8] = b"VL\x02\x01\x01\x34\x12\x00\x01";
 
 /// A message for a group of f: the refusal's number, or how many of its bytes are handed back as the transaction.
-const MESSAGES: [(&str, u64, &[&[u8]], Result<usize, u8>); 16] = [
+const MESSAGES: [(&str, u64, &[&[u8]], Result<usize, u8>); 22] = [
     ("nothing", 1, &[], Err(1)),
     ("a PR of one write", 1, &[b"PR", BODY], Ok(22)),
     ("a PR of a read and a write", 1, &[b"PR", BOTH], Ok(32)),
     ("an LG", 1, &[b"LG", BODY, VOTE], Ok(22)),
     ("a DC", 1, &[b"DC", BODY, VOTE], Ok(22)),
-    ("a DC of logs", 1, &[b"DC", BODY, b"VL\x02\x01\x01\x00\x01"], Ok(22)),
+    ("a DC of logs", 1, &[b"DC", BODY, LOG], Ok(22)),
+    ("a DC of logs of a later view", 1, &[b"DC", BODY, LOG_LATER], Ok(22)),
+    ("a DC of logs of the last view", 1, &[b"DC", BODY, b"VL\x02\x01\x01\xff\xff\x00\x01"], Ok(22)),
+    ("a DC of logs without a view", 1, &[b"DC", BODY, b"VL\x02\x01\x01\x00\x01"], Err(1)),
+    ("a byte behind a DC of logs", 1, &[b"DC", BODY, LOG, b"\0"], Err(4)),
+    ("a DC of votes with a view", 1, &[b"DC", BODY, b"VL\x01\x01\x01\0\0\x00\x01"], Err(4)),
+    ("an LG of logs with their view", 1, &[b"LG", BODY, LOG], Err(8)),
     ("an RD", 1, &[b"RD\x03\0\x3c\0\0\0\0\0\0\0"], Ok(0)),
     ("box 25 of 26", 5, &[b"DC", BODY, b"VL\x01\x01\x01\x19\x01"], Ok(22)),
     ("14 before 1", 0, &[], Err(14)),
@@ -78,9 +89,29 @@ const TX: [(&str, &[u8], u8); 19] = [
 ];
 
 /// A VL by itself for a group of f: the refusal's number, or 0.
-const VL: [(&str, u64, &[u8], u8); 19] = [
+const VL: [(&str, u64, &[u8], u8); 39] = [
     ("a vote", 1, VOTE, 0),
-    ("a log", 1, b"VL\x02\x02\x01\x05\x02", 0),
+    ("a log", 1, b"VL\x02\x02\x01\0\0\x05\x02", 0),
+    ("a log of view 1", 1, b"VL\x02\x02\x01\x01\0\x05\x02", 0),
+    ("a log of view 255", 1, b"VL\x02\x02\x01\xff\0\x05\x02", 0),
+    ("a log of view 256", 1, b"VL\x02\x02\x01\0\x01\x05\x02", 0),
+    ("a log of the last view", 1, b"VL\x02\x02\x01\xff\xff\x05\x02", 0),
+    ("logs, the view is missing", 1, b"VL\x02\x02\x01", 1),
+    ("logs, one byte of the view", 1, b"VL\x02\x02\x01\0", 1),
+    ("logs, the view and no pair", 1, b"VL\x02\x02\x01\0\0", 1),
+    ("logs, the last pair is cut", 1, b"VL\x02\x02\x01\0\0\x05", 1),
+    ("logs, a byte behind", 1, b"VL\x02\x02\x01\0\0\x05\x02\0", 4),
+    ("logs without a view", 1, b"VL\x02\x02\x02\x04\x02\x05\x02", 1),
+    ("none of logs before the view", 1, b"VL\x02\x01\x00", 3),
+    ("27 logs before the view", 1, b"VL\x02\x01\x1b", 3),
+    ("logs, the count is missing", 1, b"VL\x02\x01", 1),
+    ("votes with a view", 1, b"VL\x01\x02\x01\0\0\x05\x02", 4),
+    ("logs, box 5 behind a view that is no box", 1, b"VL\x02\x02\x01\x06\x03\x05\x02", 0),
+    ("logs, box 6 of 6", 1, b"VL\x02\x02\x01\0\0\x06\x02", 5),
+    ("logs, answer 3", 1, b"VL\x02\x02\x01\0\0\x05\x03", 8),
+    ("logs, box 2 twice", 1, b"VL\x02\x02\x02\0\0\x02\x02\x02\x02", 6),
+    ("kind 0, cut without a view", 1, b"VL\x00\x01\x01\x00\x01", 8),
+    ("kind 255, cut without a view", 1, b"VL\xff\x01\x01\x00\x01", 8),
     ("box 25 of 26", 5, b"VL\x01\x01\x01\x19\x01", 0),
     ("14 before 1", 0, b"", 14),
     ("f 6", 6, VOTE, 14),
@@ -111,12 +142,41 @@ fn reading(tried: &mut Tried) {
     for (what, f, bytes, due) in VL {
         tried.one(what, due, engine::reading_vl(bytes, f), model::reading_vl(bytes, f).err().unwrap_or(0));
     }
+    for (what, parts, due) in LISTED {
+        let bytes = parts.concat();
+        tried.one(what, due, listed(&engine::fields(&bytes, 1)), listed(&Model(PAPER).fields(&bytes, 1)));
+    }
+}
+
+/// A message for a group of f = 1: the refusal's number; kind, decision, view and count as its head has them; the list's first two pairs.
+type Listed = (u8, [u64; 4], [(u8, u8); 2]);
+
+const LISTED: [(&str, &[&[u8]], Listed); 13] = [
+    ("values of a PR", &[b"PR", BODY], (0, [0, 0, 0, 0], [(0, 0); 2])),
+    ("values of an RD", &[RD], (0, [0, 0, 0, 0], [(0, 0); 2])),
+    ("values of an LG", &[b"LG", BODY, VOTE], (0, [1, 1, 0, 1], [(0, 1), (0, 0)])),
+    ("values of a DC of votes", &[b"DC", BODY, b"VL\x01\x02\x02\x03\x02\x05\x01"], (0, [1, 2, 0, 2], [(3, 2), (5, 1)])),
+    ("values of a DC of logs", &[b"DC", BODY, b"VL\x02\x02\x02\0\0\x03\x02\x05\x01"], (0, [2, 2, 0, 2], [(3, 2), (5, 1)])),
+    ("values, view 1", &[b"DC", BODY, b"VL\x02\x01\x01\x01\0\x05\x02"], (0, [2, 1, 1, 1], [(5, 2), (0, 0)])),
+    ("values, view 255", &[b"DC", BODY, b"VL\x02\x01\x01\xff\0\x05\x02"], (0, [2, 1, 255, 1], [(5, 2), (0, 0)])),
+    ("values, view 256", &[b"DC", BODY, b"VL\x02\x01\x01\0\x01\x05\x02"], (0, [2, 1, 256, 1], [(5, 2), (0, 0)])),
+    ("values, view 0x1234", &[b"DC", BODY, LOG_LATER], (0, [2, 1, 0x1234, 1], [(0, 1), (0, 0)])),
+    ("values, the last view", &[b"DC", BODY, b"VL\x02\x01\x01\xff\xff\x05\x02"], (0, [2, 1, 65535, 1], [(5, 2), (0, 0)])),
+    ("values of logs in an LG", &[b"LG", BODY, LOG_LATER], (8, [0, 0, 0, 0], [(0, 0); 2])),
+    ("values of logs, box 6 of 6", &[b"DC", BODY, b"VL\x02\x01\x01\x34\x12\x06\x01"], (5, [0, 0, 0, 0], [(0, 0); 2])),
+    ("values of logs without a view", &[b"DC", BODY, b"VL\x02\x01\x01\x00\x01"], (1, [0, 0, 0, 0], [(0, 0); 2])),
+];
+
+fn listed((number, head, _, list): &Fields) -> Listed {
+    (*number, [head[5], head[6], head[7], head[8]], [list.pairs[0], list.pairs[1]])
 }
 
 // ---- entrances
 
 const RD: &[u8] = b"RD\x03\0\x3c\0\0\0\0\0\0\0";
 const COMMIT: Answer = Answer::Commit;
+/// Boxes 0 to 4, each for commit.
+const COMMIT_LOGS: &[u8] = b"\0\x01\x01\x01\x02\x01\x03\x01\x04\x01";
 const NOTHING_FOUND: Answer = Answer::Found { committed: (0, 0), undecided: (0, 0) };
 
 const fn refused(number: u8) -> Answer {
@@ -129,12 +189,19 @@ const fn too_few(lacking: u8) -> Answer {
 }
 
 /// A message by an entrance, for f and a capacity, on an empty table for eight entries: the answer.
-const ENTERED: [(&str, Entrance, u64, u64, &[&[u8]], Answer); 24] = [
+const ENTERED: [(&str, Entrance, u64, u64, &[&[u8]], Answer); 31] = [
     ("a PR by receive", Entrance::Receive, 1, 8, &[b"PR", BODY], COMMIT),
     ("a PR", Entrance::Due(1), 1, 8, &[b"PR", BODY], COMMIT),
     ("an LG", Entrance::Due(2), 1, 8, &[b"LG", BODY, VOTE], too_few(3)),
     ("a DC", Entrance::Due(3), 1, 8, &[b"DC", BODY, VOTE], too_few(5)),
     ("an RD", Entrance::Due(4), 1, 8, &[RD], NOTHING_FOUND),
+    ("a DC of logs, view 0", Entrance::Due(3), 1, 8, &[b"DC", BODY, b"VL\x02\x01\x05\0\0", COMMIT_LOGS], Answer::Done),
+    ("a DC of logs, view 1", Entrance::Due(3), 1, 8, &[b"DC", BODY, b"VL\x02\x01\x05\x01\0", COMMIT_LOGS], Answer::Done),
+    ("a DC of logs, view 256", Entrance::Receive, 1, 8, &[b"DC", BODY, b"VL\x02\x01\x05\0\x01", COMMIT_LOGS], Answer::Done),
+    ("a DC of logs, the last view", Entrance::Receive, 1, 8, &[b"DC", BODY, b"VL\x02\x01\x05\xff\xff", COMMIT_LOGS], Answer::Done),
+    ("a DC of logs, too few of view 2", Entrance::Receive, 1, 8, &[b"DC", BODY, b"VL\x02\x02\x05\x02\0", COMMIT_LOGS], too_few(5)),
+    ("a DC of logs without a view", Entrance::Due(3), 1, 8, &[b"DC", BODY, b"VL\x02\x01\x05", COMMIT_LOGS], refused(1)),
+    ("an LG of logs", Entrance::Due(2), 1, 8, &[b"LG", BODY, b"VL\x02\x01\x05\0\0", COMMIT_LOGS], refused(8)),
     ("an RD where a PR is due", Entrance::Due(1), 1, 8, &[RD], refused(2)),
     ("a DC where an LG is due", Entrance::Due(2), 1, 8, &[b"DC", BODY, VOTE], refused(2)),
     ("an LG where a DC is due", Entrance::Due(3), 1, 8, &[b"LG", BODY, VOTE], refused(2)),
@@ -506,10 +573,14 @@ enum Before {
 
 const BEFORE: [Before; 5] = [Before::Empty, Before::Full, Before::Voted, Before::Logged, Before::Decided];
 
-/// A list with so many answers for what it decides, from box 0 on; with the others' answers or without. None where it would be empty.
+/// A list with so many answers for what it decides, from box 0 on; with the others' answers or without. None where it would be empty. Logs are of a view that changes
+/// with the list, since no view matters.
 fn list_of(f: u64, kind: u8, decided: u8, counted: usize, others: bool) -> Option<Vec<u8>> {
     let all = if others { 5 * f as usize + 1 } else { counted };
     let mut bytes = vec![b'V', b'L', kind, decided, all as u8];
+    if kind == LOGS {
+        bytes.extend([0u16, 1, 255, 256, 65535][counted % 5].to_le_bytes());
+    }
     bytes.extend((0..all).flat_map(|number| [number as u8, if number < counted { decided } else { 3 - decided }]));
     (all > 0).then_some(bytes)
 }
@@ -576,13 +647,18 @@ const fn both(stamp: u64, key: u16, version: u64) -> Draft {
 
 /// So many answers, all of one box.
 const fn list(kind: u8, decision: u8, count: usize, number: u8, answer: u8) -> ListDraft {
-    ListDraft { kind, decision, count, pairs: [(number, answer); 26] }
+    of_view(kind, 0, decision, count, number, answer)
+}
+
+/// The same with a view beside the kind.
+const fn of_view(kind: u8, view: u16, decision: u8, count: usize, number: u8, answer: u8) -> ListDraft {
+    ListDraft { kind, decision, view, count, pairs: [(number, answer); 26] }
 }
 
 /// A record for a group of f and a buffer of so many bytes: the refusal's number, or the bytes that are written.
 type Written = (&'static str, u64, Record, usize, Result<&'static [&'static [u8]], u8>);
 
-const WRITTEN: [Written; 54] = [
+const WRITTEN: [Written; 68] = [
     ("a TX", 1, Record::Tx(both(50, 3, 40)), 40, Ok(&[BOTH])),
     ("a TX into its own length", 1, Record::Tx(both(50, 3, 40)), 32, Ok(&[BOTH])),
     ("a TX, one byte short", 1, Record::Tx(both(50, 3, 40)), 31, Err(17)),
@@ -597,7 +673,18 @@ const WRITTEN: [Written; 54] = [
     ("a PR", 1, Record::Pr(both(50, 3, 40)), 40, Ok(&[b"PR", BOTH])),
     ("a PR, one byte short", 1, Record::Pr(both(50, 3, 40)), 33, Err(17)),
     ("a VL", 1, Record::Vl(list(1, 2, 1, 5, 2)), 8, Ok(&[b"VL\x01\x02\x01\x05\x02"])),
-    ("a VL of logs", 1, Record::Vl(list(2, 1, 1, 0, 1)), 8, Ok(&[b"VL\x02\x01\x01\x00\x01"])),
+    ("a VL of logs", 1, Record::Vl(list(2, 1, 1, 0, 1)), 10, Ok(&[LOG])),
+    ("a VL of logs into its own length", 1, Record::Vl(list(2, 1, 1, 0, 1)), 9, Ok(&[LOG])),
+    ("a VL of logs, one byte short", 1, Record::Vl(list(2, 1, 1, 0, 1)), 8, Err(17)),
+    ("a VL of logs, room without the view", 1, Record::Vl(list(2, 1, 1, 0, 1)), 7, Err(17)),
+    ("a VL of logs, view 1", 1, Record::Vl(of_view(2, 1, 2, 1, 5, 2)), 9, Ok(&[b"VL\x02\x02\x01\x01\0\x05\x02"])),
+    ("a VL of logs, view 255", 1, Record::Vl(of_view(2, 255, 2, 1, 5, 2)), 9, Ok(&[b"VL\x02\x02\x01\xff\0\x05\x02"])),
+    ("a VL of logs, view 256", 1, Record::Vl(of_view(2, 256, 2, 1, 5, 2)), 9, Ok(&[b"VL\x02\x02\x01\0\x01\x05\x02"])),
+    ("a VL of logs, view 0x1234", 1, Record::Vl(of_view(2, 0x1234, 1, 1, 0, 1)), 9, Ok(&[LOG_LATER])),
+    ("a VL of logs, the last view", 1, Record::Vl(of_view(2, 65535, 2, 1, 5, 2)), 9, Ok(&[b"VL\x02\x02\x01\xff\xff\x05\x02"])),
+    ("a VL of votes, a view lent beside it", 1, Record::Vl(of_view(1, 0x1234, 1, 1, 0, 1)), 9, Ok(&[VOTE])),
+    ("a VL of votes, a view lent, its own length", 1, Record::Vl(of_view(1, 65535, 1, 1, 0, 1)), 7, Ok(&[VOTE])),
+    ("kind 3, a view lent beside it", 1, Record::Vl(of_view(3, 1, 2, 1, 5, 2)), 9, Err(8)),
     ("a VL, one byte short", 1, Record::Vl(list(1, 2, 1, 5, 2)), 6, Err(17)),
     ("f 0", 0, Record::Vl(list(1, 2, 1, 5, 2)), 8, Err(14)),
     ("a list of none", 1, Record::Vl(list(1, 2, 0, 5, 2)), 8, Err(3)),
@@ -610,7 +697,10 @@ const WRITTEN: [Written; 54] = [
     ("an LG", 1, Record::Listed(LG, both(50, 3, 40), list(1, 1, 1, 0, 1)), 50, Ok(&[b"LG", BOTH, VOTE])),
     ("an LG, one byte short", 1, Record::Listed(LG, both(50, 3, 40), list(1, 1, 1, 0, 1)), 40, Err(17)),
     ("logs in an LG", 1, Record::Listed(LG, both(50, 3, 40), list(2, 1, 1, 0, 1)), 50, Err(8)),
-    ("a DC of logs", 1, Record::Listed(DC, both(50, 3, 40), list(2, 1, 1, 0, 1)), 41, Ok(&[b"DC", BOTH, b"VL\x02\x01\x01\x00\x01"])),
+    ("an LG, a view lent beside its votes", 1, Record::Listed(LG, both(50, 3, 40), of_view(1, 256, 1, 1, 0, 1)), 41, Ok(&[b"LG", BOTH, VOTE])),
+    ("a DC of logs", 1, Record::Listed(DC, both(50, 3, 40), list(2, 1, 1, 0, 1)), 43, Ok(&[b"DC", BOTH, LOG])),
+    ("a DC of logs of a later view", 1, Record::Listed(DC, both(50, 3, 40), of_view(2, 0x1234, 1, 1, 0, 1)), 50, Ok(&[b"DC", BOTH, LOG_LATER])),
+    ("a DC of logs, one byte short", 1, Record::Listed(DC, both(50, 3, 40), list(2, 1, 1, 0, 1)), 42, Err(17)),
     ("a DC, one byte short", 1, Record::Listed(DC, both(50, 3, 40), list(1, 1, 1, 0, 1)), 40, Err(17)),
     ("a list behind a PR", 1, Record::Listed(1, both(50, 3, 40), list(1, 1, 1, 0, 1)), 50, Err(2)),
     ("a list behind an RD", 1, Record::Listed(4, both(50, 3, 40), list(1, 1, 1, 0, 1)), 50, Err(2)),

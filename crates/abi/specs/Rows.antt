@@ -39,9 +39,9 @@ LeavesRow a x row y = (row ≡ answerRow (a .answer)) × (y .table ≡ tableBy (
 abbrev pub toldOf : ℕ → ℕ → ℕ → ℕ → Told
 toldOf f capacity clock delta = record { f = f; capacity = capacity; clock = clock; delta = delta }
 
--- the sheet that is lent as a kind and two masks
+-- the sheet that is lent as a kind and two masks; its view is the caller's, and no answer looks at it
 abbrev pub sheetOf : ℕ → ℕ → ℕ → Sheet
-sheetOf kind commits aborts = record { kind = kind; commits = commits; aborts = aborts }
+sheetOf kind commits aborts = record { kind = kind; view = 0; commits = commits; aborts = aborts }
 
 -- n and the five thresholds, in the order of the paper's table
 abbrev pub groupRow : ℕ → List ℕ

@@ -133,7 +133,7 @@ pub extern "C" fn stobbarel_reading_vl(f: u64, bytes: &[u8]) -> u8
 pub extern "C" fn stobbarel_fields(
     f: u64,
     message: &[u8],
-    head: &mut [u64; 8],
+    head: &mut [u64; 9],
     reads: &mut [u16; 8],
     versions: &mut [u64; 8],
     writes: &mut [u16; 8],
@@ -189,6 +189,7 @@ pub extern "C" fn stobbarel_take(
 {
     let s = Sheet {
         kind,
+        view: 0,
         commits: *commits,
         aborts: *aborts,
     };
@@ -277,15 +278,16 @@ pub extern "C" fn stobbarel_write_vl(
     f: u64,
     kind: u8,
     decision: u8,
+    view: u16,
     count: usize,
     numbers: &[u8; 26],
     answers: &[u8; 26],
     out: &mut [u8],
     length: &mut usize,
 ) -> u8
-    ensures { λ n. ⌜ left n (now (length .exit)) (now (out .exit)) ≡ vlLeft f (lentList kind decision count (now (numbers .entry)) (now (answers .entry))) (now (out .entry)) ⌝ }
+    ensures { λ n. ⌜ left n (now (length .exit)) (now (out .exit)) ≡ vlLeft f (lentList kind decision view count (now (numbers .entry)) (now (answers .entry))) (now (out .entry)) ⌝ }
 {
-    let l = arrays::list(kind, decision, count, numbers, answers);
+    let l = arrays::list(kind, decision, view, count, numbers, answers);
     let written = writing::write_vl(f, l, out);
     arrays::wrote(written, length)
 }
@@ -324,16 +326,17 @@ pub extern "C" fn stobbarel_write_listed(
     values: &[u64; 8],
     kind: u8,
     decision: u8,
+    view: u16,
     count: usize,
     numbers: &[u8; 26],
     answers: &[u8; 26],
     out: &mut [u8],
     length: &mut usize,
 ) -> u8
-    ensures { λ n. ⌜ left n (now (length .exit)) (now (out .exit)) ≡ listedLeft (listedMark mark) f (lentTx stamp r w (now (reads .entry)) (now (versions .entry)) (now (writes .entry)) (now (values .entry))) (lentList kind decision count (now (numbers .entry)) (now (answers .entry))) (now (out .entry)) ⌝ }
+    ensures { λ n. ⌜ left n (now (length .exit)) (now (out .exit)) ≡ listedLeft (listedMark mark) f (lentTx stamp r w (now (reads .entry)) (now (versions .entry)) (now (writes .entry)) (now (values .entry))) (lentList kind decision view count (now (numbers .entry)) (now (answers .entry))) (now (out .entry)) ⌝ }
 {
     let x = arrays::tx(stamp, r, w, reads, versions, writes, values);
-    let l = arrays::list(kind, decision, count, numbers, answers);
+    let l = arrays::list(kind, decision, view, count, numbers, answers);
     let written = writing::write_listed(listed_mark(mark), f, x, l, out);
     arrays::wrote(written, length)
 }

@@ -42,10 +42,10 @@ lentTx stamp r w readKeys versions writeKeys values =
       writes = tab (lentWrite writeKeys values) 0 8;
     }
 
--- kind, decision and count; the box numbers and their answers, 26 places each
-unfoldable pub lentList : ℕ → ℕ → ℕ → List ℕ → List ℕ → VoteList
-lentList kind decision count numbers answers =
-    record { kind = kind; decision = decision; count = count; pairs = tab (lentPair numbers answers) 0 26 }
+-- kind, decision, view and count; the box numbers and their answers, 26 places each
+unfoldable pub lentList : ℕ → ℕ → ℕ → ℕ → List ℕ → List ℕ → VoteList
+lentList kind decision view count numbers answers =
+    record { kind = kind; decision = decision; view = record { 0 = view }; count = count; pairs = tab (lentPair numbers answers) 0 26 }
 
 -- ---- a writer's answer
 -- 0 where the record was written, else the refusal's number
@@ -102,7 +102,7 @@ foundStamp (Is DC) own tx = tx
 foundStamp (Is RD) own tx = own
 foundStamp (Unmarked n) own tx = tx
 
--- a reading's numbers: mark, stamp, r, w, key, kind, decision, count
+-- a reading's numbers: mark, stamp, r, w, key, kind, decision, view, count
 abbrev pub headRow : Reading → List ℕ
 headRow x =
     markNumber (x .found)
@@ -112,6 +112,7 @@ headRow x =
     ∷ x .key .0
     ∷ x .list .kind
     ∷ x .list .decision
+    ∷ x .list .view .0
     ∷ x .list .count
     ∷ []
 

@@ -12,6 +12,7 @@ use records::Write;
 use records::Written;
 use terms::Key;
 use terms::Stamp;
+use terms::View;
 
 const NO_READ: Read = Read {
     key: Key(0),
@@ -69,11 +70,12 @@ pub fn tx(
 pub fn list(
     kind: u8,
     decision: u8,
+    view: u16,
     count: usize,
     numbers: &[u8; 26],
     answers: &[u8; 26],
 ) -> VoteList
-    ensures { λ l. ⌜ l ≡ lentList kind decision count (now (numbers .entry)) (now (answers .entry)) ⌝ }
+    ensures { λ l. ⌜ l ≡ lentList kind decision view count (now (numbers .entry)) (now (answers .entry)) ⌝ }
 {
     let mut pairs = [NO_PAIR; 26];
     let mut j = 0;
@@ -87,6 +89,7 @@ pub fn list(
     VoteList {
         kind,
         decision,
+        view: View(view),
         count,
         pairs,
     }
@@ -163,8 +166,8 @@ fn found_stamp(found: Marked, own: Stamp, tx: Stamp) -> Stamp
     }
 }
 
-// Mark, stamp, r, w, key, kind, decision, count.
-fn put_head(reading: Reading, head: &mut [u64; 8])
+// Mark, stamp, r, w, key, kind, decision, view, count.
+fn put_head(reading: Reading, head: &mut [u64; 9])
     ensures { λ r. ⌜ now (head .exit) ≡ headRow reading ⌝ }
 {
     let found = reading.found;
@@ -179,6 +182,7 @@ fn put_head(reading: Reading, head: &mut [u64; 8])
         reading.key.0 as u64,
         list.kind as u64,
         list.decision as u64,
+        list.view.0 as u64,
         list.count as u64,
     ];
 }
@@ -251,7 +255,7 @@ fn put_pairs(a: [Pair; 26], numbers: &mut [u8; 26], answers: &mut [u8; 26])
 // All that was read, put down.
 pub fn put_fields(
     reading: Reading,
-    head: &mut [u64; 8],
+    head: &mut [u64; 9],
     reads: &mut [u16; 8],
     versions: &mut [u64; 8],
     writes: &mut [u16; 8],

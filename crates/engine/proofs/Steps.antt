@@ -17,6 +17,7 @@ use Rattle.records.specs.declared.VoteList.{VoteList}
 use Rattle.records.specs.Vl.{vlOf, vlCount, listIn, heldList}
 use Rattle.records.specs.Cutting.{vlCut, vlPart}
 use Rattle.records.proofs.Held.{list-in}
+use Rattle.reading.proofs.Answers.{behind-view}
 use Rattle.terms.proofs.Scans.{tab-length}
 use Rattle.reading.proofs.Cuts.{vl-there}
 use Rattle.reading.proofs.Due.{tx-due}
@@ -128,7 +129,7 @@ module _ (m : List ℕ) (l : VoteList) (p : l ≡ heldList (listBehind m)) where
       rw n h
 
   pub list-is : listIn l ≡ listBehind m
-  list-is = ap listIn p ∙ list-in (listBehind m)
+  list-is = ap listIn p ∙ list-in (listBehind m) (behind-view m)
 
 -- ---- the step on the rows is the lent table's: rows, their number and the body as the code has them
 module _ (told : Told) (t m rs : List ℕ) (n : ℕ) (p : rs ≡ drop headLen t) (q : n ≡ countOf t) (marks : List ℕ) (r : Step) where

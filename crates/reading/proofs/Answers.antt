@@ -18,11 +18,11 @@ use Rattle.records.specs.declared.VoteList.{VoteList}
 use Rattle.records.specs.declared.Reading.{Reading}
 use Rattle.records.specs.declared.TxReading.{TxReading}
 use Rattle.records.specs.Tx.{Tx, txOf, txIn, heldTx, noTx}
-use Rattle.records.specs.Vl.{Vl, vlOf, listIn, heldList, noList}
+use Rattle.records.specs.Vl.{Vl, vlOf, listIn, heldList, noList, viewOf}
 use Rattle.records.specs.Contents.{txWrong, listWrong, rdWrong}
-use Rattle.records.specs.Cutting.{txPart}
+use Rattle.records.specs.Cutting.{txPart, vlPart}
 use Rattle.records.specs.Messages.{listBehind, txReadingBy, vlReadingBy, refusedReading, messageTx, messageList, messageKey, messageStamp, contentsWrong, dueRefusal, readingBy, readDue, readMarked, readingAfter}
-use Rattle.records.proofs.Held.{tx-in, list-in}
+use Rattle.records.proofs.Held.{tx-in, list-in, own-view}
 use Rattle.records.proofs.Mark as M
 use Rattle.reading.specs.Judging.{txReadingOf, vlReadingOf, readingOf, early, listWrongIn, judgedBy}
 use Rattle.reading.proofs.Cuts.{Listed, by-list}
@@ -68,8 +68,8 @@ vl-by (suc n) N x l p e = rw (← p)
 pub wrong-tx : (x : Tx) (t : Transaction) (n : ℕ) → t ≡ heldTx x → n ≡ txWrong (txIn t) → n ≡ txWrong x
 wrong-tx x t n a p = p ∙ ap (λ (y : Transaction). txWrong (txIn y)) a ∙ ap txWrong (tx-in x)
 
-pub wrong-list : (W : Vl → ℕ) (l : Vl) (v : VoteList) (n : ℕ) → v ≡ heldList l → n ≡ W (listIn v) → n ≡ W l
-wrong-list W l v n a p = p ∙ ap (λ (y : VoteList). W (listIn y)) a ∙ ap W (list-in l)
+pub wrong-list : (W : Vl → ℕ) (l : Vl) (v : VoteList) (n : ℕ) → viewOf (l .kind) (l .view) ≡ l .view → v ≡ heldList l → n ≡ W (listIn v) → n ≡ W l
+wrong-list W l v n h a p = p ∙ ap (λ (y : VoteList). W (listIn y)) a ∙ ap W (list-in l h)
 
 pub rd-same : {k s x y : ℕ} → k ≡ x → s ≡ y → rdWrong k s ≡ rdWrong x y
 rd-same p q = cc
@@ -99,20 +99,25 @@ other-list RD f l h = refl
 pub judged-at : (k : Mark) (f : ℕ) (r r′ : TxReading) (l l′ : VoteList) → r ≡ r′ → l ≡ l′ → judgedBy r k f l ≡ judgedBy r′ k f l′
 judged-at k f r r′ l l′ p q = ap (λ (y : TxReading). judgedBy y k f l) p ∙ ap (λ (y : VoteList). judgedBy r′ k f y) q
 
-pub judged-is : (k : Mark) (m : List ℕ) (N f : ℕ) (x : Tx) (l : Vl) → x ≡ messageTx k m → l ≡ messageList k m → 0 ≡ messageKey k m → 0 ≡ messageStamp k m
+-- the view of the list behind a transaction is that of its kind
+pub behind-view : (m : List ℕ) → viewOf (listBehind m .kind) (listBehind m .view) ≡ listBehind m .view
+unfolding listBehind
+behind-view m = own-view (vlPart m)
+
+pub judged-is : (k : Mark) (m : List ℕ) (N f : ℕ) (x : Tx) (l : Vl) → viewOf (l .kind) (l .view) ≡ l .view → x ≡ messageTx k m → l ≡ messageList k m → 0 ≡ messageKey k m → 0 ≡ messageStamp k m
     → judgedBy (txReadingBy N x) k f (heldList l) ≡ readingBy (orElse N (listWrongIn k f l)) k m
 unfolding txReadingBy orElse readingBy
-judged-is k m zero f x l a b c d =
-    reading-by k m _ _ _ _ _ _ (ap (listWrongIn k f) (list-in l)) (ap heldTx a) (ap heldList b) (ap (λ (n : ℕ). record { 0 = n }) c) (ap (λ (n : ℕ). record { 0 = n }) d)
-judged-is k m (suc N) f x l a b c d = refl
+judged-is k m zero f x l v a b c d =
+    reading-by k m _ _ _ _ _ _ (ap (listWrongIn k f) (list-in l v)) (ap heldTx a) (ap heldList b) (ap (λ (n : ℕ). record { 0 = n }) c) (ap (λ (n : ℕ). record { 0 = n }) d)
+judged-is k m (suc N) f x l v a b c d = refl
 
 pub listed-read : (f : ℕ) (m : List ℕ) (k : Mark) → Listed k
     → judgedBy (txReadingBy (txWrong (txOf (txPart m))) (txOf (txPart m))) k f (heldList (listBehind m)) ≡ readingBy (contentsWrong k f m) k m
 unfolding contentsWrong messageTx messageList messageKey messageStamp
 listed-read f m =
     by-list (λ (k : Mark). judgedBy (txReadingBy (txWrong (txOf (txPart m))) (txOf (txPart m))) k f (heldList (listBehind m)) ≡ readingBy (contentsWrong k f m) k m)
-    (judged-is LG m _ f _ _ refl refl refl refl)
-    (judged-is DC m _ f _ _ refl refl refl refl)
+    (judged-is LG m _ f _ _ (behind-view m) refl refl refl refl)
+    (judged-is DC m _ f _ _ (behind-view m) refl refl refl refl)
 
 -- the chain of a message's refusals, and where its contents are all that is left
 module _ (k : Mark) (f : ℕ) (m : List ℕ) where

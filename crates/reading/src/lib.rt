@@ -22,6 +22,7 @@ use records::Write;
 use terms::Group;
 use terms::Key;
 use terms::Stamp;
+use terms::View;
 
 const RD_LEN: usize = 12;
 
@@ -201,6 +202,7 @@ fn no_list() -> VoteList
     VoteList {
         kind: 0,
         decision: 0,
+        view: View(0),
         count: 0,
         pairs,
     }

@@ -1,16 +1,63 @@
 -- A transaction and a list in their structs, and out of them again.
-use Prim.Native.Nat.{ℕ, _+_, _*_, _-_}
-use mathlib.Core.Path.{_≡_}
+use Prim.Native.Nat.{ℕ, _+_, _*_, _-_, _≤_}
+use native.Mathlib.Omega.{arith}
+use mathlib.Core.Bool.{Bool, true, false}
+use mathlib.Core.Path.{_≡_, refl}
 use mathlib.Core.List.{List, _++_}
 use lib.ListN.{length, getD, replicate}
-use Rattle.terms.specs.Choice.{tab}
+use lib.Dec.{eqb}
+use Rattle.terms.specs.Choice.{pick, tab}
 use Rattle.terms.proofs.Scans.{tab-length, tab-front}
 use Rattle.records.specs.Numbers.{numAt}
 use Rattle.records.specs.Tx.{Tx, txOf, txIn, heldTx, padded, readAt, writeAt, rCount, wCount, writesFrom, readsIn, writesIn, zeroRead, zeroWrite}
-use Rattle.records.specs.Vl.{Vl, vlOf, listIn, heldList, pairAt, vlCount, pairsIn, zeroPair}
+use Rattle.records.specs.Vl.{Vl, viewLen, viewOf, vlOf, listIn, heldList, pairAt, pairsFrom, vlCount, pairsIn, zeroPair}
 use Rattle.records.specs.declared.Read.{Read}
 use Rattle.records.specs.declared.Write.{Write}
 use Rattle.records.specs.declared.Pair.{Pair}
+
+-- a list of logs has two bytes for its view
+pub logs-view : (k : ℕ) → k ≡ 2 → viewLen k ≡ 2
+unfolding viewLen
+logs-view k h = rw h
+
+pub view-short : (k : ℕ) → viewLen k ≤ 2
+unfolding viewLen
+view-short k = go (eqb k 2)
+  where
+    go : (t : Bool) → pick t 2 0 ≤ 2
+    go true = omega arith
+    go false = omega arith
+
+-- the view of a kind that has one, and of one that has none
+module _ (k v : ℕ) where
+  pub view-kept : viewLen k ≡ 2 → viewOf k v ≡ v
+  unfolding viewLen viewOf
+  view-kept = go (eqb k 2)
+    where
+      go : (t : Bool) → _≡_ {A = ℕ} (pick t 2 0) 2 → pick t v 0 ≡ v
+      go true h = refl
+      go false h = absurd (omega arith)
+
+  pub view-gone : (viewLen k ≡ 2 → ⊥) → viewOf k v ≡ 0
+  unfolding viewLen viewOf
+  view-gone = go (eqb k 2)
+    where
+      go : (t : Bool) → (_≡_ {A = ℕ} (pick t 2 0) 2 → ⊥) → pick t v 0 ≡ 0
+      go true h = absurd (h refl)
+      go false h = refl
+
+-- a view that was read is that of its kind
+pub view-once : (k v : ℕ) → viewOf k (viewOf k v) ≡ viewOf k v
+unfolding viewOf
+view-once k v = go (eqb k 2)
+  where
+    go : (t : Bool) → pick t (pick t v 0) 0 ≡ pick t v 0
+    go true = refl
+    go false = refl
+
+pub own-view : (s : List ℕ) → viewOf (vlOf s .kind) (vlOf s .view) ≡ vlOf s .view
+unfolding vlOf
+own-view s = view-once (getD s 2 0) (numAt 2 5 s)
 
 -- a struct that is filled from the bytes
 pub tx-held : (s : List ℕ) (st r w : ℕ) (a : List Read) (b : List Write)
@@ -20,11 +67,11 @@ unfolding heldTx txOf
 tx-held s st r w a b p q u d e =
     rw (tab-length (readAt s 12) 0 (rCount s), tab-length (writeAt s (writesFrom s)) 0 (wCount s)) (rw (p, d, e, q, u))
 
-pub list-held : (s : List ℕ) (k d n : ℕ) (a : List Pair)
-    → k ≡ getD s 2 0 → d ≡ getD s 3 0 → n ≡ vlCount s → a ≡ padded (pairAt s) n 26 zeroPair
-    → record { kind = k; decision = d; count = n; pairs = a } ≡ heldList (vlOf s)
+pub list-held : (s : List ℕ) (k d n v from : ℕ) (a : List Pair)
+    → k ≡ getD s 2 0 → d ≡ getD s 3 0 → v ≡ viewOf (getD s 2 0) (numAt 2 5 s) → n ≡ vlCount s → from ≡ pairsFrom s → a ≡ padded (pairAt s from) n 26 zeroPair
+    → record { kind = k; decision = d; view = record { 0 = v }; count = n; pairs = a } ≡ heldList (vlOf s)
 unfolding heldList vlOf
-list-held s k d n a p q u e = rw (tab-length (pairAt s) 0 (vlCount s)) (rw (p, q, e, u))
+list-held s k d n v from a p q y u h e = rw (tab-length (pairAt s (pairsFrom s)) 0 (vlCount s)) (rw (p, q, y, e, u, h))
 
 -- a struct holds what was put into it
 pub tx-in : (x : Tx) → txIn (heldTx x) ≡ x
@@ -34,8 +81,8 @@ tx-in x =
     let b : tab (writesIn (x .writes ++ replicate (8 - length (x .writes)) zeroWrite)) 0 (length (x .writes)) ≡ x .writes = tab-front zeroWrite (x .writes) _ in
     rw (a, b)
 
-pub list-in : (l : Vl) → listIn (heldList l) ≡ l
+pub list-in : (l : Vl) → viewOf (l .kind) (l .view) ≡ l .view → listIn (heldList l) ≡ l
 unfolding listIn heldList
-list-in l =
+list-in l v =
     let a : tab (pairsIn (l .pairs ++ replicate (26 - length (l .pairs)) zeroPair)) 0 (length (l .pairs)) ≡ l .pairs = tab-front zeroPair (l .pairs) _ in
-    rw a
+    rw (a, v)

@@ -1,15 +1,18 @@
 -- "VL": its bytes and its value.
 use Prim.Native.Nat.{ℕ, _+_, _*_, _-_, _≤_}
 use mathlib.Core.List.{List, [], _∷_, _++_}
+use lib.Dec.{eqb}
 use lib.ListN.{length, getD, replicate}
-use Rattle.terms.specs.Choice.{tab}
+use Rattle.terms.specs.Choice.{pick, tab}
+use Rattle.records.specs.Numbers.{numAt, leBytes}
 use Rattle.records.specs.declared.Pair.{Pair}
 use Rattle.records.specs.declared.VoteList.{VoteList}
 
--- a list: "kind (1 votes, 2 logs), decision (1 commit, 2 abort), .. pairs of box number and answer (1 or 2)"
+-- a list: "kind (1 votes, 2 logs), decision (1 commit, 2 abort), .. pairs of box number and answer (1 or 2)"; A5: "a list of kind 2 carries its view"
 pub record Vl : Type 0 where
   pub kind : ℕ
   pub decision : ℕ
+  pub view : ℕ
   pub pairs : List Pair
 
 abbrev pub markVL : List ℕ
@@ -19,26 +22,48 @@ markVL = 86 ∷ 76 ∷ []
 abbrev pub vlCount : List ℕ → ℕ
 vlCount s = getD s 4 0
 
--- "Length 5 + 2 × count"
+-- A5: "its view, two bytes, after the count", of a list of kind 2; another kind is cut without one
+unfoldable pub viewLen : ℕ → ℕ
+viewLen kind = pick (eqb kind 2) 2 0
+
+-- the view of a list: 0 where the kind has none
+unfoldable pub viewOf : ℕ → ℕ → ℕ
+viewOf kind v = pick (eqb kind 2) v 0
+
+-- where the pairs begin
+abbrev pub pairsFrom : List ℕ → ℕ
+pairsFrom s = 5 + viewLen (getD s 2 0)
+
+-- "Length 5 + 2 × count", and the view
 abbrev pub vlLen : List ℕ → ℕ
-vlLen s = 5 + 2 * vlCount s
+vlLen s = pairsFrom s + 2 * vlCount s
 
 -- the j-th pair
-unfoldable pub pairAt : List ℕ → ℕ → Pair
-pairAt s j = record { number = getD s (5 + 2 * j) 0; answer = getD s (6 + 2 * j) 0 }
+unfoldable pub pairAt : List ℕ → ℕ → ℕ → Pair
+pairAt s from j = record { number = getD s (from + 2 * j) 0; answer = getD s (from + 2 * j + 1) 0 }
 
 -- what the bytes of a VL say
 unfoldable pub vlOf : List ℕ → Vl
-vlOf s = record { kind = getD s 2 0; decision = getD s 3 0; pairs = tab (pairAt s) 0 (vlCount s) }
+vlOf s =
+    record {
+      kind = getD s 2 0;
+      decision = getD s 3 0;
+      view = viewOf (getD s 2 0) (numAt 2 5 s);
+      pairs = tab (pairAt s (pairsFrom s)) 0 (vlCount s);
+    }
 
 -- two bytes for each
 abbrev pub flatPairs : List Pair → List ℕ
 flatPairs [] = []
 flatPairs (p ∷ ps) = p .number ∷ p .answer ∷ flatPairs ps
 
+-- the two bytes of a view, where the kind has one
+unfoldable pub viewBytes : ℕ → ℕ → List ℕ
+viewBytes kind v = pick (eqb kind 2) (leBytes 2 v) []
+
 -- the bytes of a list
 unfoldable pub vlBytes : Vl → List ℕ
-vlBytes l = markVL ++ (l .kind ∷ l .decision ∷ length (l .pairs) ∷ flatPairs (l .pairs))
+vlBytes l = markVL ++ (l .kind ∷ l .decision ∷ length (l .pairs) ∷ (viewBytes (l .kind) (l .view) ++ flatPairs (l .pairs)))
 
 abbrev pub zeroPair : Pair
 zeroPair = record { number = 0; answer = 0 }
@@ -47,9 +72,10 @@ zeroPair = record { number = 0; answer = 0 }
 abbrev pub pairsIn : List Pair → ℕ → Pair
 pairsIn a j = getD a j zeroPair
 
--- the list that a struct holds
+-- the list that a struct holds: a view beside another kind than 2 is no part of it
 unfoldable pub listIn : VoteList → Vl
-listIn l = record { kind = l .kind; decision = l .decision; pairs = tab (pairsIn (l .pairs)) 0 (l .count) }
+listIn l =
+    record { kind = l .kind; decision = l .decision; view = viewOf (l .kind) (l .view .0); pairs = tab (pairsIn (l .pairs)) 0 (l .count) }
 
 -- a list in a struct, zeros in the places that are not used
 unfoldable pub heldList : Vl → VoteList
@@ -57,6 +83,7 @@ heldList l =
     record {
       kind = l .kind;
       decision = l .decision;
+      view = record { 0 = l .view };
       count = length (l .pairs);
       pairs = l .pairs ++ replicate (26 - length (l .pairs)) zeroPair;
     }
@@ -67,4 +94,4 @@ VlThere s = (vlCount s ≤ 26) × (vlLen s ≤ length s)
 
 -- no list
 unfoldable pub noList : Vl
-noList = record { kind = 0; decision = 0; pairs = [] }
+noList = record { kind = 0; decision = 0; view = 0; pairs = [] }

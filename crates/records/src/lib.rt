@@ -1,14 +1,15 @@
 // The records' values: a transaction, a list of answers, and what reading and writing answer. Numbers are little-endian.
 ghost use mathlib.Core.Path.{_≡_};
 ghost use Prim.Native.Nat.{_+_, _*_, _<_, _≤_};
-ghost use lib.ListN.{length};
+ghost use lib.ListN.{length, getD};
 ghost use Rattle.records.specs.Numbers.{numAt, leBytes};
 ghost use Rattle.records.specs.Tx.{readAt, writeAt, padded, zeroRead, zeroWrite, txLen, txOf, heldTx, TxThere};
 ghost use Rattle.records.specs.Cutting.{markBytes};
-ghost use Rattle.records.specs.Vl.{pairAt, zeroPair, vlLen, vlOf, heldList, VlThere};
+ghost use Rattle.records.specs.Vl.{viewLen, viewOf, pairAt, zeroPair, vlLen, vlOf, heldList, VlThere};
 use terms::Key;
 use terms::Refusal;
 use terms::Stamp;
+use terms::View;
 
 pub struct Read {
     pub key: Key,
@@ -35,10 +36,11 @@ pub struct Pair {
     pub answer: u8,
 }
 
-// A list of answers of one kind (1 votes, 2 logs) that names one decision (1 commit, 2 abort): the first count places count.
+// A list of answers of one kind (1 votes, 2 logs) that names one decision (1 commit, 2 abort): the first count places count. Logs are of one view.
 pub struct VoteList {
     pub kind: u8,
     pub decision: u8,
+    pub view: View,
     pub count: usize,
     pub pairs: [Pair; 26],
 }
@@ -256,26 +258,58 @@ pub fn transaction_of(s: &[u8]) -> Transaction
     }
 }
 
-// The length of a VL that its count gives.
+// How many bytes the view of a list takes: a list of logs has one.
+pub fn view_len(kind: u8) -> usize
+    ensures { λ r. ⌜ (r ≡ viewLen kind) × (r ≤ 2) ⌝ }
+{
+    if kind == 2 {
+        return 2;
+    }
+    0
+}
+
+// The view that a list of this kind has: one beside votes is no part of it.
+pub fn own_view(kind: u8, view: View) -> View
+    ensures { λ r. ⌜ r .0 ≡ viewOf kind (view .0) ⌝ }
+{
+    if view_len(kind) == 2 {
+        return view;
+    }
+    View(0)
+}
+
+// The length of a VL that its kind and its count give.
 pub fn vl_len(s: &[u8]) -> usize
     requires { ⌜ 5 ≤ length (now s) ⌝ }
     ensures { λ r. ⌜ r ≡ vlLen (now (s .entry)) ⌝ }
 {
-    5 + 2 * wide(s[4])
+    5 + view_len(s[2]) + 2 * wide(s[4])
 }
 
-fn pair_at(s: &[u8], j: usize) -> Pair
-    requires { ⌜ (j < 26) × (5 + 2 * j + 2 ≤ length (now s)) ⌝ }
-    ensures { λ r. ⌜ r ≡ pairAt (now (s .entry)) j ⌝ }
+// The view of a list, 0 where its kind has none.
+fn view_of(s: &[u8]) -> View
+    requires { ⌜ VlThere (now s) ⌝ }
+    ensures { λ r. ⌜ r .0 ≡ viewOf (getD (now (s .entry)) 2 0) (numAt 2 5 (now (s .entry))) ⌝ }
 {
-    let number = s[5 + 2 * j];
-    let answer = s[6 + 2 * j];
+    if s[2] == 2 {
+        return View(u16_at(s, 5));
+    }
+    View(0)
+}
+
+fn pair_at(s: &[u8], from: usize, j: usize) -> Pair
+    requires { ⌜ (j < 26) × (from ≤ 7) × (from + 2 * j + 2 ≤ length (now s)) ⌝ }
+    ensures { λ r. ⌜ r ≡ pairAt (now (s .entry)) from j ⌝ }
+{
+    let at = from + 2 * j;
+    let number = s[at];
+    let answer = s[at + 1];
     Pair { number, answer }
 }
 
-fn pairs_of(s: &[u8], n: usize) -> [Pair; 26]
-    requires { ⌜ (n ≤ 26) × (5 + 2 * n ≤ length (now s)) ⌝ }
-    ensures { λ r. ⌜ r ≡ padded (pairAt (now (s .entry))) n 26 zeroPair ⌝ }
+fn pairs_of(s: &[u8], from: usize, n: usize) -> [Pair; 26]
+    requires { ⌜ (n ≤ 26) × (from ≤ 7) × (from + 2 * n ≤ length (now s)) ⌝ }
+    ensures { λ r. ⌜ r ≡ padded (pairAt (now (s .entry)) from) n 26 zeroPair ⌝ }
 {
     let z = Pair {
         number: 0,
@@ -284,7 +318,7 @@ fn pairs_of(s: &[u8], n: usize) -> [Pair; 26]
     let mut a = [z; 26];
     let mut j = 0;
     while j < n {
-        a[j] = pair_at(s, j);
+        a[j] = pair_at(s, from, j);
         j += 1;
     }
     a
@@ -298,10 +332,12 @@ pub fn list_of(s: &[u8]) -> VoteList
     let count = wide(s[4]);
     let kind = s[2];
     let decision = s[3];
-    let pairs = pairs_of(s, count);
+    let view = view_of(s);
+    let pairs = pairs_of(s, 5 + view_len(kind), count);
     VoteList {
         kind,
         decision,
+        view,
         count,
         pairs,
     }

@@ -124,7 +124,7 @@ module _ (f : ℕ) (faulty : ℕ → Bool) where
       ps = build p (decisionNumber d) 0 (boxes f)
 
       made : Vl
-      made = record { kind = kindNumber k; decision = decisionNumber d; pairs = ps }
+      made = record { kind = kindNumber k; decision = decisionNumber d; view = 0; pairs = ps }
 
       enough : forProof f k d ≤ tally (decisionNumber d) ps
       enough = let e : 0 + boxes f ≡ boxes f = omega arith in omega (arith, rw e at (tally-build p (decisionNumber d) 0 (boxes f)))

@@ -5,7 +5,7 @@ use Rattle.terms.specs.Group.{groupWrong}
 use Rattle.terms.specs.Refusals.{refusalOf}
 use Rattle.records.specs.Numbers.{numAt}
 use Rattle.records.specs.Tx.{txOf, txBytes, readAt, writeAt}
-use Rattle.records.specs.Vl.{vlOf, vlBytes, pairAt}
+use Rattle.records.specs.Vl.{viewLen, viewOf, viewBytes, vlOf, vlBytes, pairAt}
 use Rattle.records.specs.Contents.{txWrong, listWrong, logListWrong, codeWrong, rdWrong, countsWrong, countWrong}
 use Rattle.records.specs.Cutting.{txPart, vlPart, txCut, vlCut, listedCut, listedLen, restCut, messageCut, messageLen, behindWrong, markWrong}
 use Rattle.records.specs.Messages.{listBehind, contentsWrong, dueRefusal, isMark, markOf}
@@ -28,7 +28,7 @@ unfolding orElse when ifLess ifSame ifOther refusalOf groupWrong
 checks = 0
 
 unfoldable bytes : ℕ
-unfolding numAt readAt writeAt txOf txBytes pairAt vlOf vlBytes prBytes listedBytes rdBytes
+unfolding numAt readAt writeAt txOf txBytes viewLen viewOf viewBytes pairAt vlOf vlBytes prBytes listedBytes rdBytes
 bytes = 0
 
 unfoldable reading : ℕ

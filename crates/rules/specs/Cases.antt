@@ -62,7 +62,7 @@ pairs i zero d = []
 pairs i (suc n) d = record { number = i; answer = decisionNumber d } ∷ pairs (suc i) n d
 
 unfoldable pub list : Kind → Decision → List Pair → Vl
-list k d ps = record { kind = kindNumber k; decision = decisionNumber d; pairs = ps }
+list k d ps = record { kind = kindNumber k; decision = decisionNumber d; view = 0; pairs = ps }
 
 unfoldable pub PR : Tx → List ℕ
 PR t = prBytes t

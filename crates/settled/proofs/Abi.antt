@@ -43,13 +43,13 @@ module _ {M : Type 1} (𝓤 : URA M) (H : Heap 𝓤) where
   stobbarel-write-tx A mem run = (refl, λ k o o′. settled 𝓤 (λ p q. ap (λ (x : Left). x .number) (one p q) & refl & refl & refl & refl & refl & refl & refl & ap (λ (x : Left). x .buffer) (one p q) & ap (λ (x : Left). x .length) (one p q) & refl))
 
   pub stobbarel-write-vl : Settled 𝓤 H abi.stobbarel_write_vl.ended (abi.stobbarel_write_vl.spec 𝓤 H) (abi.stobbarel_write_vl.clauses 𝓤 H)
-  stobbarel-write-vl A mem run = (refl, λ k o o′. settled 𝓤 (λ p q. ap (λ (x : Left). x .number) (one p q) & refl & refl & refl & refl & refl & refl & ap (λ (x : Left). x .buffer) (one p q) & ap (λ (x : Left). x .length) (one p q) & refl))
+  stobbarel-write-vl A mem run = (refl, λ k o o′. settled 𝓤 (λ p q. ap (λ (x : Left). x .number) (one p q) & refl & refl & refl & refl & refl & refl & refl & ap (λ (x : Left). x .buffer) (one p q) & ap (λ (x : Left). x .length) (one p q) & refl))
 
   pub stobbarel-write-pr : Settled 𝓤 H abi.stobbarel_write_pr.ended (abi.stobbarel_write_pr.spec 𝓤 H) (abi.stobbarel_write_pr.clauses 𝓤 H)
   stobbarel-write-pr A mem run = (refl, λ k o o′. settled 𝓤 (λ p q. ap (λ (x : Left). x .number) (one p q) & refl & refl & refl & refl & refl & refl & refl & ap (λ (x : Left). x .buffer) (one p q) & ap (λ (x : Left). x .length) (one p q) & refl))
 
   pub stobbarel-write-listed : Settled 𝓤 H abi.stobbarel_write_listed.ended (abi.stobbarel_write_listed.spec 𝓤 H) (abi.stobbarel_write_listed.clauses 𝓤 H)
-  stobbarel-write-listed A mem run = (refl, λ k o o′. settled 𝓤 (λ p q. ap (λ (x : Left). x .number) (one p q) & refl & refl & refl & refl & refl & refl & refl & refl & refl & refl & refl & refl & refl & refl & ap (λ (x : Left). x .buffer) (one p q) & ap (λ (x : Left). x .length) (one p q) & refl))
+  stobbarel-write-listed A mem run = (refl, λ k o o′. settled 𝓤 (λ p q. ap (λ (x : Left). x .number) (one p q) & refl & refl & refl & refl & refl & refl & refl & refl & refl & refl & refl & refl & refl & refl & refl & ap (λ (x : Left). x .buffer) (one p q) & ap (λ (x : Left). x .length) (one p q) & refl))
 
   pub stobbarel-write-rd : Settled 𝓤 H abi.stobbarel_write_rd.ended (abi.stobbarel_write_rd.spec 𝓤 H) (abi.stobbarel_write_rd.clauses 𝓤 H)
   stobbarel-write-rd A mem run = (refl, λ k o o′. settled 𝓤 (λ p q. ap (λ (x : Left). x .number) (one p q) & refl & refl & ap (λ (x : Left). x .buffer) (one p q) & ap (λ (x : Left). x .length) (one p q) & refl))

@@ -40,6 +40,12 @@ module _ {M : Type 1} (𝓤 : URA M) (H : Heap 𝓤) where
   pub transaction-of : Settled 𝓤 H records.transaction_of.ended (records.transaction_of.spec 𝓤 H) (records.transaction_of.clauses 𝓤 H)
   transaction-of A mem run = (refl, λ k o o′. settled 𝓤 (λ p q. one (p .0) (q .0) & refl))
 
+  pub view-len : Settled 𝓤 H records.view_len.ended (records.view_len.spec 𝓤 H) (records.view_len.clauses 𝓤 H)
+  view-len A mem run = (refl, λ k o o′. settled 𝓤 (λ p q. one (p .0) (q .0) & refl))
+
+  pub own-view : Settled 𝓤 H records.own_view.ended (records.own_view.spec 𝓤 H) (records.own_view.clauses 𝓤 H)
+  own-view A mem run = (refl, λ k o o′. settled 𝓤 (λ p q. (λ i. record { 0 = one p q i }) & refl))
+
   pub vl-len : Settled 𝓤 H records.vl_len.ended (records.vl_len.spec 𝓤 H) (records.vl_len.clauses 𝓤 H)
   vl-len A mem run = (refl, λ k o o′. settled 𝓤 (λ p q. one p q & refl))
 

@@ -14,7 +14,7 @@ use Rattle.terms.specs.declared.Decision.the-variants.{Commit as commit, Abort 
 use Rattle.terms.specs.declared.Kind.{Kind}
 use Rattle.terms.specs.declared.Kind.the-variants.{Votes as votes, Logs as logs}
 use Rattle.terms.proofs.Checks.{pass, when-no}
-use Rattle.terms.specs.Codes.{decisionNumber}
+use Rattle.terms.specs.Codes.{decisionNumber, kindNumber}
 use Rattle.sheet.specs.declared.Sheet.{Sheet}
 use Rattle.sheet.specs.Masks.{has}
 use Rattle.sheet.specs.Sheets.{answerWrong, counted, emptySheet, givenWrong, on, sheetAfter, sheetDamaged, sheetWrong, twice, under}
@@ -92,18 +92,18 @@ box-counts f d b s [] sound = by (on s b) refl d
 box-counts f d b s (a ∷ more) sound = box-counts f d b _ more (after-sound s f a sound) ∙ step s f a sound d b (firstOf f b more)
 
 -- a sheet with no box on it
-empty-on : (k : Kind) (b : ℕ) → on (emptySheet k) b ≡ false
+empty-on : (k : Kind) (view b : ℕ) → on (emptySheet k view) b ≡ false
 unfolding on
-empty-on k b = rw has-none
+empty-on k view b = rw has-none
 
-empty-kind : (k : Kind) → (ifSame (emptySheet k .kind) 0 table ≡ 0) × (ifLess 2 (emptySheet k .kind) table ≡ 0)
+empty-kind : (k : Kind) → (ifSame (kindNumber k) 0 table ≡ 0) × (ifLess 2 (kindNumber k) table ≡ 0)
 unfolding ifSame ifLess
 empty-kind votes = (refl, refl)
 empty-kind logs = (refl, refl)
 
-empty-sound : (f : ℕ) (k : Kind) → groupWrong f ≡ 0 → sheetWrong f (emptySheet k) ≡ 0
+empty-sound : (f : ℕ) (k : Kind) (view : ℕ) → groupWrong f ≡ 0 → sheetWrong f (emptySheet k view) ≡ 0
 unfolding sheetWrong sheetDamaged twice
-empty-sound f k g =
+empty-sound f k view g =
     let low : 0 < 2 ^ boxes f = pow-pos (boxes f) in
     sym
     (pass g
@@ -111,10 +111,10 @@ empty-sound f k g =
     (pass (empty-kind k .1)
     (pass (when-no _ _ (lt-leb (2 ^ boxes f) 0 low))
     (pass (when-no _ _ (lt-leb (2 ^ boxes f) 0 low))
-    (sym (when-no _ _ (none-any (twice (emptySheet k)) 0 (boxes f) (λ b l m. rw has-none)))))))))
+    (sym (when-no _ _ (none-any (twice (emptySheet k view)) 0 (boxes f) (λ b l m. rw has-none)))))))))
 
 pub counts-boxes : CountsBoxes
 unfolding counted
-counts-boxes f k more d g =
+counts-boxes f k view more d g =
     count-same _ _ (boxes f)
-    (λ b l. box-counts f d b (emptySheet k) more (empty-sound f k g) ∙ (rw (empty-on k b)))
+    (λ b l. box-counts f d b (emptySheet k view) more (empty-sound f k view g) ∙ (rw (empty-on k view b)))

@@ -12,7 +12,7 @@ use borrow.Author.Tests.{eq-eqb, le-ltb, lt-leb, leb-false}
 use Rattle.terms.specs.Choice.{pick, any, falls}
 use Rattle.records.specs.declared.Pair.{Pair}
 use Rattle.records.specs.declared.VoteList.{VoteList}
-use Rattle.records.specs.Vl.{heldList, noList, zeroPair}
+use Rattle.records.specs.Vl.{heldList, noList, viewOf, zeroPair}
 use Rattle.records.specs.Contents.{answerOdd, pairBox}
 use Rattle.rules.specs.Lists.{bit, tally}
 use Rattle.rules.specs.System.{howMany}
@@ -87,26 +87,26 @@ module _ {p : ℕ → Bool} {answer : ℕ} where
           is = rw (listed-no p answer b t) (g .is);
         }
 
-pub noted-list : (kind answer m n j : ℕ) (a : List Pair) → Noted (has m) answer a j n
-    → record { kind = kind; decision = answer; count = j; pairs = a } ≡ heldList (listFor kind answer m n)
+pub noted-list : (kind view answer m n j v : ℕ) (a : List Pair) → v ≡ viewOf kind view → Noted (has m) answer a j n
+    → record { kind = kind; decision = answer; view = record { 0 = v }; count = j; pairs = a } ≡ heldList (listFor kind view answer m n)
 unfolding heldList listFor
-noted-list kind answer m n j a g = rw (g .counts, ← g .is)
+noted-list kind view answer m n j v a h g = rw (g .counts, ← g .is, h)
 
 -- a list from a sheet, by the sheet's refusal
 module _ (s : Sheet) (f : ℕ) (d : Decision) where
-  pub list-refused : (sheetWrong f s ≡ 0 → ⊥) → heldList (listFor 0 0 0 0) ≡ heldList (listFrom s f d)
-  unfolding listFrom listBy listFor listed noList
+  pub list-refused : (sheetWrong f s ≡ 0 → ⊥) → heldList (listFor 0 0 0 0 0) ≡ heldList (listFrom s f d)
+  unfolding listFrom listBy listFor listed noList viewOf
   list-refused = by (sheetWrong f s)
     where
-      by : (y : ℕ) → (y ≡ 0 → ⊥) → heldList (listFor 0 0 0 0) ≡ heldList (listBy y s f d)
+      by : (y : ℕ) → (y ≡ 0 → ⊥) → heldList (listFor 0 0 0 0 0) ≡ heldList (listBy y s f d)
       by zero n = absurd (n refl)
       by (suc y) n = refl
 
-  pub list-is : sheetWrong f s ≡ 0 → listFrom s f d ≡ listFor (s .kind) (decisionNumber d) (under d s) (boxes f)
+  pub list-is : sheetWrong f s ≡ 0 → listFrom s f d ≡ listFor (s .kind) (s .view) (decisionNumber d) (under d s) (boxes f)
   unfolding listFrom listBy
   list-is z = rw z
 
-  pub list-right : (l : VoteList) → sheetWrong f s ≡ 0 → l ≡ heldList (listFor (s .kind) (decisionNumber d) (under d s) (boxes f)) → l ≡ heldList (listFrom s f d)
+  pub list-right : (l : VoteList) → sheetWrong f s ≡ 0 → l ≡ heldList (listFor (s .kind) (s .view) (decisionNumber d) (under d s) (boxes f)) → l ≡ heldList (listFrom s f d)
   list-right l z e = rw (list-is z) e
 
 -- what it counts

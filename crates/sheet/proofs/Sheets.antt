@@ -53,11 +53,11 @@ module _ (s : Sheet) (b : ℕ) where
       second true false e = refl
 
   module _ (answer m : ℕ) where
-    pub join-commit : answer ≡ 1 → m ≡ withBox (s .commits) b → record { kind = s .kind; commits = m; aborts = s .aborts } ≡ joined s b answer
+    pub join-commit : answer ≡ 1 → m ≡ withBox (s .commits) b → record { kind = s .kind; view = s .view; commits = m; aborts = s .aborts } ≡ joined s b answer
     unfolding joined
     join-commit e p = rw (eq-eqb answer 1 e, p)
 
-    pub join-abort : (answer ≡ 1 → ⊥) → m ≡ withBox (s .aborts) b → record { kind = s .kind; commits = s .commits; aborts = m } ≡ joined s b answer
+    pub join-abort : (answer ≡ 1 → ⊥) → m ≡ withBox (s .aborts) b → record { kind = s .kind; view = s .view; commits = s .commits; aborts = m } ≡ joined s b answer
     unfolding joined
     join-abort e p = rw (ne-eqb answer 1 e, p)
 

@@ -91,7 +91,7 @@ module _ (s : Sheet) (number answer : ℕ) (off : on s number ≡ false) where
   unfolding joined
   joins-kind = by (eqb answer 1)
     where
-      by : (t : Bool) → pick {A = Sheet} t (record { kind = s .kind; commits = withBox (s .commits) number; aborts = s .aborts }) (record { kind = s .kind; commits = s .commits; aborts = withBox (s .aborts) number }) .kind ≡ s .kind
+      by : (t : Bool) → pick {A = Sheet} t (record { kind = s .kind; view = s .view; commits = withBox (s .commits) number; aborts = s .aborts }) (record { kind = s .kind; view = s .view; commits = s .commits; aborts = withBox (s .aborts) number }) .kind ≡ s .kind
       by true = refl
       by false = refl
 

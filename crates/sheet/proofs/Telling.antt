@@ -14,9 +14,9 @@ use Rattle.terms.specs.declared.Kind.{Kind}
 use Rattle.terms.specs.declared.Kind.the-variants.{Votes as votes, Logs as logs}
 use Rattle.terms.proofs.Checks.{pass, first-none, rest-none, when-no, same-no, less-no, not-less}
 use Rattle.records.specs.declared.VoteList.{VoteList}
-use Rattle.records.specs.Vl.{heldList, listIn}
+use Rattle.records.specs.Vl.{heldList, listIn, noList, viewOf}
 use Rattle.records.specs.Contents.{answerOdd, codeWrong, countWrong, listWrong, logListWrong}
-use Rattle.records.proofs.Held.{list-in}
+use Rattle.records.proofs.Held.{list-in, view-once}
 use Rattle.terms.specs.Codes.{decisionNumber}
 use Rattle.rules.specs.Lists.{decisionOf, forLogging, forProof, kindOf, lacking}
 use Rattle.rules.specs.Calls.{Act, needing}
@@ -25,7 +25,7 @@ use Rattle.rules.proofs.Lacking as rules
 use Rattle.sheet.specs.declared.Sheet.{Sheet}
 use Rattle.sheet.specs.Masks.{has}
 use Rattle.sheet.specs.Sheets.{answerWrong, counted, joined, lackingBy, lackingOn, on, replyTo, sheetAfter, sheetDamaged, sheetWrong, under}
-use Rattle.sheet.specs.Listing.{BoxesTellTheSame, TellsAsBoxes, boxesTell, dcLacks, dcNeed, lgLacks, lgNeed, listFrom, listFor, withLacking}
+use Rattle.sheet.specs.Listing.{BoxesTellTheSame, TellsAsBoxes, boxesTell, dcLacks, dcNeed, lgLacks, lgNeed, listBy, listFrom, listFor, withLacking}
 use Rattle.sheet.proofs.Listed.{list-is, listed-answers, listed-below, listed-length, listed-rises, listed-tally}
 use Rattle.sheet.proofs.Masks.{count-most}
 use Rattle.sheet.proofs.Sheets.{after-joined, reply-lacking, right-answer, right-box, right-sheet, sheet-group}
@@ -174,6 +174,19 @@ reply-tells s f number answer z off =
     let t = joins-sound s number answer off f (right-sheet s f number answer z) (right-box s f number answer z) w in
     rw (← e) (sym r ∙ tells-as-boxes (joined s number answer) f t)
 
+view-none : viewOf 0 0 ≡ 0
+unfolding viewOf
+view-none = refl
+
+-- the list's view is that of its kind, whatever stands on the sheet
+list-view : (s : Sheet) (f : ℕ) (d : Decision) → viewOf (listFrom s f d .kind) (listFrom s f d .view) ≡ listFrom s f d .view
+unfolding listFrom listBy listFor noList
+list-view s f d = by (sheetWrong f s)
+  where
+    by : (n : ℕ) → viewOf (listBy n s f d .kind) (listBy n s f d .view) ≡ listBy n s f d .view
+    by zero = view-once (s .kind) (s .view)
+    by (suc n) = view-none
+
 -- the struct that `list_from` returns holds that list
 pub list-held : (s : Sheet) (f : ℕ) (d : Decision) (l : VoteList) → l ≡ heldList (listFrom s f d) → listIn l ≡ listFrom s f d
-list-held s f d l e = rw e (list-in (listFrom s f d))
+list-held s f d l e = rw e (list-in (listFrom s f d) (list-view s f d))

@@ -34,6 +34,6 @@ firstOf f b (a ∷ more) = pick (valid f a && eqb (a .number) b) (a .answer) (fi
 -- "Counting answers, not boxes" does not happen: a sheet counts for each decision the boxes whose first valid answer was that one
 abbrev pub CountsBoxes : Type 0
 CountsBoxes =
-    (f : ℕ) (k : Kind) (more : List Arrival) (d : Decision)
+    (f : ℕ) (k : Kind) (view : ℕ) (more : List Arrival) (d : Decision)
     → groupWrong f ≡ 0
-    → counted f d (sheetFrom (emptySheet k) f more) ≡ howMany (λ b. eqb (firstOf f b more) (decisionNumber d)) (boxes f)
+    → counted f d (sheetFrom (emptySheet k view) f more) ≡ howMany (λ b. eqb (firstOf f b more) (decisionNumber d)) (boxes f)

@@ -11,7 +11,7 @@ use Rattle.terms.specs.declared.Kind.{Kind}
 use Rattle.terms.specs.declared.Kind.the-variants.{Votes as votes, Logs as logs}
 use Rattle.terms.specs.declared.Refusal.the-variants.{TooFew}
 use Rattle.records.specs.declared.Pair.{Pair}
-use Rattle.records.specs.Vl.{Vl, noList}
+use Rattle.records.specs.Vl.{Vl, noList, viewOf}
 use Rattle.terms.specs.Codes.{decisionNumber}
 use Rattle.rules.specs.Lists.{decisionOf, forLogging, forProof, kindOf, lacking}
 use Rattle.rules.specs.Calls.{Act, needing, refuse}
@@ -26,13 +26,13 @@ unfoldable pub listed : (ℕ → Bool) → ℕ → ℕ → List Pair
 listed p answer zero = []
 listed p answer (suc n) = listed p answer n ++ pick (p n) (record { number = n; answer = answer } ∷ []) []
 
--- "A list names one decision; only entries with that answer are counted": a list of just these
-unfoldable pub listFor : ℕ → ℕ → ℕ → ℕ → Vl
-listFor kind answer m n = record { kind = kind; decision = answer; pairs = listed (has m) answer n }
+-- "A list names one decision; only entries with that answer are counted": a list of just these; A5: "a list of kind 2 carries its view"
+unfoldable pub listFor : ℕ → ℕ → ℕ → ℕ → ℕ → Vl
+listFor kind view answer m n = record { kind = kind; decision = answer; view = viewOf kind view; pairs = listed (has m) answer n }
 
 -- a sheet that is refused gives no list
 unfoldable pub listBy : ℕ → Sheet → ℕ → Decision → Vl
-listBy zero s f d = listFor (s .kind) (decisionNumber d) (under d s) (boxes f)
+listBy zero s f d = listFor (s .kind) (s .view) (decisionNumber d) (under d s) (boxes f)
 listBy (suc wrong) s f d = noList
 
 unfoldable pub listFrom : Sheet → ℕ → Decision → Vl

@@ -8,6 +8,7 @@ use Rattle.terms.specs.Checks.{orElse, when, ifLess, ifSame, range, table}
 use Rattle.terms.specs.Refusals.{numberOf, refusalOf}
 use Rattle.terms.specs.Codes.{kindNumber}
 use Rattle.terms.specs.Group.{boxes, groupWrong}
+use Rattle.records.specs.Vl.{viewOf}
 use Rattle.records.specs.Contents.{codeWrong}
 use Rattle.rules.specs.Lists.{forLogging, forProof, kindOf}
 use Rattle.rules.specs.System.{howMany}
@@ -27,9 +28,9 @@ replyValues (Logs v) = 2 ∷ v .commit ∷ v .abort ∷ 0 ∷ 0 ∷ []
 replyValues Repeat = 3 ∷ 0 ∷ 0 ∷ 0 ∷ 0 ∷ []
 replyValues (Refused r) = 4 ∷ numberOf r ∷ 0 ∷ 0 ∷ 0 ∷ []
 
--- a sheet with no box on it
-abbrev pub emptySheet : Kind → Sheet
-emptySheet k = record { kind = kindNumber k; commits = 0; aborts = 0 }
+-- a sheet with no box on it; A5: "a tally sheet of kind 2 is for one view"
+abbrev pub emptySheet : Kind → ℕ → Sheet
+emptySheet k v = record { kind = kindNumber k; view = viewOf (kindNumber k) v; commits = 0; aborts = 0 }
 
 -- box numbers "0 to n − 1"
 abbrev pub numbers : ℕ → List ℕ
@@ -67,8 +68,8 @@ on s b = has (s .commits) b || has (s .aborts) b
 unfoldable pub joined : Sheet → ℕ → ℕ → Sheet
 joined s b answer =
     pick (eqb answer 1)
-    (record { kind = s .kind; commits = withBox (s .commits) b; aborts = s .aborts })
-    (record { kind = s .kind; commits = s .commits; aborts = withBox (s .aborts) b })
+    (record { kind = s .kind; view = s .view; commits = withBox (s .commits) b; aborts = s .aborts })
+    (record { kind = s .kind; view = s .view; commits = s .commits; aborts = withBox (s .aborts) b })
 
 -- the boxes under a decision, and how many of the group's they are
 abbrev pub under : Decision → Sheet → ℕ

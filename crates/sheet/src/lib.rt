@@ -15,10 +15,12 @@ use terms::Decision;
 use terms::Group;
 use terms::Kind;
 use terms::Refusal;
+use terms::View;
 
-// Bit b of a mask says that box b gave this answer.
+// Bit b of a mask says that box b gave this answer. A sheet of logs is for one view.
 pub struct Sheet {
     pub kind: u8,
+    pub view: u16,
     pub commits: u32,
     pub aborts: u32,
 }
@@ -64,18 +66,20 @@ impl Reply {
     }
 }
 
-// A sheet with no box on it.
-pub fn empty(kind: Kind) -> Sheet
-    ensures { λ r. ⌜ r ≡ emptySheet kind ⌝ }
+// A sheet with no box on it; votes have no view.
+pub fn empty(kind: Kind, view: View) -> Sheet
+    ensures { λ r. ⌜ r ≡ emptySheet kind (view .0) ⌝ }
 {
     match kind {
         Kind::Votes => Sheet {
             kind: 1,
+            view: 0,
             commits: 0,
             aborts: 0,
         },
         Kind::Logs => Sheet {
             kind: 2,
+            view: view.0,
             commits: 0,
             aborts: 0,
         },
@@ -217,6 +221,7 @@ fn join(s: Sheet, b: usize, answer: u64) -> Sheet
         let commits = with_box(s.commits, b);
         return Sheet {
             kind: s.kind,
+            view: s.view,
             commits,
             aborts: s.aborts,
         };
@@ -224,6 +229,7 @@ fn join(s: Sheet, b: usize, answer: u64) -> Sheet
     let aborts = with_box(s.aborts, b);
     Sheet {
         kind: s.kind,
+        view: s.view,
         commits: s.commits,
         aborts,
     }
@@ -302,9 +308,9 @@ pub fn take(s: &mut Sheet, f: u64, number: u64, answer: u64) -> Reply
 }
 
 // The first n boxes on a mask, in rising order, each with this answer.
-fn list_of_mask(kind: u8, answer: u8, m: u32, n: usize) -> VoteList
+fn list_of_mask(kind: u8, view: View, answer: u8, m: u32, n: usize) -> VoteList
     requires { ⌜ n ≤ 26 ⌝ }
-    ensures { λ r. ⌜ r ≡ heldList (listFor kind answer m n) ⌝ }
+    ensures { λ r. ⌜ r ≡ heldList (listFor kind (view .0) answer m n) ⌝ }
 {
     let z = Pair {
         number: 0,
@@ -328,6 +334,7 @@ fn list_of_mask(kind: u8, answer: u8, m: u32, n: usize) -> VoteList
     VoteList {
         kind,
         decision: answer,
+        view: records::own_view(kind, view),
         count,
         pairs,
     }
@@ -349,8 +356,14 @@ pub fn list_from(s: Sheet, f: u64, decision: Decision) -> VoteList
 {
     let wrong = sheet_wrong(s, f);
     if wrong != 0 {
-        return list_of_mask(0, 0, 0, 0);
+        return list_of_mask(0, View(0), 0, 0, 0);
     }
     let n = Group { f: f as u8 }.n();
-    list_of_mask(s.kind, decision.number(), mask_under(s, decision), n)
+    list_of_mask(
+        s.kind,
+        View(s.view),
+        decision.number(),
+        mask_under(s, decision),
+        n,
+    )
 }

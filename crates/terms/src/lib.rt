@@ -11,6 +11,9 @@ pub struct Stamp(pub u64);
 // A register place; 0 to 511 where it is in order.
 pub struct Key(pub u16);
 
+// A round of the fallback, 0 to 65,535.
+pub struct View(pub u16);
+
 pub const LARGEST_KEY: u16 = 511;
 
 pub const LARGEST_F: u64 = 5;

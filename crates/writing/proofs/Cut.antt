@@ -14,16 +14,16 @@ use Rattle.terms.proofs.Checks.{pass, less-no, other-no, not-less, first-none, 
 use Rattle.terms.proofs.Scans.{tab-length}
 use Rattle.records.specs.Numbers.{leBytes, numAt}
 use Rattle.records.specs.Tx.{Tx, txOf, txBytes, txLen, readAt, writeAt, flat, readKey, readVersion, writeKey, writeValue, markTX}
-use Rattle.records.specs.Vl.{Vl, vlOf, vlBytes, vlLen, pairAt, markVL}
+use Rattle.records.specs.Vl.{Vl, viewLen, viewOf, viewBytes, vlOf, vlBytes, vlLen, flatPairs, pairAt, markVL}
 use Rattle.records.specs.Contents.{countsWrong, countWrong}
 use Rattle.records.specs.Cutting.{markWrong, txCut, vlCut, behindWrong, listedCut, listedLen, txPart, vlPart, markPR, markRD}
 use Rattle.records.specs.Writing.{prBytes, rdBytes}
 use Rattle.records.specs.Messages.{rdKey, rdStamp, listBehind}
 use Rattle.records.specs.declared.Read.{Read}
 use Rattle.records.specs.declared.Write.{Write}
-use Rattle.writing.specs.OneForm.{Bytes, TxRight}
-use Rattle.writing.proofs.Lengths.{flat-long, tx-long, list-long}
-use Rattle.writing.proofs.Fields.{num-at, num-back, bytes-take, bytes-drop, items-read, items-written, pairs-read, pairs-written}
+use Rattle.writing.specs.OneForm.{Bytes, TxRight, ViewRight}
+use Rattle.writing.proofs.Lengths.{flat-long, tx-long, view-long, list-long}
+use Rattle.writing.proofs.Fields.{num-at, num-back, bytes-take, bytes-drop, items-read, items-written, view-read, view-written, pairs-read, pairs-written}
 
 -- two checks that pass; two numbers that a check finds equal
 pub both : {a b : ℕ} → a ≡ 0 → b ≡ 0 → orElse a b ≡ 0
@@ -148,37 +148,45 @@ tx-again s h e =
 pub vl-cut-read : (l : Vl) → countWrong (length (l .pairs)) ≡ 0 → vlCut (vlBytes l) ≡ 0
 unfolding vlCut vlBytes
 vl-cut-read l h =
-    let n : 5 + 2 * length (l .pairs) ≤ length (vlBytes l) = omega (arith, list-long l) in
+    let n : 5 + viewLen (l .kind) + 2 * length (l .pairs) ≤ length (vlBytes l) = omega (arith, list-long l) in
     both (mark-read markVL _) (both (less-no _ _ _ (omega arith)) (both h (less-no _ _ _ n)))
 
 pub vl-len-read : (l : Vl) → vlLen (vlBytes l) ≡ length (vlBytes l)
 unfolding vlBytes
 vl-len-read l = sym (list-long l)
 
-pub vl-back : (l : Vl) → vlOf (vlBytes l) ≡ l
+pub vl-back : (l : Vl) → ViewRight l → vlOf (vlBytes l) ≡ l
 unfolding vlOf vlBytes
-vl-back l = rw (pairs-read (vlBytes l) (l .pairs) refl)
+vl-back l r =
+    let n : ℕ = viewLen (l .kind) in
+    let pre : List ℕ = 86 ∷ 76 ∷ l .kind ∷ l .decision ∷ length (l .pairs) ∷ [] in
+    let a : viewOf (l .kind) (numAt 2 5 (vlBytes l)) ≡ l .view = view-read (l .kind) (l .view) pre (flatPairs (l .pairs)) refl (r .1) ∙ r .0 in
+    let d : drop (5 + n) (vlBytes l) ≡ flatPairs (l .pairs) = sym (drop-drop n 5 (vlBytes l)) ∙ drop-at (viewBytes (l .kind) (l .view)) (flatPairs (l .pairs)) n (view-long (l .kind) (l .view)) in
+    rw (a, pairs-read (vlBytes l) (5 + n) (l .pairs) d)
 
 pub vl-there : (s : List ℕ) → vlCut s ≡ 0 → (5 ≤ length s) × (vlLen s ≤ length s)
 unfolding vlCut
 vl-there s e = (not-less _ _ _ (first-none _ _ (rest-none _ _ e)), not-less _ _ _ (rest-none _ _ (rest-none _ _ (rest-none _ _ e))))
 
-vl-whole : (s : List ℕ) → 86 ∷ 76 ∷ drop 2 s ≡ s → 5 ≤ length s → length s ≡ vlLen s → vlBytes (vlOf s) ≡ s
+vl-whole : (s : List ℕ) → Bytes s → 86 ∷ 76 ∷ drop 2 s ≡ s → 5 ≤ length s → length s ≡ vlLen s → vlBytes (vlOf s) ≡ s
 unfolding vlOf vlBytes
-vl-whole [] p h e = absurd (omega arith)
-vl-whole (a ∷ []) p h e = absurd (omega arith)
-vl-whole (a ∷ b ∷ []) p h e = absurd (omega arith)
-vl-whole (a ∷ b ∷ k ∷ []) p h e = absurd (omega arith)
-vl-whole (a ∷ b ∷ k ∷ d ∷ []) p h e = absurd (omega arith)
-vl-whole (a ∷ b ∷ k ∷ d ∷ n ∷ q) p h e =
+vl-whole [] i p h e = absurd (omega arith)
+vl-whole (a ∷ []) i p h e = absurd (omega arith)
+vl-whole (a ∷ b ∷ []) i p h e = absurd (omega arith)
+vl-whole (a ∷ b ∷ k ∷ []) i p h e = absurd (omega arith)
+vl-whole (a ∷ b ∷ k ∷ d ∷ []) i p h e = absurd (omega arith)
+vl-whole (a ∷ b ∷ k ∷ d ∷ n ∷ q) i p h e =
     let s : List ℕ = a ∷ b ∷ k ∷ d ∷ n ∷ q in
-    rw (tab-length (pairAt s) 0 n, pairs-written s n (sym e)) p
+    let v : ℕ = viewLen k in
+    let e1 : viewBytes k (viewOf k (numAt 2 5 s)) ≡ take v q = view-written k s i (omega arith) in
+    let e2 : flatPairs (tab (pairAt s (5 + v)) 0 n) ≡ drop v q = pairs-written s (5 + v) n (sym e) ∙ sym (drop-drop v 5 s) in
+    rw (tab-length (pairAt s (5 + v)) 0 n, e1, e2, take-append-drop v q) p
 
-pub vl-again : (s : List ℕ) → vlCut s ≡ 0 → length s ≤ vlLen s → vlBytes (vlOf s) ≡ s
+pub vl-again : (s : List ℕ) → Bytes s → vlCut s ≡ 0 → length s ≤ vlLen s → vlBytes (vlOf s) ≡ s
 unfolding vlCut
-vl-again s e h =
+vl-again s i e h =
     let t = vl-there s e in
-    vl-whole s (mark-told markVL s (first-none _ _ e)) (t .0) (omega arith)
+    vl-whole s i (mark-told markVL s (first-none _ _ e)) (t .0) (omega arith)
 
 -- ---- a message: two bytes, a TX and what stands behind it
 module _ (a b : ℕ) (x : Tx) (post : List ℕ) where
@@ -204,6 +212,10 @@ parts-join : (m : List ℕ) → txPart m ++ vlPart m ≡ drop 2 m
 unfolding txPart vlPart
 parts-join m = take-append-drop (txLen (drop 2 m)) (drop 2 m)
 
+vl-part-bytes : (m : List ℕ) → Bytes m → Bytes (vlPart m)
+unfolding vlPart
+vl-part-bytes m h = bytes-drop (txLen (drop 2 m)) (drop 2 m) (bytes-drop 2 m h)
+
 vl-part-long : (m : List ℕ) → length (vlPart m) ≡ length (drop 2 m) - txLen (drop 2 m)
 unfolding vlPart
 vl-part-long m = length-drop (txLen (drop 2 m)) (drop 2 m)
@@ -219,7 +231,7 @@ pub listed-again : (due m : List ℕ) → Bytes m → markWrong due m ≡ 0 → 
 unfolding listedCut listedLen listBehind
 listed-again due m h w e k =
     let l : length (vlPart m) ≤ vlLen (vlPart m) = rw (vl-part-long m, length-drop 2 m) (omega arith) in
-    let p : txBytes (txOf (txPart m)) ++ vlBytes (vlOf (vlPart m)) ≡ drop 2 m = rw (part-again m h (first-none _ _ e), vl-again (vlPart m) (rest-none _ _ e) l) (parts-join m) in
+    let p : txBytes (txOf (txPart m)) ++ vlBytes (vlOf (vlPart m)) ≡ drop 2 m = rw (part-again m h (first-none _ _ e), vl-again (vlPart m) (vl-part-bytes m h) (rest-none _ _ e) l) (parts-join m) in
     ap (λ (t : List ℕ). getD due 0 0 ∷ getD due 1 0 ∷ t) p ∙ mark-told due m w
 
 pub rd-again : (m : List ℕ) → Bytes m → markWrong markRD m ≡ 0 → length m ≡ 12 → rdBytes (rdKey m) (rdStamp m) ≡ m

@@ -1,18 +1,21 @@
--- Numbers, items and pairs: what was written is read, and what was read is written.
+-- Numbers, items, views and pairs: what was written is read, and what was read is written.
 use Prim.Native.Nat.{ℕ, zero, suc, _+_, _*_, _/_, _%_, _^_, _<_, _≤_}
 use native.Mathlib.Omega.{arith}
 use native.Mathlib.Nat.{pow-succ'}
+use mathlib.Core.Bool.{Bool}
 use mathlib.Core.Path.{_≡_, refl, ap, sym, _∙_}
 use mathlib.Core.List.{List, [], _∷_, _++_, append-assoc}
+use lib.Dec.{eqb}
 use lib.ListN.{length, getD, take, drop, length-append, length-take, length-drop}
 use lib.Seq.{take-at, drop-at, getD-drop, take-add, drop-drop}
-use Rattle.terms.specs.Choice.{tab}
+use Rattle.terms.specs.Choice.{pick, tab}
 use Rattle.terms.proofs.Scans.{tab-shift, tab-same}
 use Rattle.records.specs.Numbers.{leVal, leBytes, numAt}
 use Rattle.records.specs.Tx.{flat}
-use Rattle.records.specs.Vl.{flatPairs, pairAt}
+use Rattle.records.specs.Vl.{viewLen, viewOf, viewBytes, flatPairs, pairAt}
 use Rattle.records.specs.declared.Pair.{Pair}
 use Rattle.writing.specs.OneForm.{Bytes, Each, more, Fits}
+use Rattle.writing.proofs.Lengths.{either-way}
 
 -- ---- numbers
 pub bytes-long : (n x : ℕ) → length (leBytes n x) ≡ n
@@ -101,6 +104,22 @@ module _ {A : Type 0} (k v : A → ℕ) (mk : ℕ → ℕ → A) where
         let g : flat k v (tab (item s p) 0 (suc n)) ≡ leBytes 2 (numAt 2 p s) ++ (leBytes 8 (numAt 8 (p + 2) s) ++ flat k v (tab (item s p) 1 n)) = rw (kmk, vmk, z) in
         g ∙ join e1 e2 e3 ∙ sym q
 
+-- ---- the view of a list, where it was written, and where it was read
+pub view-read : (k v : ℕ) (pre post : List ℕ) → length pre ≡ 5 → v < 256 ^ 2 → viewOf k (numAt 2 5 (pre ++ (viewBytes k v ++ post))) ≡ viewOf k v
+unfolding viewOf viewBytes
+view-read k v pre post h l = either-way (λ b. pick b (numAt 2 5 (pre ++ (pick b (leBytes 2 v) [] ++ post))) 0 ≡ pick b v 0) (num-at 2 5 v pre post h l) refl (eqb k 2)
+
+pub view-written : (k : ℕ) (s : List ℕ) → Bytes s → 5 + viewLen k ≤ length s → viewBytes k (viewOf k (numAt 2 5 s)) ≡ take (viewLen k) (drop 5 s)
+unfolding viewLen viewOf viewBytes
+view-written k s h =
+    either-way (λ b. 5 + pick b 2 0 ≤ length s → pick b (leBytes 2 (pick b (numAt 2 5 s) 0)) [] ≡ take (pick b 2 0) (drop 5 s))
+    (num-back 2 5 s h) (λ l. refl) (eqb k 2)
+
+-- a view beside a kind that has none is no part of the value
+pub view-same : (k v : ℕ) → viewBytes k (viewOf k v) ≡ viewBytes k v
+unfolding viewBytes viewOf
+view-same k v = either-way (λ b. pick b (leBytes 2 (pick b v 0)) [] ≡ pick b (leBytes 2 v) []) refl refl (eqb k 2)
+
 -- ---- pairs: the j-th of those that begin a list
 abbrev pairIn : List ℕ → ℕ → Pair
 pairIn q j = record { number = getD q (2 * j) 0; answer = getD q (2 * j + 1) 0 }
@@ -111,11 +130,11 @@ pair-next a b q j =
     let g : suc (suc (2 * j)) + 1 ≡ suc (suc (2 * j + 1)) = omega arith in
     rw (e, g)
 
-pair-at : (s : List ℕ) (j : ℕ) → pairAt s j ≡ pairIn (drop 5 s) j
+pair-at : (s : List ℕ) (p j : ℕ) → pairAt s p j ≡ pairIn (drop p s) j
 unfolding pairAt
-pair-at s j =
-    let e : 5 + (2 * j + 1) ≡ 6 + 2 * j = omega arith in
-    rw (getD-drop 5 s (2 * j) 0, getD-drop 5 s (2 * j + 1) 0, e)
+pair-at s p j =
+    let e : p + (2 * j + 1) ≡ p + 2 * j + 1 = omega arith in
+    rw (getD-drop p s (2 * j) 0, getD-drop p s (2 * j + 1) 0, e)
 
 pairs-in : (ps : List Pair) → tab (pairIn (flatPairs ps)) 0 (length ps) ≡ ps
 pairs-in [] = refl
@@ -130,13 +149,14 @@ pairs-out (suc n) (a ∷ b ∷ q) h =
     let t : flatPairs (tab (pairIn (a ∷ b ∷ q)) 1 n) ≡ q = ap flatPairs (tab-shift (pairIn (a ∷ b ∷ q)) (pairIn q) 0 n (pair-next a b q)) ∙ pairs-out n q (omega arith) in
     rw t
 
-as-pairs : (s : List ℕ) (n : ℕ) → tab (pairAt s) 0 n ≡ tab (pairIn (drop 5 s)) 0 n
-as-pairs s n = tab-same (pairIn (drop 5 s)) (pairAt s) 0 n (λ j a b. pair-at s j)
+module _ (s : List ℕ) (p : ℕ) where
+  as-pairs : (n : ℕ) → tab (pairAt s p) 0 n ≡ tab (pairIn (drop p s)) 0 n
+  as-pairs n = tab-same (pairIn (drop p s)) (pairAt s p) 0 n (λ j a b. pair-at s p j)
 
-pub pairs-read : (s : List ℕ) (ps : List Pair) → drop 5 s ≡ flatPairs ps → tab (pairAt s) 0 (length ps) ≡ ps
-pairs-read s ps e = as-pairs s (length ps) ∙ ap (λ (q : List ℕ). tab (pairIn q) 0 (length ps)) e ∙ pairs-in ps
+  pub pairs-read : (ps : List Pair) → drop p s ≡ flatPairs ps → tab (pairAt s p) 0 (length ps) ≡ ps
+  pairs-read ps e = as-pairs (length ps) ∙ ap (λ (q : List ℕ). tab (pairIn q) 0 (length ps)) e ∙ pairs-in ps
 
-pub pairs-written : (s : List ℕ) (n : ℕ) → 5 + 2 * n ≡ length s → flatPairs (tab (pairAt s) 0 n) ≡ drop 5 s
-pairs-written s n h =
-    let l : 2 * n ≡ length (drop 5 s) = rw (length-drop 5 s) (omega arith) in
-    ap flatPairs (as-pairs s n) ∙ pairs-out n (drop 5 s) l
+  pub pairs-written : (n : ℕ) → p + 2 * n ≡ length s → flatPairs (tab (pairAt s p) 0 n) ≡ drop p s
+  pairs-written n h =
+      let l : 2 * n ≡ length (drop p s) = rw (length-drop p s) (omega arith) in
+      ap flatPairs (as-pairs n) ∙ pairs-out n (drop p s) l

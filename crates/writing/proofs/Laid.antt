@@ -11,11 +11,12 @@ use Rattle.terms.specs.Choice.{tab}
 use Rattle.terms.proofs.Scans.{tab-length}
 use Rattle.records.specs.Numbers.{leBytes}
 use Rattle.records.specs.Tx.{flat, markTX, txIn, txBytes, readKey, readVersion, writeKey, writeValue, readsIn, writesIn}
-use Rattle.records.specs.Vl.{flatPairs, markVL, listIn, vlBytes, pairsIn}
+use Rattle.records.specs.Vl.{flatPairs, markVL, viewBytes, listIn, vlBytes, pairsIn}
 use Rattle.records.specs.declared.Transaction.{Transaction}
 use Rattle.records.specs.declared.VoteList.{VoteList}
 use Rattle.records.specs.declared.Pair.{Pair}
-use Rattle.writing.specs.Parts.{laid, Puts, headBytes}
+use Rattle.writing.specs.Parts.{laid, Puts, headBytes, listHead}
+use Rattle.writing.proofs.Fields.{view-same}
 
 -- a part behind the one at the front
 behind : (p q r : List ℕ) → laid (length p) q (p ++ r) ≡ p ++ (q ++ drop (length q) r)
@@ -59,6 +60,9 @@ laid-none (suc at) (x ∷ d) = ap (λ (t : List ℕ). x ∷ t) (laid-none at d)
 pub put-byte : {at v : ℕ} {d : List ℕ} → at + 1 ≤ length d → Puts d at (v ∷ []) (set d at v) (at + 1)
 put-byte {at} {v} {d} h = record { place = refl; is = laid-byte at v d (omega arith) }
 
+pub put-none : {at : ℕ} {d : List ℕ} → Puts d at [] d at
+put-none {at} {d} = record { place = omega arith; is = laid-none at d }
+
 pub put-part : {at k : ℕ} {d v e : List ℕ} → v ≡ e → length e ≡ k → at + k ≤ length d → Puts d at e (putMid at (at + k - at) d v) (at + k)
 put-part {at} {k} {d} {v} {e} p l h = record { place = rw l; is = rw (p, add-sub-cancel-left) (laid-part at k e d l h) }
 
@@ -99,7 +103,7 @@ pub record Filling {A : Type 0} (g : A → List ℕ) (f : ℕ → A) (w n at : �
 module _ {A : Type 0} {g : A → List ℕ} {f : ℕ → A} {w n at : ℕ} {d : List ℕ} where
   pub fill-none : at + w * n ≤ length d → Filling g f w n at d d at 0
   fill-none h =
-      record { within = zero-le; room = h; place = omega arith; same = refl; puts = record { place = omega arith; is = laid-none at d } }
+      record { within = zero-le; room = h; place = omega arith; same = refl; puts = put-none }
 
   module _ {e : List ℕ} {b j : ℕ} (x : Filling g f w n at d e b j) where
     pub fill-more : {h : List ℕ} {c : ℕ} → j < n → length (g (f j)) ≡ w → Puts e b (g (f j)) h c → Filling g f w n at d h c (j + 1)
@@ -145,8 +149,10 @@ pub tx-puts : (x : Transaction) {d e₁ e₂ e : List ℕ} {at a b n : ℕ} → 
 unfolding txBytes txIn
 tx-puts x h r w = rw (tab-length (readsIn (x .reads)) 0 (x .r), tab-length (writesIn (x .writes)) 0 (x .w)) (puts-both h (puts-both r w))
 
-pub list-puts : (l : VoteList) {d e₁ e₂ e₃ e : List ℕ} {at a b c n : ℕ}
-    → Puts d at markVL e₁ a → Puts e₁ a (l .kind ∷ l .decision ∷ []) e₂ b → Puts e₂ b (l .count ∷ []) e₃ c
-    → Puts e₃ c (flatPairs (tab (pairsIn (l .pairs)) 0 (l .count))) e n → Puts d at (vlBytes (listIn l)) e n
+pub list-head-puts : (l : VoteList) {at a b n : ℕ} {d e₁ e₂ e : List ℕ} → Puts d at markVL e₁ a → Puts e₁ a (l .kind ∷ l .decision ∷ []) e₂ b → Puts e₂ b (l .count ∷ []) e n → Puts d at (listHead l) e n
+list-head-puts l m k c = puts-both m (puts-both k c)
+
+pub list-puts : (l : VoteList) {d e₁ e₂ e : List ℕ} {at a b n : ℕ} → Puts d at (listHead l) e₁ a → Puts e₁ a (viewBytes (l .kind) (l .view .0)) e₂ b
+    → Puts e₂ b (flatPairs (tab (pairsIn (l .pairs)) 0 (l .count))) e n → Puts d at (vlBytes (listIn l)) e n
 unfolding vlBytes listIn
-list-puts l m k c p = rw (tab-length (pairsIn (l .pairs)) 0 (l .count)) (puts-both m (puts-both k (puts-both c p)))
+list-puts l h v p = rw (tab-length (pairsIn (l .pairs)) 0 (l .count), view-same (l .kind) (l .view .0)) (puts-both h (puts-both v p))

@@ -1,12 +1,16 @@
--- "Length 12 + 10(r + w)", "Length 5 + 2 × count": the records' lengths.
+-- "Length 12 + 10(r + w)", "Length 5 + 2 × count", and a list's view: the records' lengths.
 use Prim.Native.Nat.{ℕ, _+_, _*_}
 use native.Mathlib.Omega.{arith}
+use mathlib.Core.Bool.{Bool, true, false}
 use mathlib.Core.Path.{_≡_, refl, _∙_}
 use mathlib.Core.List.{List, [], _∷_}
+use lib.Dec.{eqb}
 use lib.ListN.{length, length-append}
+use Rattle.terms.specs.Choice.{pick}
 use Rattle.terms.proofs.Scans.{tab-length}
+use Rattle.records.specs.Numbers.{leBytes}
 use Rattle.records.specs.Tx.{Tx, flat, txIn, txBytes, readsIn, writesIn}
-use Rattle.records.specs.Vl.{Vl, flatPairs, listIn, vlBytes, pairsIn}
+use Rattle.records.specs.Vl.{Vl, viewLen, viewBytes, flatPairs, listIn, vlBytes, pairsIn}
 use Rattle.records.specs.Cutting.{markBytes}
 use Rattle.records.specs.Writing.{listedBytes}
 use Rattle.records.specs.declared.Mark.{Mark}
@@ -28,9 +32,18 @@ pub tx-long : (x : Tx) → length (txBytes x) ≡ 12 + 10 * (length (x .reads) +
 unfolding txBytes
 tx-long x = simp (length-append, flat-long) (omega arith)
 
-pub list-long : (l : Vl) → length (vlBytes l) ≡ 5 + 2 * length (l .pairs)
+-- a view is there or not, by the kind: what holds either way
+pub either-way : (P : Bool → Type 0) → P true → P false → (b : Bool) → P b
+either-way P p q true = p
+either-way P p q false = q
+
+pub view-long : (k v : ℕ) → length (viewBytes k v) ≡ viewLen k
+unfolding viewBytes viewLen
+view-long k v = either-way (λ b. length (pick b (leBytes 2 v) []) ≡ pick b 2 0) refl refl (eqb k 2)
+
+pub list-long : (l : Vl) → length (vlBytes l) ≡ 5 + viewLen (l .kind) + 2 * length (l .pairs)
 unfolding vlBytes
-list-long l = omega (arith, pairs-long (l .pairs))
+list-long l = simp (length-append, view-long, pairs-long) (omega arith)
 
 pub tx-in-long : (x : Transaction) → length (txBytes (txIn x)) ≡ txSize x
 unfolding txIn

@@ -4,15 +4,15 @@ use native.Mathlib.Omega.{arith}
 use mathlib.Core.Path.{_≡_, refl, ap, sym, _∙_}
 use mathlib.Core.List.{List, [], _∷_, _++_, append-nil}
 use borrow.Author.Tests.{le-ltb}
-use lib.ListN.{length, length-append}
+use lib.ListN.{length, getD, length-append}
 use lib.Seq.{take-all}
 use Rattle.terms.specs.Checks.{orElse, when, ifLess, ifSame}
 use Rattle.terms.specs.Group.{groupWrong}
 use Rattle.terms.proofs.Checks.{less-no, first-none, rest-none, not-less}
 use Rattle.records.specs.Numbers.{leBytes, numAt}
 use Rattle.records.specs.Tx.{Tx, txIn, txOf, txLen, noTx, txBytes, writeKey, writeValue}
-use Rattle.records.specs.Vl.{Vl, listIn, vlOf, noList, vlBytes}
-use Rattle.records.specs.Contents.{countsWrong, txWrong, listWrong, logListWrong, rdWrong, largestKey}
+use Rattle.records.specs.Vl.{Vl, viewOf, listIn, heldList, vlOf, noList, vlBytes}
+use Rattle.records.specs.Contents.{countsWrong, countWrong, txWrong, codeWrong, listWrong, logListWrong, rdWrong, largestKey}
 use Rattle.records.specs.Cutting.{txCut, markWrong, behindWrong, restCut, messageCut, messageLen, listedCut, listedLen, txPart, markBytes, markPR, markLG, markDC, markRD}
 use Rattle.records.specs.Messages.{txRefusal, vlRefusal, txReadingBy, vlReadingBy, readTX, readVL, listBehind, rdKey, rdStamp, messageTx, messageList, messageKey, messageStamp, contentsWrong, dueRefusal, refusedReading, readingBy, readDue, isMark, markOf, readMarked, readingAfter, readMessage}
 use Rattle.records.specs.Writing.{prBytes, listedBytes, rdBytes, listedWrong}
@@ -23,7 +23,7 @@ use Rattle.records.specs.declared.Marked.the-variants.{Is, Refused}
 use Rattle.records.specs.declared.Write.{Write}
 use Rattle.records.specs.declared.TxReading.{TxReading}
 use Rattle.records.specs.declared.VlReading.{VlReading}
-use Rattle.records.proofs.Held.{tx-in, list-in}
+use Rattle.records.proofs.Held.{tx-in, list-in, view-once}
 use Rattle.writing.specs.OneForm.{Bytes, none, more, TxRight, ListRight, Message, pr, listed, rd, itsMark, bytesOf, Right, holds, readAs, WrittenIsRead, Accepted, written, ReadIsWritten, OneFormOf, OneForm}
 use Rattle.writing.proofs.Fields.{num-at}
 use Rattle.writing.proofs.Cut.{both, behind-none, behind-told, mark-read, tx-len-read, tx-cut-read, tx-back, tx-again, vl-cut-read, vl-len-read, vl-back, vl-again, tx-part-read, vl-part-read, pr-again, listed-again, rd-again}
@@ -38,7 +38,7 @@ tx-accepted x r =
 
 vl-accepted : (f : ℕ) (l : Vl) → ListRight f l → vlRefusal f (vlBytes l) ≡ 0
 unfolding vlRefusal
-vl-accepted f l r = both (r .group) (both (vl-cut-read l (r .count)) (both (behind-none _ _ (omega (arith, vl-len-read l))) (ap (listWrong f) (vl-back l) ∙ r .contents)))
+vl-accepted f l r = both (r .group) (both (vl-cut-read l (r .count)) (both (behind-none _ _ (omega (arith, vl-len-read l))) (ap (listWrong f) (vl-back l (r .view)) ∙ r .contents)))
 
 due-accepted : (k : Mark) (f : ℕ) (m : List ℕ) → groupWrong f ≡ 0 → markWrong (markBytes k) m ≡ 0 → restCut k m ≡ 0 → behindWrong (messageLen k m) m ≡ 0 → contentsWrong k f m ≡ 0 → dueRefusal k f m ≡ 0
 unfolding dueRefusal messageCut
@@ -63,7 +63,7 @@ module _ (a b f : ℕ) (x : Tx) (l : Vl) (r : TxRight x) (q : ListRight f l) whe
 
   list-found : listBehind both-parts ≡ l
   unfolding listBehind
-  list-found = ap vlOf (vl-part-read a b x (vlBytes l)) ∙ vl-back l
+  list-found = ap vlOf (vl-part-read a b x (vlBytes l)) ∙ vl-back l (q .view)
 
   listed-cut : listedCut both-parts ≡ 0
   unfolding listedCut
@@ -132,7 +132,7 @@ unfolding readTX txReadingBy readVL vlReadingBy readMessage readingAfter readMar
 written-is-read =
     record {
       tx = λ x r. rw (tx-accepted x r, tx-back x r);
-      vl = λ f l r. rw (vl-accepted f l r, vl-back l);
+      vl = λ f l r. rw (vl-accepted f l r, vl-back l (r .view));
       due = due-back;
       message = λ f m g r. rw (g, its-mark m) (due-back f m g r);
     }
@@ -156,11 +156,16 @@ due-parts k f m e =
     let t = first-none _ _ c in
     (first-none _ _ t, rest-none _ _ t, behind-told _ m (first-none _ _ (rest-none _ _ c)))
 
+-- a list that was read is what its struct holds
+list-kept : (s : List ℕ) → listIn (heldList (vlOf s)) ≡ vlOf s
+unfolding vlOf
+list-kept s = list-in (vlOf s) (view-once (getD s 2 0) (numAt 2 5 s))
+
 by-mark : (k : Mark) (m : List ℕ) → Bytes m → (markWrong (markBytes k) m ≡ 0) × (restCut k m ≡ 0) × (length m ≤ messageLen k m) → written (holds k (messageTx k m) (messageList k m) (messageKey k m) (messageStamp k m)) ≡ m
-unfolding restCut messageLen listedBytes messageTx messageList messageKey messageStamp
+unfolding restCut messageLen listedBytes listBehind messageTx messageList messageKey messageStamp
 by-mark PR m h p = rw tx-in (pr-again m h (p .0) (p .1) (p .2))
-by-mark LG m h p = rw (tx-in, list-in) (listed-again markLG m h (p .0) (p .1) (p .2))
-by-mark DC m h p = rw (tx-in, list-in) (listed-again markDC m h (p .0) (p .1) (p .2))
+by-mark LG m h p = rw (tx-in, list-kept) (listed-again markLG m h (p .0) (p .1) (p .2))
+by-mark DC m h p = rw (tx-in, list-kept) (listed-again markDC m h (p .0) (p .1) (p .2))
 by-mark RD m h p = let l : 12 ≤ length m = not-less _ _ _ (p .1) in let b = p .2 in rd-again m h (p .0) (omega arith)
 
 due-again : (k : Mark) (f : ℕ) (m : List ℕ) → Bytes m → dueRefusal k f m ≡ 0 → written (readDue k f m) ≡ m
@@ -193,16 +198,16 @@ tx-written : (s : List ℕ) → Bytes s → txRefusal s ≡ 0 → txBytes (txOf 
 unfolding txRefusal
 tx-written s h e = rw (take-all (txLen s) s (behind-told _ s (first-none _ _ (rest-none _ _ e)))) at (tx-again s h (first-none _ _ e))
 
-vl-written : (f : ℕ) (s : List ℕ) → vlRefusal f s ≡ 0 → vlBytes (vlOf s) ≡ s
+vl-written : (f : ℕ) (s : List ℕ) → Bytes s → vlRefusal f s ≡ 0 → vlBytes (vlOf s) ≡ s
 unfolding vlRefusal
-vl-written f s e = let c = rest-none _ _ e in vl-again s (first-none _ _ c) (behind-told _ s (first-none _ _ (rest-none _ _ c)))
+vl-written f s h e = let c = rest-none _ _ e in vl-again s h (first-none _ _ c) (behind-told _ s (first-none _ _ (rest-none _ _ c)))
 
 pub read-is-written : ReadIsWritten
 unfolding readTX txReadingBy readVL vlReadingBy
 read-is-written =
     record {
       tx = λ s h e. let z = tx-told (txRefusal s) (txOf s) e in rw (z, tx-in) (tx-written s h z);
-      vl = λ f s e. let z = vl-told (vlRefusal f s) (vlOf s) e in rw (z, list-in) (vl-written f s z);
+      vl = λ f s h e. let z = vl-told (vlRefusal f s) (vlOf s) e in rw (z, list-kept) (vl-written f s h z);
       due = λ k f m h a. due-again k f m h (due-told k (a .0) f m (a .1));
       message = message-again;
     }
@@ -215,7 +220,7 @@ pub one-form : OneForm
 one-form =
     record {
       tx = same-bytes (λ (r : TxReading). r .wrong ≡ 0) readTX (λ (r : TxReading). txBytes (txIn (r .tx))) (read-is-written .tx);
-      vl = λ f. same-bytes (λ (r : VlReading). r .wrong ≡ 0) (readVL f) (λ (r : VlReading). vlBytes (listIn (r .list))) (λ s h. read-is-written .vl f s);
+      vl = λ f. same-bytes (λ (r : VlReading). r .wrong ≡ 0) (readVL f) (λ (r : VlReading). vlBytes (listIn (r .list))) (read-is-written .vl f);
       due = λ k f. same-bytes Accepted (readDue k f) written (read-is-written .due k f);
       message = λ f. same-bytes Accepted (readMessage f) written (message-again f);
     }
@@ -230,3 +235,8 @@ in-order =
     let k : writeKey example < 256 ^ 2 = omega arith in
     let v : writeValue example < 256 ^ 8 = omega arith in
     record { counts = refl; contents = refl; stamp = omega arith; reads = none; writes = more (k, v) none }
+
+-- and a list of logs with its view
+pub list-in-order : ListRight 1 (record { kind = 2; decision = 1; view = 65535; pairs = record { number = 5; answer = 2 } ∷ [] })
+unfolding groupWrong countWrong listWrong codeWrong orElse when ifLess ifSame viewOf
+list-in-order = record { group = refl; count = refl; contents = refl; view = (refl, omega arith) }

@@ -6,7 +6,7 @@ use mathlib.Core.Logic.{_⊎_}
 use lib.ListN.{length, getD}
 use Rattle.terms.specs.Group.{groupWrong}
 use Rattle.records.specs.Tx.{Tx, txIn, heldTx, noTx, txBytes, readKey, readVersion, writeKey, writeValue}
-use Rattle.records.specs.Vl.{Vl, listIn, heldList, noList, vlBytes}
+use Rattle.records.specs.Vl.{Vl, viewOf, listIn, heldList, noList, vlBytes}
 use Rattle.records.specs.Contents.{countsWrong, countWrong, txWrong, listWrong, rdWrong}
 use Rattle.records.specs.Messages.{readTX, readVL, readDue, readMessage, refusedReading}
 use Rattle.records.specs.Writing.{prBytes, listedBytes, rdBytes, listedWrong}
@@ -38,11 +38,16 @@ pub record TxRight (x : Tx) : Type 0 where
   pub reads : Each (Fits readKey readVersion) (x .reads)
   pub writes : Each (Fits writeKey writeValue) (x .writes)
 
+-- "a list of kind 2 carries its view, two bytes": below 65,536; 0 where the kind is another
+abbrev pub ViewRight : Vl → Type 0
+ViewRight l = (viewOf (l .kind) (l .view) ≡ l .view) × (l .view < 256 ^ 2)
+
 -- a list in order in its group
 pub record ListRight (f : ℕ) (l : Vl) : Type 0 where
   pub group : groupWrong f ≡ 0
   pub count : countWrong (length (l .pairs)) ≡ 0
   pub contents : listWrong f l ≡ 0
+  pub view : ViewRight l
 
 -- ---- what a message says: a PR's transaction, an LG's or a DC's with its list, an RD's key and stamp
 pub data Message : Type 0 where
@@ -100,7 +105,7 @@ written r = writtenBy (r .found) (txIn (r .tx)) (listIn (r .list)) (r .key .0) (
 
 pub record ReadIsWritten : Type 0 where
   pub tx : (s : List ℕ) → Bytes s → readTX s .wrong ≡ 0 → txBytes (txIn (readTX s .tx)) ≡ s
-  pub vl : (f : ℕ) (s : List ℕ) → readVL f s .wrong ≡ 0 → vlBytes (listIn (readVL f s .list)) ≡ s
+  pub vl : (f : ℕ) (s : List ℕ) → Bytes s → readVL f s .wrong ≡ 0 → vlBytes (listIn (readVL f s .list)) ≡ s
   pub due : (k : Mark) (f : ℕ) (m : List ℕ) → Bytes m → Accepted (readDue k f m) → written (readDue k f m) ≡ m
   pub message : (f : ℕ) (m : List ℕ) → Bytes m → Accepted (readMessage f m) → written (readMessage f m) ≡ m
 

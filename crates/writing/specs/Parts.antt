@@ -6,6 +6,7 @@ use lib.ListN.{length, drop}
 use Rattle.terms.specs.Checks.{orElse, ifLess, buffer}
 use Rattle.records.specs.Numbers.{leBytes}
 use Rattle.records.specs.Tx.{markTX, txIn}
+use Rattle.records.specs.Vl.{markVL, viewLen}
 use Rattle.records.specs.Contents.{countsWrong, txWrong}
 use Rattle.records.specs.declared.Transaction.{Transaction}
 use Rattle.records.specs.declared.VoteList.{VoteList}
@@ -25,12 +26,16 @@ pub record Puts (d : List ℕ) (at : ℕ) (p e : List ℕ) (b : ℕ) : Type 0 wh
 abbrev pub headBytes : ℕ → ℕ → ℕ → List ℕ
 headBytes r w s = markTX ++ (r ∷ w ∷ leBytes 8 s)
 
--- "Length 12 + 10(r + w)", "Length 5 + 2 × count"
+-- a list before its view
+abbrev pub listHead : VoteList → List ℕ
+listHead l = markVL ++ (l .kind ∷ l .decision ∷ l .count ∷ [])
+
+-- "Length 12 + 10(r + w)", "Length 5 + 2 × count", and a list's view
 abbrev pub txSize : Transaction → ℕ
 txSize x = 12 + 10 * (x .r + x .w)
 
 abbrev pub listSize : VoteList → ℕ
-listSize l = 5 + 2 * l .count
+listSize l = 5 + viewLen (l .kind) + 2 * l .count
 
 -- what passed all checks: there is room from `at` on; a message stands at the front
 pub record TxFits (x : Transaction) (at : ℕ) (d : List ℕ) : Type 0 where

@@ -7,10 +7,10 @@ ghost use Rattle.terms.specs.Choice.{tab};
 ghost use Rattle.terms.specs.Checks.{orElse, ifLess, buffer};
 ghost use Rattle.records.specs.Numbers.{leBytes};
 ghost use Rattle.records.specs.Tx.{txIn, txBytes, flat, readKey, readVersion, writeKey, writeValue, readsIn, writesIn};
-ghost use Rattle.records.specs.Vl.{listIn, vlBytes, flatPairs, pairsIn};
+ghost use Rattle.records.specs.Vl.{listIn, vlBytes, viewLen, viewBytes, flatPairs, pairsIn};
 ghost use Rattle.records.specs.Cutting.{markBytes};
 ghost use Rattle.records.specs.Writing.{prBytes, listedBytes, rdBytes, listedWrong, txUnwritten, vlUnwritten, prUnwritten, listedUnwritten, rdUnwritten, wroteBy, bufferBy};
-ghost use Rattle.writing.specs.Parts.{Puts, headBytes, txSize, listSize, TxFits, ListFits, ListedFits, txAfter};
+ghost use Rattle.writing.specs.Parts.{Puts, headBytes, listHead, txSize, listSize, TxFits, ListFits, ListedFits, txAfter};
 use records::Mark;
 use records::Pair;
 use records::Read;
@@ -22,6 +22,7 @@ use terms::Group;
 use terms::Key;
 use terms::Refusal;
 use terms::Stamp;
+use terms::View;
 
 // A byte, put down from `at` on. This and all that follow tell the place behind what they put down.
 fn put_byte(s: &mut [u8], at: usize, a: u8) -> usize
@@ -61,11 +62,12 @@ fn put_mark(s: &mut [u8], mark: Mark) -> usize
     }
 }
 
-fn put_key(s: &mut [u8], at: usize, key: u16) -> usize
+// A number of two bytes: a key, a view.
+fn put_short(s: &mut [u8], at: usize, number: u16) -> usize
     requires { ⌜ at + 2 ≤ length (now s) ⌝ }
-    ensures { λ r. ⌜ Puts (now (s .entry)) at (leBytes 2 key) (now (s .exit)) r ⌝ }
+    ensures { λ r. ⌜ Puts (now (s .entry)) at (leBytes 2 number) (now (s .exit)) r ⌝ }
 {
-    records::put_u16(&mut s[at..at + 2], key);
+    records::put_u16(&mut s[at..at + 2], number);
     at + 2
 }
 
@@ -82,7 +84,7 @@ fn put_item(s: &mut [u8], at: usize, key: u16, number: u64) -> usize
     requires { ⌜ at + 10 ≤ length (now s) ⌝ }
     ensures { λ r. ⌜ Puts (now (s .entry)) at (leBytes 2 key ++ leBytes 8 number) (now (s .exit)) r ⌝ }
 {
-    let at = put_key(s, at, key);
+    let at = put_short(s, at, key);
     put_number(s, at, number)
 }
 
@@ -152,14 +154,34 @@ fn put_pairs(s: &mut [u8], at: usize, a: [Pair; 26], n: usize) -> usize
     next
 }
 
+// The view of a list, where its kind has one.
+fn put_view(s: &mut [u8], at: usize, kind: u8, view: View) -> usize
+    requires { ⌜ at + viewLen kind ≤ length (now s) ⌝ }
+    ensures { λ r. ⌜ Puts (now (s .entry)) at (viewBytes kind (view .0)) (now (s .exit)) r × (r ≡ at + viewLen kind) ⌝ }
+{
+    if kind == 2 {
+        return put_short(s, at, view.0);
+    }
+    at
+}
+
+// A list before its view.
+fn put_list_head(s: &mut [u8], at: usize, l: VoteList) -> usize
+    requires { ⌜ (l .count ≤ 26) × (at + 5 ≤ length (now s)) ⌝ }
+    ensures { λ r. ⌜ Puts (now (s .entry)) at (listHead l) (now (s .exit)) r ⌝ }
+{
+    let at = put_string(s, at, b"VL");
+    let at = put_two(s, at, l.kind, l.decision);
+    put_byte(s, at, l.count as u8)
+}
+
 fn put_list(s: &mut [u8], at: usize, l: VoteList) -> usize
     requires { ⌜ ListFits l at (now s) ⌝ }
     ensures { λ r. ⌜ Puts (now (s .entry)) at (vlBytes (listIn l)) (now (s .exit)) r ⌝ }
 {
     let pairs = l.pairs;
-    let at = put_string(s, at, b"VL");
-    let at = put_two(s, at, l.kind, l.decision);
-    let at = put_byte(s, at, l.count as u8);
+    let at = put_list_head(s, at, l);
+    let at = put_view(s, at, l.kind, l.view);
     put_pairs(s, at, pairs, l.count)
 }
 
@@ -200,9 +222,9 @@ fn tx_size(x: Transaction) -> usize
 // The length of a list's record.
 fn list_size(l: VoteList) -> usize
     requires { ⌜ l .count ≤ 26 ⌝ }
-    ensures { λ n. ⌜ (n ≡ listSize l) × (n ≤ 57) ⌝ }
+    ensures { λ n. ⌜ (n ≡ listSize l) × (n ≤ 59) ⌝ }
 {
-    5 + 2 * l.count
+    5 + records::view_len(l.kind) + 2 * l.count
 }
 
 // The first refusal of two; 0 is none.

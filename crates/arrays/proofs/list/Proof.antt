@@ -10,19 +10,19 @@ use Rattle.arrays.proofs.list.Statement.{statement}
 use Rattle.arrays.proofs.list.Tie as tie
 
 abbrev Inv-loop : tie.InvT-loop
-Inv-loop kind decision count numbers answers pairs₀ j₀ pairs j = Grown (lentPair numbers answers) zeroPair 26 pairs j
+Inv-loop kind decision view count numbers answers pairs₀ j₀ pairs j = Grown (lentPair numbers answers) zeroPair 26 pairs j
 
 abbrev μ-loop : tie.MeasureT-loop
-μ-loop kind decision count numbers answers pairs₀ j₀ pairs j = 26 - j
+μ-loop kind decision view count numbers answers pairs₀ j₀ pairs j = 26 - j
 
 loop-holds : tie.Need-loop-holds Inv-loop μ-loop
 loop-holds c = none
 
-element-copy-out-t12 : tie.Need-element-copy-out-t12 Inv-loop μ-loop
-element-copy-out-t12 c = search needs
+element-copy-out-t13 : tie.Need-element-copy-out-t13 Inv-loop μ-loop
+element-copy-out-t13 c = search needs
 
-element-copy-out-t15 : tie.Need-element-copy-out-t15 Inv-loop μ-loop
-element-copy-out-t15 c = search needs
+element-copy-out-t16 : tie.Need-element-copy-out-t16 Inv-loop μ-loop
+element-copy-out-t16 c = search needs
 
 mul-pairs : tie.Need-mul-pairs Inv-loop μ-loop
 mul-pairs c = search needs
@@ -50,8 +50,8 @@ list-spec =
     Inv-loop
     μ-loop
     loop-holds
-    element-copy-out-t12
-    element-copy-out-t15
+    element-copy-out-t13
+    element-copy-out-t16
     mul-pairs
     array-set-from-pairs
     add-j

@@ -17,10 +17,13 @@ cast-t11 c = search needs
 cast-t12 : tie.Need-cast-t12
 cast-t12 c = search needs
 
+cast-t13 : tie.Need-cast-t13
+cast-t13 c = search needs
+
 returns : tie.Need-returns
 returns c = cc
 
 pub put-head-spec : {M : Type 1} → statement M
 put-head-spec =
     tie.close
-    (tie.spec found-stamp-requires found-mark-requires cast-t10 cast-t11 cast-t12 returns)
+    (tie.spec found-stamp-requires found-mark-requires cast-t10 cast-t11 cast-t12 cast-t13 returns)

@@ -1,6 +1,8 @@
 use Rattle.reading.proofs.Cuts.{long, vl-long, there, vl-there}
 use mathlib.Core.Path.{refl}
-use Rattle.records.specs.Cutting.{listedLen}
+use lib.ListN.{getD}
+use Rattle.records.proofs.Held.{view-short}
+use Rattle.records.specs.Cutting.{listedLen, vlPart}
 use native.Mathlib.Omega.{arith}
 use borrow.Author.Needs.{needs}
 use Rattle.reading.proofs.listed_len.Statement.{statement}
@@ -22,7 +24,7 @@ vl-len-requires : tie.Need-vl-len-requires
 vl-len-requires c κs = rw (c .vl-part-of .ensures) (vl-long _ _ refl (c .before .before .before .before .pre .2))
 
 add-result-2 : tie.Need-add-result-2
-add-result-2 c = let a = there (c .before .before .before .before .before .args .m .now) (c .before .before .before .before .before .pre .1) in let b = vl-there _ _ refl (c .before .before .before .before .before .pre .2) in rw (c .before .before .tx-len .ensures, c .vl-len .ensures, c .before .before .before .behind .ensures, c .before .vl-part-of .ensures) (omega arith)
+add-result-2 c = let v = view-short (getD (vlPart (c .before .before .before .before .before .args .m .now)) 2 0) in let a = there (c .before .before .before .before .before .args .m .now) (c .before .before .before .before .before .pre .1) in let b = vl-there _ _ refl (c .before .before .before .before .before .pre .2) in rw (c .before .before .tx-len .ensures, c .vl-len .ensures, c .before .before .before .behind .ensures, c .before .vl-part-of .ensures) (omega arith)
 
 returns : tie.Need-returns
 unfolding listedLen

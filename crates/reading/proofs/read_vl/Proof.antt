@@ -4,6 +4,7 @@ use Rattle.records.specs.Messages.{readVL, vlRefusal}
 use Rattle.terms.proofs.Checks.{pass, stop, links, together, first-none, rest-none}
 use Rattle.terms.proofs.Groups.{group-small}
 use Rattle.reading.proofs.Cuts.{vl-long, vl-there, behind-at}
+use Rattle.records.proofs.Held.{own-view}
 use Rattle.reading.proofs.Answers.{vl-none, vl-by, wrong-list}
 use native.Mathlib.Omega.{arith}
 use borrow.Author.Needs.{needs}
@@ -52,7 +53,7 @@ vl-reading-requires-2 c κs = search needs
 
 returns-2 : tie.Need-returns-2
 unfolding readVL vlRefusal
-returns-2 c = c .vl-reading2 .ensures ∙ vl-by _ _ _ _ (pass (sym (links (c .before .before .before .before .before .before .before .first .ensures) (c .before .before .before .before .before .before .before .before .before .group-wrong .ensures) (c .before .before .before .before .before .before .before .before .vl-cut .ensures)) ∙ c .before .before .before .before .before .before .if1 .left) (links (c .before .first2 .ensures) (c .before .before .before .behind-wrong .ensures ∙ behind-at _ (c .before .before .before .before .vl-len .ensures)) (wrong-list (listWrong _) _ _ _ (c .before .before .before .before .before .list-of .ensures .0) (c .before .before .list-wrong .ensures))) ∙ together _ _ _) (c .before .before .before .before .before .list-of .ensures .0)
+returns-2 c = c .vl-reading2 .ensures ∙ vl-by _ _ _ _ (pass (sym (links (c .before .before .before .before .before .before .before .first .ensures) (c .before .before .before .before .before .before .before .before .before .group-wrong .ensures) (c .before .before .before .before .before .before .before .before .vl-cut .ensures)) ∙ c .before .before .before .before .before .before .if1 .left) (links (c .before .first2 .ensures) (c .before .before .before .behind-wrong .ensures ∙ behind-at _ (c .before .before .before .before .vl-len .ensures)) (wrong-list (listWrong _) _ _ _ (own-view _) (c .before .before .before .before .before .list-of .ensures .0) (c .before .before .list-wrong .ensures))) ∙ together _ _ _) (c .before .before .before .before .before .list-of .ensures .0)
 
 pub read-vl-spec : {M : Type 1} → statement M
 read-vl-spec =

@@ -1,20 +1,20 @@
-use Rattle.records.specs.Vl.{pairAt}
 use mathlib.Core.Path.{refl}
+use Rattle.records.specs.Vl.{pairAt}
+use native.Mathlib.Omega.{arith}
 use borrow.Author.Needs.{needs}
 use Rattle.records.proofs.pair_at.Statement.{statement}
 use Rattle.records.proofs.pair_at.Tie as tie
+use Rattle.records.proofs.pair_at.Reads as reads
+use Rattle.records.proofs.pair_at.Lts as lts
 
-mul-number : tie.Need-mul-number
-mul-number c = search needs
+mul-at : tie.Need-mul-at
+mul-at c = search needs
 
-add-number : tie.Need-add-number
-add-number c = search needs
+add-at : tie.Need-add-at
+add-at c = search needs
 
 shared-slice-read-number : tie.Need-shared-slice-read-number
 shared-slice-read-number c = search needs
-
-mul-answer : tie.Need-mul-answer
-mul-answer c = search needs
 
 add-answer : tie.Need-add-answer
 add-answer c = search needs
@@ -29,11 +29,4 @@ returns c = refl
 pub pair-at-spec : {M : Type 1} → statement M
 pair-at-spec =
     tie.close
-    (tie.spec
-    mul-number
-    add-number
-    shared-slice-read-number
-    mul-answer
-    add-answer
-    shared-slice-read-answer
-    returns)
+    (tie.spec mul-at add-at shared-slice-read-number add-answer shared-slice-read-answer returns)

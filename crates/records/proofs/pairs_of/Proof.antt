@@ -8,10 +8,10 @@ use Rattle.records.proofs.pairs_of.Statement.{statement}
 use Rattle.records.proofs.pairs_of.Tie as tie
 
 abbrev Inv-loop : tie.InvT-loop
-Inv-loop s n a₀ j₀ a j = Grown (pairAt s) zeroPair 26 a j × (j ≤ n)
+Inv-loop s from n a₀ j₀ a j = Grown (pairAt s from) zeroPair 26 a j × (j ≤ n)
 
 abbrev μ-loop : tie.MeasureT-loop
-μ-loop s n a₀ j₀ a j = n - j
+μ-loop s from n a₀ j₀ a j = n - j
 
 loop-holds : tie.Need-loop-holds Inv-loop μ-loop
 loop-holds c = (none, search needs)

@@ -8,10 +8,10 @@ use Rattle.sheet.proofs.list_of_mask.Statement.{statement}
 use Rattle.sheet.proofs.list_of_mask.Tie as tie
 
 abbrev Inv-loop : tie.InvT-loop
-Inv-loop kind answer m n pairs₀ count₀ b₀ pairs count b = Noted (has m) answer pairs count b × (b ≤ n)
+Inv-loop kind view answer m n pairs₀ count₀ b₀ pairs count b = Noted (has m) answer pairs count b × (b ≤ n)
 
 abbrev μ-loop : tie.MeasureT-loop
-μ-loop kind answer m n pairs₀ count₀ b₀ pairs count b = n - b
+μ-loop kind view answer m n pairs₀ count₀ b₀ pairs count b = n - b
 
 loop-holds : tie.Need-loop-holds Inv-loop μ-loop
 loop-holds c = (noted-none, search needs)
@@ -19,8 +19,8 @@ loop-holds c = (noted-none, search needs)
 has-box-requires : tie.Need-has-box-requires Inv-loop μ-loop
 has-box-requires c κs = search needs
 
-cast-t11 : tie.Need-cast-t11 Inv-loop μ-loop
-cast-t11 c = search needs
+cast-t12 : tie.Need-cast-t12 Inv-loop μ-loop
+cast-t12 c = search needs
 
 mul-pairs : tie.Need-mul-pairs Inv-loop μ-loop
 mul-pairs c = search needs
@@ -49,8 +49,11 @@ loop-less-2 c = search needs
 loop-again-2 : tie.Need-loop-again-2 Inv-loop μ-loop
 loop-again-2 c = (noted-no (c .before .before .before .loop .inv .0) (cc), omega arith)
 
+own-view-requires : tie.Need-own-view-requires Inv-loop μ-loop
+own-view-requires c κs = search needs
+
 returns : tie.Need-returns Inv-loop μ-loop
-returns c = let e : c .before .loop .b ≡ c .before .before .args .n = omega arith in rw (← e) (noted-list _ _ _ _ _ _ (c .before .loop .inv .0))
+returns c = let e : c .before .before .loop .b ≡ c .before .before .before .args .n = omega arith in rw (← e) (noted-list _ _ _ _ _ _ _ _ (c .own-view .ensures) (c .before .before .loop .inv .0))
 
 pub list-of-mask-spec : {M : Type 1} → statement M
 list-of-mask-spec =
@@ -60,7 +63,7 @@ list-of-mask-spec =
     μ-loop
     loop-holds
     has-box-requires
-    cast-t11
+    cast-t12
     mul-pairs
     array-set-from-pairs
     add-count
@@ -70,4 +73,5 @@ list-of-mask-spec =
     add-b-2
     loop-less-2
     loop-again-2
+    own-view-requires
     returns)

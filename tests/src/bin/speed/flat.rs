@@ -230,7 +230,8 @@ fn cut_list(bytes: &[u8]) -> Result<List<'_>, u8> {
     if bytes[4] == 0 || bytes[4] > 26 {
         return Err(3);
     }
-    let (pairs, behind) = bytes[5..].split_at_checked(2 * bytes[4] as usize).ok_or(1)?;
+    let pairs_at = if bytes[2] == 2 { 7 } else { 5 }; // behind the view, which does not matter
+    let (pairs, behind) = bytes.split_at_checked(pairs_at + 2 * bytes[4] as usize).map(|(list, behind)| (&list[pairs_at..], behind)).ok_or(1)?;
     if !behind.is_empty() {
         return Err(4);
     }
