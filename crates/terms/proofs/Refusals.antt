@@ -6,7 +6,7 @@ use lib.Dec.{eqb}
 use lib.ListN.{getD}
 use Rattle.terms.specs.Choice.{pick}
 use Rattle.terms.specs.declared.Refusal.{Refusal}
-use Rattle.terms.specs.declared.Refusal.the-variants.{Short, Mark, Count, Trailing, Range, Order, Misbehaviour, Code, OtherBody, Unknown, TooFew, Contradiction, Full, Group, Ahead, Table, Buffer}
+use Rattle.terms.specs.declared.Refusal.the-variants.{Short, Mark, Count, Trailing, Range, Order, Misbehaviour, Code, OtherBody, Unknown, TooFew, Contradiction, Full, Group, Ahead, Table, Buffer, Passage, Versions, Direction, AxleCount, HotAxle}
 use Rattle.terms.specs.Refusals.{refusalValues, numberOf, refusalOf}
 
 -- the refusal with these values
@@ -37,11 +37,16 @@ back Group = refl
 back Ahead = refl
 back Table = refl
 back Buffer = refl
+back Passage = refl
+back Versions = refl
+back Direction = refl
+back AxleCount = refl
+back HotAxle = refl
 
 pub values-tell : (a b : Refusal) → refusalValues a ≡ refusalValues b → a ≡ b
 values-tell a b e = sym (back a) ∙ (ap refusalIn e ∙ back b)
 
 -- a check's number is that of its refusal
-pub number-kept : map (λ n. numberOf (refusalOf n)) (1 ∷ 2 ∷ 3 ∷ 4 ∷ 5 ∷ 6 ∷ 7 ∷ 8 ∷ 14 ∷ 15 ∷ 16 ∷ 17 ∷ []) ≡ 1 ∷ 2 ∷ 3 ∷ 4 ∷ 5 ∷ 6 ∷ 7 ∷ 8 ∷ 14 ∷ 15 ∷ 16 ∷ 17 ∷ []
+pub number-kept : map (λ n. numberOf (refusalOf n)) (1 ∷ 2 ∷ 3 ∷ 4 ∷ 5 ∷ 6 ∷ 7 ∷ 8 ∷ 14 ∷ 15 ∷ 16 ∷ 17 ∷ 26 ∷ 27 ∷ 28 ∷ 29 ∷ 30 ∷ []) ≡ 1 ∷ 2 ∷ 3 ∷ 4 ∷ 5 ∷ 6 ∷ 7 ∷ 8 ∷ 14 ∷ 15 ∷ 16 ∷ 17 ∷ 26 ∷ 27 ∷ 28 ∷ 29 ∷ 30 ∷ []
 unfolding refusalOf
 number-kept = refl

@@ -58,3 +58,19 @@ table = 16
 
 abbrev pub buffer : ℕ
 buffer = 17
+
+-- those of A4
+abbrev pub passage : ℕ
+passage = 26
+
+abbrev pub versions : ℕ
+versions = 27
+
+abbrev pub direction : ℕ
+direction = 28
+
+abbrev pub axleCount : ℕ
+axleCount = 29
+
+abbrev pub hotAxle : ℕ
+hotAxle = 30

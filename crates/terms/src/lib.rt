@@ -43,6 +43,17 @@ pub const TABLE: u8 = 16;
 
 pub const BUFFER: u8 = 17;
 
+// Those of the passage register.
+pub const PASSAGE: u8 = 26;
+
+pub const VERSIONS: u8 = 27;
+
+pub const DIRECTION: u8 = 28;
+
+pub const AXLE_COUNT: u8 = 29;
+
+pub const HOT_AXLE: u8 = 30;
+
 // The first refusal of two: checks that do not need one another stand in a line.
 pub fn first(a: u8, b: u8) -> u8
     ensures { λ r. ⌜ r ≡ orElse a b ⌝ }
@@ -105,6 +116,11 @@ pub enum Refusal {
     Ahead,
     Table,
     Buffer,
+    Passage,
+    Versions,
+    Direction,
+    AxleCount,
+    HotAxle,
 }
 
 impl Refusal {
@@ -130,6 +146,11 @@ impl Refusal {
             Refusal::Ahead => [15, 0],
             Refusal::Table => [16, 0],
             Refusal::Buffer => [17, 0],
+            Refusal::Passage => [26, 0],
+            Refusal::Versions => [27, 0],
+            Refusal::Direction => [28, 0],
+            Refusal::AxleCount => [29, 0],
+            Refusal::HotAxle => [30, 0],
         }
     }
 
@@ -163,6 +184,11 @@ impl Refusal {
             14 => Refusal::Group,
             15 => Refusal::Ahead,
             16 => Refusal::Table,
+            26 => Refusal::Passage,
+            27 => Refusal::Versions,
+            28 => Refusal::Direction,
+            29 => Refusal::AxleCount,
+            30 => Refusal::HotAxle,
             _ => Refusal::Buffer,
         }
     }

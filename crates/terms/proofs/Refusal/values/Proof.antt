@@ -56,6 +56,21 @@ enum-told-15 c = search needs
 enum-told-16 : tie.Need-enum-told-16
 enum-told-16 c = search needs
 
+enum-told-17 : tie.Need-enum-told-17
+enum-told-17 c = search needs
+
+enum-told-18 : tie.Need-enum-told-18
+enum-told-18 c = search needs
+
+enum-told-19 : tie.Need-enum-told-19
+enum-told-19 c = search needs
+
+enum-told-20 : tie.Need-enum-told-20
+enum-told-20 c = search needs
+
+enum-told-21 : tie.Need-enum-told-21
+enum-told-21 c = search needs
+
 returns : tie.Need-returns
 returns c = rw (c .enum-told .given .1)
 
@@ -107,6 +122,21 @@ returns-16 c = rw (c .enum-told15 .given .1)
 returns-17 : tie.Need-returns-17
 returns-17 c = rw (c .enum-told16 .given .1)
 
+returns-18 : tie.Need-returns-18
+returns-18 c = rw (c .enum-told17 .given .1)
+
+returns-19 : tie.Need-returns-19
+returns-19 c = rw (c .enum-told18 .given .1)
+
+returns-20 : tie.Need-returns-20
+returns-20 c = rw (c .enum-told19 .given .1)
+
+returns-21 : tie.Need-returns-21
+returns-21 c = rw (c .enum-told20 .given .1)
+
+returns-22 : tie.Need-returns-22
+returns-22 c = rw (c .enum-told21 .given .1)
+
 pub values-spec : {M : Type 1} → statement M
 values-spec =
     tie.close
@@ -128,6 +158,11 @@ values-spec =
     enum-told-14
     enum-told-15
     enum-told-16
+    enum-told-17
+    enum-told-18
+    enum-told-19
+    enum-told-20
+    enum-told-21
     returns
     returns-2
     returns-3
@@ -144,4 +179,9 @@ values-spec =
     returns-14
     returns-15
     returns-16
-    returns-17)
+    returns-17
+    returns-18
+    returns-19
+    returns-20
+    returns-21
+    returns-22)
