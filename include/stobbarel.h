@@ -1,4 +1,4 @@
-/* Stobbarel: one box of a register, its records, and the gateway's tally, for programs in C.
+/* Stobbarel: one box of a register, its records, the gateway's tally, and the passage register, for programs in C.
  *
  * Every function is proved for every input: it reads and writes only what it is lent. The caller owes what the types say:
  * each pointer is to as many numbers as stand beside it, nothing lent for writing overlaps anything else lent, and no other
@@ -83,7 +83,12 @@ enum stobbarel_refusal {
     STOBBAREL_GROUP = 14,        /* f not 1 to 5, or capacity not 1 to 255 */
     STOBBAREL_AHEAD = 15,        /* RD stamp above clock + delta */
     STOBBAREL_TABLE = 16,        /* a lent table or tally sheet that is not in order */
-    STOBBAREL_BUFFER = 17        /* output buffer shorter than the record */
+    STOBBAREL_BUFFER = 17,       /* output buffer shorter than the record */
+    STOBBAREL_PASSAGE = 26,      /* passage above 127 */
+    STOBBAREL_VERSIONS = 27,     /* the four committed versions of a passage are not all equal */
+    STOBBAREL_DIRECTION = 28,    /* direction not 0 or 1 */
+    STOBBAREL_AXLE_COUNT = 29,   /* axle count not 1 to 1000, as at a passage never written */
+    STOBBAREL_HOT_AXLE = 30      /* hot axle above the count */
 };
 
 /* ---- a box */
@@ -219,6 +224,35 @@ uint8_t stobbarel_thresholds(uint64_t f, uint64_t out[6]);
  * What is lacking is what a box tells beside 11 of the list made from the sheet. The function's name is new because the numbers have turned
  * round: stobbarel_tally, which it replaces, said 1 for reached and 0 for not. */
 void stobbarel_take(uint8_t kind, uint32_t *commits, uint32_t *aborts, uint64_t f, uint64_t number, uint64_t answer, uint8_t reply[5]);
+
+/* ---- the passage register
+ *
+ * Passage p, 0 to 127, owns keys 4p to 4p + 3: train number, direction (0 or 1), axle count (1 to 1000), hot axle in the
+ * detector's order (0 for none). What was seen of a passage is lent as four versions and four values in the order of the keys:
+ * the committed halves of one box's answers to the four RDs, all at one stamp. */
+
+/* The keys of the passage's four RDs, each to be written with stobbarel_write_rd at this one stamp. 0; or 26 (passage above 127),
+ * 5 (stamp 0), the keys being 0. */
+uint8_t stobbarel_asks(uint64_t passage, uint64_t stamp, uint16_t keys[4]);
+
+/* The report: train number, direction, axle count, and the hot axle counted from the train's leading end (0 for none). 0; or 26 to
+ * 30, the four numbers being 0. */
+uint8_t stobbarel_report(uint64_t passage, const uint64_t versions[4], const uint64_t values[4], uint64_t report[4]);
+
+/* A correction of the direction, as a transaction of that stamp with r = 4 and w = 4: the four arrays are what the writers take. 26 to
+ * 30 of what was seen, then 5 (stamp 0) and 7 (the stamp is not above the versions seen); the arrays are then 0. */
+uint8_t stobbarel_correct_direction(uint64_t passage, uint64_t stamp, const uint64_t seen_versions[4], const uint64_t seen_values[4],
+                                    uint16_t reads[8], uint64_t versions[8], uint16_t writes[8], uint64_t values[8]);
+
+/* A correction with four new values, which are judged by 28 to 30 after what was seen. */
+uint8_t stobbarel_correct(uint64_t passage, uint64_t stamp, const uint64_t seen_versions[4], const uint64_t seen_values[4],
+                          const uint64_t new_values[4], uint16_t reads[8], uint64_t versions[8], uint16_t writes[8],
+                          uint64_t values[8]);
+
+/* A train entered, whatever stands there: 26, 28 to 30 of the new values, then 5 and 7. Of all that is made of one look, one commits. */
+uint8_t stobbarel_enter(uint64_t passage, uint64_t stamp, const uint64_t seen_versions[4], const uint64_t seen_values[4],
+                        const uint64_t new_values[4], uint16_t reads[8], uint64_t versions[8], uint16_t writes[8],
+                        uint64_t values[8]);
 
 #ifdef __cplusplus
 }

@@ -20,6 +20,19 @@ static uint64_t send(entrance *by, const uint8_t *message, size_t length) {
     return answer[0] == STOBBAREL_VOTED ? answer[1] : 0;
 }
 
+/* Passage 5 as a dispatcher reads it: axle 3 of 240 in the detector's order, and the direction corrected. */
+static int passage(void) {
+    const uint64_t before[4] = {50, 50, 50, 50}, after[4] = {70, 70, 70, 70}, seen[4] = {7402, 0, 240, 3};
+    uint64_t report[4], versions[8], values[8];
+    uint16_t keys[4], reads[8], writes[8];
+    if (stobbarel_asks(5, 60, keys) != 0 || stobbarel_report(5, before, seen, report) != 0) return 1;
+    printf("keys %d to %d: train %d, %d axles, hot axle %d\n", keys[0], keys[3], (int)report[0], (int)report[2], (int)report[3]);
+    if (stobbarel_correct_direction(5, 70, before, seen, reads, versions, writes, values) != 0) return 1;
+    if (stobbarel_report(5, after, values, report) != 0) return 1;
+    printf("corrected: hot axle %d\n", (int)report[3]);
+    return stobbarel_report(128, before, seen, report) != STOBBAREL_PASSAGE;
+}
+
 int main(void) {
     const uint16_t none[8] = {0}, written[8] = {3};
     const uint64_t never[8] = {0}, values[8] = {7};
@@ -59,5 +72,5 @@ int main(void) {
     printf("%d %d\n", stobbarel_reading(F, write, length), (int)stobbarel_part(F, write, length));
     if (stobbarel_thresholds(F, needed) != 0) return 1;
     printf("%d boxes: %d %d %d %d %d\n", (int)needed[0], (int)needed[1], (int)needed[2], (int)needed[3], (int)needed[4], (int)needed[5]);
-    return 0;
+    return passage();
 }

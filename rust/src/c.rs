@@ -15,4 +15,9 @@ extern "C" {
     pub fn stobbarel_write_rd(key: u16, stamp: u64, out: *mut u8, out_len: usize, length: *mut usize) -> u8;
     pub fn stobbarel_thresholds(f: u64, out: *mut u64) -> u8;
     pub fn stobbarel_take(kind: u8, commits: *mut u32, aborts: *mut u32, f: u64, number: u64, answer: u64, reply: *mut u8);
+    pub fn stobbarel_asks(passage: u64, stamp: u64, keys: *mut u16) -> u8;
+    pub fn stobbarel_report(passage: u64, versions: *const u64, values: *const u64, out: *mut u64) -> u8;
+    pub fn stobbarel_correct_direction(passage: u64, stamp: u64, seen_versions: *const u64, seen_values: *const u64, reads: *mut u16, versions: *mut u64, writes: *mut u16, values: *mut u64) -> u8;
+    pub fn stobbarel_correct(passage: u64, stamp: u64, seen_versions: *const u64, seen_values: *const u64, new: *const u64, reads: *mut u16, versions: *mut u64, writes: *mut u16, values: *mut u64) -> u8;
+    pub fn stobbarel_enter(passage: u64, stamp: u64, seen_versions: *const u64, seen_values: *const u64, new: *const u64, reads: *mut u16, versions: *mut u64, writes: *mut u16, values: *mut u64) -> u8;
 }

@@ -40,12 +40,14 @@ mod c;
 pub mod layout {
     include!(concat!(env!("OUT_DIR"), "/layout.rs"));
 }
+mod passage;
 mod records;
 mod sheet;
 mod table;
 mod terms;
 
 pub use layout::LONGEST;
+pub use passage::{Asks, Passage, Report, Seen, Values};
 pub use records::{check_tx, check_vl, read_message, tx_part, write_dc, write_lg, write_pr, write_rd, write_tx, write_vl, Message, Transaction, VoteList};
 pub use sheet::{Reply, Sheet};
 pub use table::{Answer, Table, Version, Vote};

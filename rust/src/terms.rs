@@ -118,6 +118,16 @@ pub enum Refusal {
     Table,
     /// 17: the output buffer is shorter than the record.
     Buffer,
+    /// 26: a passage above 127.
+    Passage,
+    /// 27: the committed versions at a passage's four keys are not all equal.
+    Versions,
+    /// 28: a passage's direction is not 0 or 1.
+    Direction,
+    /// 29: a passage's axle count is not 1 to 1000, as where none was ever written.
+    AxleCount,
+    /// 30: a passage's hot axle is above its count.
+    HotAxle,
 }
 
 impl Refusal {
@@ -142,6 +152,11 @@ impl Refusal {
             Ahead => 15,
             Table => 16,
             Buffer => 17,
+            Passage => 26,
+            Versions => 27,
+            Direction => 28,
+            AxleCount => 29,
+            HotAxle => 30,
         }
     }
 
@@ -156,7 +171,8 @@ impl Refusal {
     /// The refusal of a number that tells no more; 11 does.
     pub(crate) fn of(number: u64) -> Option<Refusal> {
         use Refusal::*;
-        let all = [Short, Mark, Count, Trailing, Range, Order, Misbehaviour, Code, OtherBody, Unknown, Contradiction, Full, Group, Ahead, Table, Buffer];
+        let box_and_gateway = [Short, Mark, Count, Trailing, Range, Order, Misbehaviour, Code, OtherBody, Unknown, Contradiction, Full, Group, Ahead, Table, Buffer];
+        let all = box_and_gateway.into_iter().chain([Passage, Versions, Direction, AxleCount, HotAxle]);
         all.into_iter().find(|one| u64::from(one.number()) == number)
     }
 

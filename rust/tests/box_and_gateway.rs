@@ -150,6 +150,7 @@ fn refusals_have_the_papers_numbers() {
     use Refusal::*;
     let all = [Short, Mark, Count, Trailing, Range, Order, Misbehaviour, Code, OtherBody, Unknown, TooFew(3), Contradiction, Full, Group, Ahead, Table, Buffer];
     assert_eq!(all.map(Refusal::number), [1, 2, 3, 4, 5, 6, 7, 8, 9, 10, 11, 12, 13, 14, 15, 16, 17]);
+    assert_eq!([Passage, Versions, Direction, AxleCount, HotAxle].map(Refusal::number), [26, 27, 28, 29, 30]);
     assert_eq!(all.iter().filter_map(|one| one.lacking()).collect::<Vec<u8>>(), [3]);
     assert_eq!(TooFew(3).to_string(), "refused 11: TooFew(3)");
 }

@@ -16,6 +16,9 @@
 //!
 //! Another night, after a power dip: the box of one keeper was down when the correction was asked for, and box 5 is dead. Four boxes
 //! have voted, four log, and one more is needed; the box that is back answered 10 to every LG. Now it logs.
+//!
+//! With the passage register nobody writes 3 over 238 by hand: the detector's number stays as it is, the dispatcher corrects the direction, and what every owner
+//! reads counts from the leading end.
 
 use crate::engine::Entrance;
 use crate::judge::{Judge, Word};
@@ -23,6 +26,7 @@ use crate::member::{Engine, Member, Model};
 use crate::messages::{pr, rd, transaction, with_list};
 use crate::model::{transaction_bytes, Answer, Decision, Kind, Reply, Rule, Rules, Settings, Sheet, Transaction, PAPER};
 use stobbarel::layout::table_len;
+use stobbarel::{Passage, Report, Seen, Stamp, Values, Version, LONGEST};
 use Decision::{Abort, Commit};
 use Kind::{Logs, Votes};
 
@@ -234,6 +238,60 @@ fn asked_after_all() {
     assert_eq!(line.send(4, &abort), Answer::Logged(Commit), "the first log stays");
 }
 
+/// What box `number` shows of passage 5.
+fn look(line: &mut Line, number: usize, stamp: u64) -> Seen {
+    let asks = Passage(5).asks(Stamp(stamp)).expect("a passage of the line");
+    let found = asks.messages().map(|message| match line.send(number, &message) {
+        Answer::Found { committed: (stamp, value), undecided: (below, live) } => {
+            stobbarel::Answer::Found(Version { stamp: Stamp(stamp), value }, Version { stamp: Stamp(below), value: live })
+        }
+        other => panic!("an RD was answered {other:?}"),
+    });
+    asks.seen(found).expect("four halves")
+}
+
+/// What the dispatcher at each owner reads.
+fn views(line: &mut Line, stamp: u64) -> Vec<Report> {
+    SOUND.iter().map(|number| look(line, *number, stamp).report().expect("a passage in order")).collect()
+}
+
+fn bytes_of(tx: &stobbarel::Transaction) -> Vec<u8> {
+    let mut buffer = [0; LONGEST];
+    let length = stobbarel::write_tx(tx, &mut buffer).expect("a transaction in order");
+    buffer[..length].to_vec()
+}
+
+/// Decided with the liar beside it: it tells the gateway abort, twice, and it is one box of six.
+fn decided_beside_the_liar(line: &mut Line, tx: &stobbarel::Transaction) {
+    let body = bytes_of(tx);
+    assert_eq!(line.send_all(&pr(&body)), [Answer::Commit; 5]);
+    let twice = with_list(b"DC", &body, Votes, Abort, &all(&[LIAR, LIAR, LIAR, LIAR], Abort));
+    assert_eq!(line.send_all(&twice), [Answer::Refused(6); 5], "a box is named twice");
+    assert_eq!(line.send_all(&with_list(b"LG", &body, Votes, Commit, &all(&[0, 1, 2, 3, 4], Commit))), [Answer::Logged(Commit); 5]);
+    assert_eq!(line.send_all(&with_list(b"DC", &body, Logs, Commit, &all(&[0, 1, 2, 3, 4], Commit))), [Answer::Done; 5]);
+}
+
+/// Axle 3 of 240 in the detector's order; the direction is corrected, and every owner reads axle 238; corrected again, every owner reads axle 3.
+fn as_the_dispatchers_read_it() -> [Report; 3] {
+    let mut engine = Engine;
+    let mut line = Line::new(&mut engine);
+    let detected = Values { train: 7402, direction: 0, axles: 240, hot: 3 };
+    let entry = look(&mut line, 0, 45).enter(Stamp(EVENING), detected).expect("a passage in order");
+    decided_beside_the_liar(&mut line, &entry);
+    let evening = views(&mut line, 55);
+    let corrected = look(&mut line, 1, 56).correct_direction(Stamp(CORRECTED)).expect("a passage in order");
+    decided_beside_the_liar(&mut line, &corrected);
+    let night = views(&mut line, 65);
+    let again = look(&mut line, 2, 66).correct_direction(Stamp(PANEL)).expect("a passage in order");
+    decided_beside_the_liar(&mut line, &again);
+    let morning = views(&mut line, MORNING);
+    let report = |direction, hot| Report { train: 7402, direction, axles: 240, hot };
+    assert_eq!(evening, [report(0, 3); 5]);
+    assert_eq!(night, [report(1, 238); 5], "one train, one hot axle, at the other end");
+    assert_eq!(morning, evening, "corrected twice, the first report is back");
+    [evening[0], night[0], morning[0]]
+}
+
 /// True, or a panic that says which sentence of the story is not so.
 pub fn check() -> bool {
     as_it_was();
@@ -248,5 +306,7 @@ pub fn check() -> bool {
     with_the_box_that_was_down();
     asked_after_all();
     println!("incident: after the power dip the box that was down logs too, and five logs are a proof; with its 10 there were four");
+    let [evening, night, morning] = as_the_dispatchers_read_it();
+    println!("incident: every owner reads: {evening}; corrected: {night}; corrected again: {morning}");
     true
 }

@@ -1,5 +1,5 @@
 // The engine for programs in C, or in any language that calls C, on numbers, arrays and slices: a box's calls with the answer as five
-// numbers, records read and written, the tally, the thresholds.
+// numbers, records read and written, the tally, the thresholds, the passage register.
 ghost use mathlib.Core.Path.{_≡_};
 ghost use lib.ListN.{length};
 ghost use Rattle.terms.specs.Group.{groupWrong};
@@ -8,11 +8,19 @@ ghost use Rattle.rules.specs.Act.{receive, due};
 ghost use Rattle.engine.specs.Outcome.{kept, called};
 ghost use Rattle.sheet.specs.Sheets.{replyTo, replyValues, sheetAfter};
 ghost use Rattle.arrays.specs.Arrays.{lentTx, lentList, markedBy, foundNumber, fields, fieldsOf};
+ghost use Rattle.passage.specs.Passages.{reportOf, asksOf};
+ghost use Rattle.passage.specs.Corrections.{directionCorrected, corrected, entered};
+ghost use Rattle.abi.specs.Register.{lentSeen, lentValues, askedKeys, reportNumber, reportRow, made, madeOf};
 ghost use Rattle.abi.specs.Rows.{answerRow, toldOf, sheetOf, groupRow, thresholdsBy, LeavesRow};
 ghost use Rattle.abi.specs.Left.{left, txLeft, vlLeft, prLeft, listedMark, listedLeft, rdLeft};
+use passage::Made;
+use passage::Reported;
+use passage::Seen;
+use passage::Values;
 use records::Mark;
 use rules::Answer;
 use rules::Told;
+use rules::Version;
 use sheet::Sheet;
 use terms::Group;
 use terms::Key;
@@ -348,4 +356,178 @@ pub extern "C" fn stobbarel_write_rd(key: u16, stamp: u64, out: &mut [u8], lengt
 {
     let written = writing::write_rd(Key(key), Stamp(stamp), out);
     arrays::wrote(written, length)
+}
+
+// ---- the passage register
+
+// What was seen at a passage's keys: committed versions and values, in the keys' order.
+fn seen_of(versions: &[u64; 4], values: &[u64; 4]) -> Seen
+    ensures { λ r. ⌜ r ≡ lentSeen (now (versions .entry)) (now (values .entry)) ⌝ }
+{
+    Seen {
+        train: Version {
+            stamp: Stamp(versions[0]),
+            value: values[0],
+        },
+        direction: Version {
+            stamp: Stamp(versions[1]),
+            value: values[1],
+        },
+        axles: Version {
+            stamp: Stamp(versions[2]),
+            value: values[2],
+        },
+        hot: Version {
+            stamp: Stamp(versions[3]),
+            value: values[3],
+        },
+    }
+}
+
+fn values_of(values: &[u64; 4]) -> Values
+    ensures { λ r. ⌜ r ≡ lentValues (now (values .entry)) ⌝ }
+{
+    Values {
+        train: values[0],
+        direction: values[1],
+        axles: values[2],
+        hot: values[3],
+    }
+}
+
+fn put_keys(out: &mut [u16; 4], v: [u16; 4])
+    ensures { λ r. ⌜ now (out .exit) ≡ v ⌝ }
+{
+    *out = v;
+}
+
+fn put_four(out: &mut [u64; 4], v: [u64; 4])
+    ensures { λ r. ⌜ now (out .exit) ≡ v ⌝ }
+{
+    *out = v;
+}
+
+// The keys of a passage's four RDs; 26, 5 or 0.
+#[no_mangle]
+pub extern "C" fn stobbarel_asks(passage: u64, stamp: u64, keys: &mut [u16; 4]) -> u8
+    ensures { λ r. ⌜ (r ≡ asksOf passage stamp .wrong) × (now (keys .exit) ≡ askedKeys (asksOf passage stamp)) ⌝ }
+{
+    let asked = passage::asks(passage, Stamp(stamp));
+    put_keys(
+        keys,
+        [
+            asked.train.key.0,
+            asked.direction.key.0,
+            asked.axles.key.0,
+            asked.hot.key.0,
+        ],
+    );
+    asked.wrong
+}
+
+fn report_number(reported: Reported) -> u8
+    ensures { λ r. ⌜ r ≡ reportNumber reported ⌝ }
+{
+    match reported {
+        Reported::Of(_) => 0,
+        Reported::Refused(r) => r.number(),
+    }
+}
+
+fn report_row(reported: Reported) -> [u64; 4]
+    ensures { λ r. ⌜ r ≡ reportRow reported ⌝ }
+{
+    match reported {
+        Reported::Of(r) => [r.train, r.direction, r.axles, r.hot],
+        Reported::Refused(_) => [0, 0, 0, 0],
+    }
+}
+
+// A passage's report; 26 to 30 or 0.
+#[no_mangle]
+pub extern "C" fn stobbarel_report(
+    passage: u64,
+    versions: &[u64; 4],
+    values: &[u64; 4],
+    out: &mut [u64; 4],
+) -> u8
+    ensures { λ r. ⌜ (r ≡ reportNumber (reportOf passage (lentSeen (now (versions .entry)) (now (values .entry))))) × (now (out .exit) ≡ reportRow (reportOf passage (lentSeen (now (versions .entry)) (now (values .entry))))) ⌝ }
+{
+    let reported = passage::report_of(passage, seen_of(versions, values));
+    put_four(out, report_row(reported));
+    report_number(reported)
+}
+
+// A transaction that was made, put down; its refusal's number, or 0.
+fn put_made(
+    m: Made,
+    reads: &mut [u16; 8],
+    versions: &mut [u64; 8],
+    writes: &mut [u16; 8],
+    values: &mut [u64; 8],
+) -> u8
+    ensures { λ n. ⌜ made n (now (reads .exit)) (now (versions .exit)) (now (writes .exit)) (now (values .exit)) ≡ madeOf m ⌝ }
+{
+    let tx = m.tx;
+    arrays::put_tx(tx, reads, versions, writes, values);
+    m.wrong
+}
+
+// The direction's correction: 26 to 30, 5, 7 or 0.
+#[no_mangle]
+pub extern "C" fn stobbarel_correct_direction(
+    passage: u64,
+    stamp: u64,
+    stamps: &[u64; 4],
+    stood: &[u64; 4],
+    reads: &mut [u16; 8],
+    versions: &mut [u64; 8],
+    writes: &mut [u16; 8],
+    values: &mut [u64; 8],
+) -> u8
+    ensures { λ n. ⌜ made n (now (reads .exit)) (now (versions .exit)) (now (writes .exit)) (now (values .exit)) ≡ madeOf (directionCorrected passage (lentSeen (now (stamps .entry)) (now (stood .entry))) stamp) ⌝ }
+{
+    let seen = seen_of(stamps, stood);
+    let m = passage::correct_direction(passage, seen, Stamp(stamp));
+    put_made(m, reads, versions, writes, values)
+}
+
+// A general correction, with four new values: the same.
+#[no_mangle]
+pub extern "C" fn stobbarel_correct(
+    passage: u64,
+    stamp: u64,
+    stamps: &[u64; 4],
+    stood: &[u64; 4],
+    new: &[u64; 4],
+    reads: &mut [u16; 8],
+    versions: &mut [u64; 8],
+    writes: &mut [u16; 8],
+    values: &mut [u64; 8],
+) -> u8
+    ensures { λ n. ⌜ made n (now (reads .exit)) (now (versions .exit)) (now (writes .exit)) (now (values .exit)) ≡ madeOf (corrected passage (lentSeen (now (stamps .entry)) (now (stood .entry))) stamp (lentValues (now (new .entry)))) ⌝ }
+{
+    let seen = seen_of(stamps, stood);
+    let m = passage::correct(passage, seen, Stamp(stamp), values_of(new));
+    put_made(m, reads, versions, writes, values)
+}
+
+// An entry over whatever stands there: 26, 28 to 30, 5, 7 or 0.
+#[no_mangle]
+pub extern "C" fn stobbarel_enter(
+    passage: u64,
+    stamp: u64,
+    stamps: &[u64; 4],
+    stood: &[u64; 4],
+    new: &[u64; 4],
+    reads: &mut [u16; 8],
+    versions: &mut [u64; 8],
+    writes: &mut [u16; 8],
+    values: &mut [u64; 8],
+) -> u8
+    ensures { λ n. ⌜ made n (now (reads .exit)) (now (versions .exit)) (now (writes .exit)) (now (values .exit)) ≡ madeOf (entered passage (lentSeen (now (stamps .entry)) (now (stood .entry))) stamp (lentValues (now (new .entry)))) ⌝ }
+{
+    let seen = seen_of(stamps, stood);
+    let m = passage::enter(passage, seen, Stamp(stamp), values_of(new));
+    put_made(m, reads, versions, writes, values)
 }

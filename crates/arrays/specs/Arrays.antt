@@ -116,6 +116,19 @@ headRow x =
     ∷ x .list .count
     ∷ []
 
+-- a transaction in the arrays lent for it
+pub record TxFields : Type 0 where
+  pub reads : List ℕ
+  pub versions : List ℕ
+  pub writes : List ℕ
+  pub values : List ℕ
+
+abbrev pub txFields : List ℕ → List ℕ → List ℕ → List ℕ → TxFields
+txFields reads versions writes values = record { reads = reads; versions = versions; writes = writes; values = values }
+
+unfoldable pub txFieldsOf : Transaction → TxFields
+txFieldsOf x = txFields (readKeys (x .reads)) (readVersions (x .reads)) (writeKeys (x .writes)) (writeValues (x .writes))
+
 -- all that was read, in the arrays lent for it
 pub record Fields : Type 0 where
   pub head : List ℕ

@@ -1,6 +1,6 @@
 // The values of records as numbers and arrays, which any language can lend: put together into a transaction and a list, and taken apart.
 ghost use mathlib.Core.Path.{_≡_};
-ghost use Rattle.arrays.specs.Arrays.{lentTx, lentList, writtenNumber, writtenLength, readKeys, readVersions, writeKeys, writeValues, pairNumbers, pairAnswers, foundNumber, markNumber, foundStamp, markedBy, headRow, fields, fieldsOf};
+ghost use Rattle.arrays.specs.Arrays.{lentTx, lentList, writtenNumber, writtenLength, readKeys, readVersions, writeKeys, writeValues, pairNumbers, pairAnswers, foundNumber, markNumber, foundStamp, markedBy, headRow, txFields, txFieldsOf, fields, fieldsOf};
 use records::Mark;
 use records::Marked;
 use records::Pair;
@@ -250,6 +250,22 @@ fn put_pairs(a: [Pair; 26], numbers: &mut [u8; 26], answers: &mut [u8; 26])
     }
     *numbers = boxes;
     *answers = given;
+}
+
+// A transaction, put down as the writers take it.
+pub fn put_tx(
+    tx: Transaction,
+    reads: &mut [u16; 8],
+    versions: &mut [u64; 8],
+    writes: &mut [u16; 8],
+    values: &mut [u64; 8],
+)
+    ensures { λ r. ⌜ txFields (now (reads .exit)) (now (versions .exit)) (now (writes .exit)) (now (values .exit)) ≡ txFieldsOf tx ⌝ }
+{
+    let from = tx.reads;
+    let to = tx.writes;
+    put_reads(from, reads, versions);
+    put_writes(to, writes, values);
 }
 
 // All that was read, put down.

@@ -5,6 +5,7 @@ use prog.Wp.{Heap}
 use Rattle.settled.specs.Settled.{Settled}
 use Rattle.settled.proofs.Lemma.{settled, one, _&_}
 use Rattle.abi.specs.Left.{Left}
+use Rattle.abi.specs.Register.{Lent}
 use Rattle.arrays.specs.Arrays.{Fields}
 use Rattle.abi.proofs as abi
 
@@ -53,3 +54,18 @@ module _ {M : Type 1} (𝓤 : URA M) (H : Heap 𝓤) where
 
   pub stobbarel-write-rd : Settled 𝓤 H abi.stobbarel_write_rd.ended (abi.stobbarel_write_rd.spec 𝓤 H) (abi.stobbarel_write_rd.clauses 𝓤 H)
   stobbarel-write-rd A mem run = (refl, λ k o o′. settled 𝓤 (λ p q. ap (λ (x : Left). x .number) (one p q) & refl & refl & ap (λ (x : Left). x .buffer) (one p q) & ap (λ (x : Left). x .length) (one p q) & refl))
+
+  pub stobbarel-asks : Settled 𝓤 H abi.stobbarel_asks.ended (abi.stobbarel_asks.spec 𝓤 H) (abi.stobbarel_asks.clauses 𝓤 H)
+  stobbarel-asks A mem run = (refl, λ k o o′. settled 𝓤 (λ p q. one (p .0) (q .0) & refl & refl & one (p .1) (q .1) & refl))
+
+  pub stobbarel-report : Settled 𝓤 H abi.stobbarel_report.ended (abi.stobbarel_report.spec 𝓤 H) (abi.stobbarel_report.clauses 𝓤 H)
+  stobbarel-report A mem run = (refl, λ k o o′. settled 𝓤 (λ p q. one (p .0) (q .0) & refl & refl & refl & one (p .1) (q .1) & refl))
+
+  pub stobbarel-correct-direction : Settled 𝓤 H abi.stobbarel_correct_direction.ended (abi.stobbarel_correct_direction.spec 𝓤 H) (abi.stobbarel_correct_direction.clauses 𝓤 H)
+  stobbarel-correct-direction A mem run = (refl, λ k o o′. settled 𝓤 (λ p q. ap (λ (x : Lent). x .number) (one p q) & refl & refl & refl & refl & ap (λ (x : Lent). x .tx .reads) (one p q) & ap (λ (x : Lent). x .tx .versions) (one p q) & ap (λ (x : Lent). x .tx .writes) (one p q) & ap (λ (x : Lent). x .tx .values) (one p q) & refl))
+
+  pub stobbarel-correct : Settled 𝓤 H abi.stobbarel_correct.ended (abi.stobbarel_correct.spec 𝓤 H) (abi.stobbarel_correct.clauses 𝓤 H)
+  stobbarel-correct A mem run = (refl, λ k o o′. settled 𝓤 (λ p q. ap (λ (x : Lent). x .number) (one p q) & refl & refl & refl & refl & refl & ap (λ (x : Lent). x .tx .reads) (one p q) & ap (λ (x : Lent). x .tx .versions) (one p q) & ap (λ (x : Lent). x .tx .writes) (one p q) & ap (λ (x : Lent). x .tx .values) (one p q) & refl))
+
+  pub stobbarel-enter : Settled 𝓤 H abi.stobbarel_enter.ended (abi.stobbarel_enter.spec 𝓤 H) (abi.stobbarel_enter.clauses 𝓤 H)
+  stobbarel-enter A mem run = (refl, λ k o o′. settled 𝓤 (λ p q. ap (λ (x : Lent). x .number) (one p q) & refl & refl & refl & refl & refl & ap (λ (x : Lent). x .tx .reads) (one p q) & ap (λ (x : Lent). x .tx .versions) (one p q) & ap (λ (x : Lent). x .tx .writes) (one p q) & ap (λ (x : Lent). x .tx .values) (one p q) & refl))

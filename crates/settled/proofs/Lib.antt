@@ -13,5 +13,6 @@ pub mod Engine
 pub mod Sheet
 pub mod Lines
 pub mod Replay
+pub mod Passage
 pub mod Arrays
 pub mod Abi

@@ -1,0 +1,4 @@
+pub mod Passages
+pub mod Corrections
+pub mod Register
+pub mod Night
