@@ -7,7 +7,11 @@ use Rattle.records.specs.declared.Mark.{Mark}
 use Rattle.records.specs.declared.Mark.the-variants.{PR, LG, DC}
 use Rattle.records.specs.Tx.{txIn, txBytes}
 use Rattle.records.specs.Vl.{listIn, vlBytes}
-use Rattle.records.specs.Writing.{prBytes, listedBytes, rdBytes, txUnwritten, vlUnwritten, prUnwritten, listedUnwritten, rdUnwritten, wroteBy, bufferBy}
+use Rattle.records.specs.Views.{viewsIn, viewsBytes}
+use Rattle.records.specs.Writing.{prBytes, listedBytes, viewedBytes, rdBytes, wroteBy, bufferBy}
+use Rattle.records.specs.Writing.{txUnwritten, vlUnwritten, viewsUnwritten, prUnwritten, listedUnwritten, viewedUnwritten, rdUnwritten}
+use Rattle.records.specs.declared.ViewMark.{ViewMark}
+use Rattle.records.specs.declared.ViewList.{ViewList}
 use Rattle.records.specs.declared.Transaction.{Transaction}
 use Rattle.records.specs.declared.VoteList.{VoteList}
 use Rattle.arrays.specs.Arrays.{writtenNumber, writtenLength}
@@ -40,6 +44,12 @@ listedMark n = pick (eqb n 2) LG (pick (eqb n 3) DC PR)
 
 abbrev pub listedLeft : Mark → ℕ → Transaction → VoteList → List ℕ → Left
 listedLeft k f x l out = leftBy (listedUnwritten k f x l out) (listedBytes k (txIn x) (listIn l)) out
+
+abbrev pub viewsLeft : ViewMark → ℕ → ViewList → List ℕ → Left
+viewsLeft k f l out = leftBy (viewsUnwritten k f l out) (viewsBytes k (viewsIn k l)) out
+
+abbrev pub viewedLeft : ViewMark → ℕ → Transaction → ViewList → List ℕ → Left
+viewedLeft k f x l out = leftBy (viewedUnwritten k f x l out) (viewedBytes k (txIn x) (viewsIn k l)) out
 
 abbrev pub rdLeft : ℕ → ℕ → List ℕ → Left
 rdLeft key stamp out = leftBy (rdUnwritten key stamp out) (rdBytes key stamp) out

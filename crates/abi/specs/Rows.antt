@@ -5,7 +5,7 @@ use mathlib.Core.List.{List, [], _∷_}
 use Rattle.terms.specs.Group.{boxes, commitList, abortList, commitProof, abortProof, logProof}
 use Rattle.rules.specs.Answers.{answerValues}
 use Rattle.rules.specs.declared.Answer.{Answer}
-use Rattle.rules.specs.declared.Answer.the-variants.{Voted, Decided, Logged, Done, Found, Refused}
+use Rattle.rules.specs.declared.Answer.the-variants.{Voted, Decided, Logged, Done, Found, Refused, Elected}
 use Rattle.rules.specs.Calls.{Act}
 use Rattle.rules.specs.Act.{marksAfter}
 use Rattle.rules.specs.declared.Told.{Told}
@@ -15,10 +15,11 @@ use Rattle.sheet.specs.declared.Sheet.{Sheet}
 abbrev pub answerNumber : Answer → ℕ
 answerNumber (Voted v) = 1
 answerNumber (Decided d) = 2
-answerNumber (Logged d) = 3
+answerNumber (Logged d v) = 3
 answerNumber Done = 4
 answerNumber (Found c u) = 5
 answerNumber (Refused r) = 6
+answerNumber (Elected d v l) = 7
 
 -- at most four values, zeros behind them
 abbrev pub four : List ℕ → List ℕ
@@ -42,6 +43,10 @@ toldOf f capacity clock delta = record { f = f; capacity = capacity; clock = clo
 -- the sheet that is lent as a kind and two masks; its view is the caller's, and no answer looks at it
 abbrev pub sheetOf : ℕ → ℕ → ℕ → Sheet
 sheetOf kind commits aborts = record { kind = kind; view = 0; commits = commits; aborts = aborts }
+
+-- the leader's sheet that is lent as a view and two masks
+abbrev pub electionSheet : ℕ → ℕ → ℕ → Sheet
+electionSheet view commits aborts = record { kind = 2; view = view; commits = commits; aborts = aborts }
 
 -- n and the five thresholds, in the order of the paper's table
 abbrev pub groupRow : ℕ → List ℕ

@@ -1,23 +1,28 @@
 // The engine for programs in C, or in any language that calls C, on numbers, arrays and slices: a box's calls with the answer as five
-// numbers, records read and written, the tally, the thresholds, the passage register.
+// numbers, records read and written, the tally, the leader's sheet, the thresholds, the passage register.
 ghost use mathlib.Core.Path.{_≡_};
-ghost use lib.ListN.{length};
+ghost use mathlib.Core.List.{[], _∷_};
+ghost use lib.ListN.{length, getD};
 ghost use Rattle.terms.specs.Group.{groupWrong};
-ghost use Rattle.records.specs.Messages.{readTX, readVL, readMessage, handedBack};
+ghost use Rattle.records.specs.declared.ViewMark.the-variants.{VS, EL};
+ghost use Rattle.records.specs.Messages.{readTX, readVL, readViews, readMessage, handedBack};
 ghost use Rattle.rules.specs.Act.{receive, due};
 ghost use Rattle.engine.specs.Outcome.{kept, called};
 ghost use Rattle.sheet.specs.Sheets.{replyTo, replyValues, sheetAfter};
-ghost use Rattle.arrays.specs.Arrays.{lentTx, lentList, markedBy, foundNumber, fields, fieldsOf};
+ghost use Rattle.arrays.specs.Arrays.{lentTx, lentList, lentViews, markedBy, foundNumber, markNumber, fields, fieldsOf, viewRow, viewFields, viewFieldsOf, ballotNumbers, ballotAnswers, ballotViews};
+ghost use Rattle.election.specs.Elections.{heardValues, said, sheetHeard, gathered};
+ghost use Rattle.election.specs.Telling.{tellWrong, taller, telling};
 ghost use Rattle.passage.specs.Passages.{reportOf, asksOf};
 ghost use Rattle.passage.specs.Corrections.{directionCorrected, corrected, entered};
 ghost use Rattle.abi.specs.Register.{lentSeen, lentValues, askedKeys, reportNumber, reportRow, made, madeOf};
-ghost use Rattle.abi.specs.Rows.{answerRow, toldOf, sheetOf, groupRow, thresholdsBy, LeavesRow};
-ghost use Rattle.abi.specs.Left.{left, txLeft, vlLeft, prLeft, listedMark, listedLeft, rdLeft};
+ghost use Rattle.abi.specs.Rows.{answerRow, toldOf, sheetOf, electionSheet, groupRow, thresholdsBy, LeavesRow};
+ghost use Rattle.abi.specs.Left.{left, txLeft, vlLeft, viewsLeft, prLeft, listedMark, listedLeft, viewedLeft, rdLeft};
 use passage::Made;
 use passage::Reported;
 use passage::Seen;
 use passage::Values;
 use records::Mark;
+use records::ViewMark;
 use rules::Answer;
 use rules::Told;
 use rules::Version;
@@ -26,7 +31,7 @@ use terms::Group;
 use terms::Key;
 use terms::Stamp;
 
-// An answer as five numbers: 1 voted, 2 decided, 3 logged, 4 done, 5 found or 6 refused, and then its values.
+// An answer as five numbers: 1 voted, 2 decided, 3 logged, 4 done, 5 found, 6 refused or 7 elected, and then its values.
 pub fn values(a: Answer) -> [u64; 5]
     ensures { λ r. ⌜ r ≡ answerRow a ⌝ }
 {
@@ -39,7 +44,7 @@ pub fn values(a: Answer) -> [u64; 5]
             0,
         ],
         Answer::Decided(d) => [2, records::widened(d.number()), 0, 0, 0],
-        Answer::Logged(d) => [3, records::widened(d.number()), 0, 0, 0],
+        Answer::Logged(d, v) => [3, records::widened(d.number()), v.0 as u64, 0, 0],
         Answer::Done => [4, 0, 0, 0, 0],
         Answer::Found(c, u) => [5, c.stamp.0, c.value, u.stamp.0, u.value],
         Answer::Refused(r) => [
@@ -47,6 +52,13 @@ pub fn values(a: Answer) -> [u64; 5]
             records::widened(r.number()),
             records::widened(r.lacking()),
             0,
+            0,
+        ],
+        Answer::Elected(d, v, leader) => [
+            7,
+            records::widened(d.number()),
+            v.0 as u64,
+            records::widened(leader),
             0,
         ],
     }
@@ -59,7 +71,7 @@ fn put(out: &mut [u64; 5], v: [u64; 5])
     *out = v;
 }
 
-// Any of the four messages, by its mark.
+// Any of the six messages, by its mark.
 #[no_mangle]
 pub extern "C" fn stobbarel_receive(
     table: &mut [u8],
@@ -83,7 +95,7 @@ pub extern "C" fn stobbarel_receive(
     put(out, values(answer));
 }
 
-// A message where one with this mark is due: 1 PR, 2 LG, 3 DC, 4 RD.
+// A message where one with this mark is due: 1 PR, 2 LG, 3 DC, 4 RD, 5 IV, 6 LD.
 #[no_mangle]
 pub extern "C" fn stobbarel_due(
     mark: u64,
@@ -136,6 +148,24 @@ pub extern "C" fn stobbarel_reading_vl(f: u64, bytes: &[u8]) -> u8
     list.wrong
 }
 
+// A VS by itself.
+#[no_mangle]
+pub extern "C" fn stobbarel_reading_vs(f: u64, bytes: &[u8]) -> u8
+    ensures { λ r. ⌜ r ≡ readViews VS f (now (bytes .entry)) .wrong ⌝ }
+{
+    let told = reading::read_views(ViewMark::VS, f, bytes);
+    told.wrong
+}
+
+// An EL by itself.
+#[no_mangle]
+pub extern "C" fn stobbarel_reading_el(f: u64, bytes: &[u8]) -> u8
+    ensures { λ r. ⌜ r ≡ readViews EL f (now (bytes .entry)) .wrong ⌝ }
+{
+    let told = reading::read_views(ViewMark::EL, f, bytes);
+    told.wrong
+}
+
 // A message's values, put down in what is lent for them: all 0 where it is refused.
 #[no_mangle]
 pub extern "C" fn stobbarel_fields(
@@ -163,6 +193,33 @@ pub extern "C" fn stobbarel_fields(
         answers,
     );
     let found = reading.found;
+    arrays::found_number(found)
+}
+
+fn put_five(out: &mut [u64; 5], mark: u64, row: [u64; 4])
+    ensures { λ r. ⌜ now (out .exit) ≡ mark ∷ getD row 0 0 ∷ getD row 1 0 ∷ getD row 2 0 ∷ getD row 3 0 ∷ [] ⌝ }
+{
+    *out = [mark, row[0], row[1], row[2], row[3]];
+}
+
+// What an IV or an LD lists, put down in what is lent for it: all 0 in another message, and where it is refused.
+#[no_mangle]
+pub extern "C" fn stobbarel_views(
+    f: u64,
+    message: &[u8],
+    head: &mut [u64; 5],
+    numbers: &mut [u8; 26],
+    answers: &mut [u8; 26],
+    views: &mut [u16; 26],
+) -> u8
+    ensures { λ r. ⌜ (r ≡ foundNumber (readMessage f (now (message .entry)) .found)) × (now (head .exit) ≡ markNumber (readMessage f (now (message .entry)) .found) ∷ viewRow (readMessage f (now (message .entry)) .views)) × (now (numbers .exit) ≡ ballotNumbers (readMessage f (now (message .entry)) .views .ballots)) × (now (answers .exit) ≡ ballotAnswers (readMessage f (now (message .entry)) .views .ballots)) × (now (views .exit) ≡ ballotViews (readMessage f (now (message .entry)) .views .ballots)) ⌝ }
+{
+    let reading = reading::read(f, message);
+    let found = reading.found;
+    let told = reading.views;
+    let mut row = [0; 4];
+    arrays::put_views(told, &mut row, numbers, answers, views);
+    put_five(head, arrays::found_mark(found), row);
     arrays::found_number(found)
 }
 
@@ -206,6 +263,112 @@ pub extern "C" fn stobbarel_take(
     *commits = after.commits;
     *aborts = after.aborts;
     put_reply(out, reply.values());
+}
+
+// The leader's sheet, lent as a view and two masks.
+fn election_sheet(view: u16, commits: u32, aborts: u32) -> Sheet
+    ensures { λ r. ⌜ r ≡ electionSheet view commits aborts ⌝ }
+{
+    Sheet {
+        kind: 2,
+        view,
+        commits,
+        aborts,
+    }
+}
+
+fn put_pair(out: &mut [u8; 2], v: [u8; 2])
+    ensures { λ r. ⌜ now (out .exit) ≡ v ⌝ }
+{
+    *out = v;
+}
+
+// The leader's sheet takes a box's election answer, given with a view.
+#[no_mangle]
+pub extern "C" fn stobbarel_elect(
+    view: u16,
+    commits: &mut u32,
+    aborts: &mut u32,
+    f: u64,
+    number: u64,
+    answer: u64,
+    given: u64,
+    out: &mut [u8; 2],
+)
+    ensures { λ r. ⌜ (now (out .exit) ≡ heardValues (said (electionSheet view (now (commits .entry)) (now (aborts .entry))) f number answer given)) × (now (commits .exit) ≡ sheetHeard (electionSheet view (now (commits .entry)) (now (aborts .entry))) f number answer given .commits) × (now (aborts .exit) ≡ sheetHeard (electionSheet view (now (commits .entry)) (now (aborts .entry))) f number answer given .aborts) ⌝ }
+{
+    let s = election_sheet(view, *commits, *aborts);
+    let heard = election::said(s, f, number, answer, given);
+    let after = election::sheet_heard(s, f, number, answer, given);
+    *commits = after.commits;
+    *aborts = after.aborts;
+    put_pair(out, heard.values());
+}
+
+// The EL of a leader's sheet, put down; 14, 16, 23 or 0.
+#[no_mangle]
+pub extern "C" fn stobbarel_election(
+    view: u16,
+    commits: u32,
+    aborts: u32,
+    f: u64,
+    stamp: u64,
+    head: &mut [u64; 4],
+    numbers: &mut [u8; 26],
+    answers: &mut [u8; 26],
+    views: &mut [u16; 26],
+) -> u8
+    ensures { λ r. ⌜ (r ≡ gathered (electionSheet view commits aborts) f stamp .wrong) × (viewFields (now (head .exit)) (now (numbers .exit)) (now (answers .exit)) (now (views .exit)) ≡ viewFieldsOf (gathered (electionSheet view commits aborts) f stamp .list)) ⌝ }
+{
+    let g = election::gather(election_sheet(view, commits, aborts), f, Stamp(stamp));
+    let list = g.list;
+    arrays::put_views(list, head, numbers, answers, views);
+    g.wrong
+}
+
+fn put_views_told(out: &mut [u16; 26], v: [u16; 26])
+    ensures { λ r. ⌜ now (out .exit) ≡ v ⌝ }
+{
+    *out = v;
+}
+
+// The highest view that each box told: one more is told.
+#[no_mangle]
+pub extern "C" fn stobbarel_tell(
+    told: &mut u32,
+    views: &mut [u16; 26],
+    f: u64,
+    number: u64,
+    view: u64,
+) -> u8
+    ensures { λ r. ⌜ (r ≡ tellWrong (now (told .entry)) f number view) × (now (told .exit) ≡ taller (now (told .entry)) (now (views .entry)) f number view .told) × (now (views .exit) ≡ taller (now (told .entry)) (now (views .entry)) f number view .views) ⌝ }
+{
+    let highest = election::taller(*told, *views, f, number, view);
+    let now = highest.views;
+    *told = highest.told;
+    put_views_told(views, now);
+    highest.wrong
+}
+
+// The boxes that told a view, and the view of each, as a VS lists them; 14, 16 or 0.
+#[no_mangle]
+pub extern "C" fn stobbarel_told(
+    told: u32,
+    views: &[u16; 26],
+    f: u64,
+    count: &mut usize,
+    numbers: &mut [u8; 26],
+    listed: &mut [u16; 26],
+) -> u8
+    ensures { λ r. ⌜ (r ≡ telling told (now (views .entry)) f .wrong) × (now (count .exit) ≡ telling told (now (views .entry)) f .list .count) × (now (numbers .exit) ≡ ballotNumbers (telling told (now (views .entry)) f .list .ballots)) × (now (listed .exit) ≡ ballotViews (telling told (now (views .entry)) f .list .ballots)) ⌝ }
+{
+    let telling = election::listed(told, *views, f);
+    let list = telling.list;
+    let mut head = [0; 4];
+    let mut answers = [0; 26];
+    arrays::put_views(list, &mut head, numbers, &mut answers, listed);
+    *count = list.count;
+    telling.wrong
 }
 
 // n and the five thresholds.
@@ -300,6 +463,44 @@ pub extern "C" fn stobbarel_write_vl(
     arrays::wrote(written, length)
 }
 
+// A VS by itself.
+#[no_mangle]
+pub extern "C" fn stobbarel_write_vs(
+    f: u64,
+    count: usize,
+    numbers: &[u8; 26],
+    views: &[u16; 26],
+    out: &mut [u8],
+    length: &mut usize,
+) -> u8
+    ensures { λ n. ⌜ left n (now (length .exit)) (now (out .exit)) ≡ viewsLeft VS f (lentViews 0 0 0 count (now (numbers .entry)) (now (numbers .entry)) (now (views .entry))) (now (out .entry)) ⌝ }
+{
+    let l = arrays::views(0, 0, 0, count, numbers, numbers, views);
+    let written = writing::write_views(ViewMark::VS, f, l, out);
+    arrays::wrote(written, length)
+}
+
+// An EL by itself.
+#[no_mangle]
+pub extern "C" fn stobbarel_write_el(
+    f: u64,
+    leader: u8,
+    decision: u8,
+    view: u16,
+    count: usize,
+    numbers: &[u8; 26],
+    answers: &[u8; 26],
+    views: &[u16; 26],
+    out: &mut [u8],
+    length: &mut usize,
+) -> u8
+    ensures { λ n. ⌜ left n (now (length .exit)) (now (out .exit)) ≡ viewsLeft EL f (lentViews leader decision view count (now (numbers .entry)) (now (answers .entry)) (now (views .entry))) (now (out .entry)) ⌝ }
+{
+    let l = arrays::views(leader, decision, view, count, numbers, answers, views);
+    let written = writing::write_views(ViewMark::EL, f, l, out);
+    arrays::wrote(written, length)
+}
+
 // PR: a transaction to vote on.
 #[no_mangle]
 pub extern "C" fn stobbarel_write_pr(
@@ -346,6 +547,60 @@ pub extern "C" fn stobbarel_write_listed(
     let x = arrays::tx(stamp, r, w, reads, versions, writes, values);
     let l = arrays::list(kind, decision, view, count, numbers, answers);
     let written = writing::write_listed(listed_mark(mark), f, x, l, out);
+    arrays::wrote(written, length)
+}
+
+// IV: a transaction and views.
+#[no_mangle]
+pub extern "C" fn stobbarel_write_iv(
+    f: u64,
+    stamp: u64,
+    r: usize,
+    w: usize,
+    reads: &[u16; 8],
+    versions: &[u64; 8],
+    writes: &[u16; 8],
+    values: &[u64; 8],
+    count: usize,
+    numbers: &[u8; 26],
+    views: &[u16; 26],
+    out: &mut [u8],
+    length: &mut usize,
+) -> u8
+    ensures { λ n. ⌜ left n (now (length .exit)) (now (out .exit)) ≡ viewedLeft VS f (lentTx stamp r w (now (reads .entry)) (now (versions .entry)) (now (writes .entry)) (now (values .entry))) (lentViews 0 0 0 count (now (numbers .entry)) (now (numbers .entry)) (now (views .entry))) (now (out .entry)) ⌝ }
+{
+    let x = arrays::tx(stamp, r, w, reads, versions, writes, values);
+    let l = arrays::views(0, 0, 0, count, numbers, numbers, views);
+    let written = writing::write_viewed(ViewMark::VS, f, x, l, out);
+    arrays::wrote(written, length)
+}
+
+// LD: a transaction and election answers.
+#[no_mangle]
+pub extern "C" fn stobbarel_write_ld(
+    f: u64,
+    stamp: u64,
+    r: usize,
+    w: usize,
+    reads: &[u16; 8],
+    versions: &[u64; 8],
+    writes: &[u16; 8],
+    values: &[u64; 8],
+    leader: u8,
+    decision: u8,
+    view: u16,
+    count: usize,
+    numbers: &[u8; 26],
+    answers: &[u8; 26],
+    views: &[u16; 26],
+    out: &mut [u8],
+    length: &mut usize,
+) -> u8
+    ensures { λ n. ⌜ left n (now (length .exit)) (now (out .exit)) ≡ viewedLeft EL f (lentTx stamp r w (now (reads .entry)) (now (versions .entry)) (now (writes .entry)) (now (values .entry))) (lentViews leader decision view count (now (numbers .entry)) (now (answers .entry)) (now (views .entry))) (now (out .entry)) ⌝ }
+{
+    let x = arrays::tx(stamp, r, w, reads, versions, writes, values);
+    let l = arrays::views(leader, decision, view, count, numbers, answers, views);
+    let written = writing::write_viewed(ViewMark::EL, f, x, l, out);
     arrays::wrote(written, length)
 }
 

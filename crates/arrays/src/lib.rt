@@ -1,12 +1,14 @@
 // The values of records as numbers and arrays, which any language can lend: put together into a transaction and a list, and taken apart.
 ghost use mathlib.Core.Path.{_≡_};
-ghost use Rattle.arrays.specs.Arrays.{lentTx, lentList, writtenNumber, writtenLength, readKeys, readVersions, writeKeys, writeValues, pairNumbers, pairAnswers, foundNumber, markNumber, foundStamp, markedBy, headRow, txFields, txFieldsOf, fields, fieldsOf};
+ghost use Rattle.arrays.specs.Arrays.{lentTx, lentList, lentViews, writtenNumber, writtenLength, readKeys, readVersions, writeKeys, writeValues, pairNumbers, pairAnswers, foundNumber, markNumber, foundStamp, markedBy, headRow, txFields, txFieldsOf, fields, fieldsOf, ballotNumbers, ballotAnswers, ballotViews, viewRow, viewFields, viewFieldsOf};
+use records::Ballot;
 use records::Mark;
 use records::Marked;
 use records::Pair;
 use records::Read;
 use records::Reading;
 use records::Transaction;
+use records::ViewList;
 use records::VoteList;
 use records::Write;
 use records::Written;
@@ -27,6 +29,12 @@ const NO_WRITE: Write = Write {
 const NO_PAIR: Pair = Pair {
     number: 0,
     answer: 0,
+};
+
+const NO_BALLOT: Ballot = Ballot {
+    number: 0,
+    answer: 0,
+    view: View(0),
 };
 
 // ---- put together
@@ -95,7 +103,38 @@ pub fn list(
     }
 }
 
-// The mark that a number names: 1 PR, 2 LG, 3 DC, 4 RD; any other is not the one due.
+// A list of views that is lent as numbers and arrays of 26.
+pub fn views(
+    leader: u8,
+    decision: u8,
+    view: u16,
+    count: usize,
+    numbers: &[u8; 26],
+    answers: &[u8; 26],
+    views: &[u16; 26],
+) -> ViewList
+    ensures { λ l. ⌜ l ≡ lentViews leader decision view count (now (numbers .entry)) (now (answers .entry)) (now (views .entry)) ⌝ }
+{
+    let mut ballots = [NO_BALLOT; 26];
+    let mut j = 0;
+    while j < 26 {
+        ballots[j] = Ballot {
+            number: numbers[j],
+            answer: answers[j],
+            view: View(views[j]),
+        };
+        j += 1;
+    }
+    ViewList {
+        leader,
+        decision,
+        view: View(view),
+        count,
+        ballots,
+    }
+}
+
+// The mark that a number names: 1 PR, 2 LG, 3 DC, 4 RD, 5 IV, 6 LD; any other is not the one due.
 pub fn marked_of(number: u64) -> Marked
     ensures { λ r. ⌜ r ≡ markedBy number ⌝ }
 {
@@ -104,6 +143,8 @@ pub fn marked_of(number: u64) -> Marked
         2 => Marked::Is(Mark::LG),
         3 => Marked::Is(Mark::DC),
         4 => Marked::Is(Mark::RD),
+        5 => Marked::Is(Mark::IV),
+        6 => Marked::Is(Mark::LD),
         _ => Marked::Refused(terms::MARK),
     }
 }
@@ -137,7 +178,7 @@ pub fn found_number(found: Marked) -> u8
 }
 
 // Which message was read, by a number; 0 where it was refused.
-fn found_mark(found: Marked) -> u64
+pub fn found_mark(found: Marked) -> u64
     ensures { λ r. ⌜ r ≡ markNumber found ⌝ }
 {
     match found {
@@ -146,6 +187,8 @@ fn found_mark(found: Marked) -> u64
             Mark::LG => 2,
             Mark::DC => 3,
             Mark::RD => 4,
+            Mark::IV => 5,
+            Mark::LD => 6,
         },
         Marked::Refused(_) => 0,
     }
@@ -161,6 +204,8 @@ fn found_stamp(found: Marked, own: Stamp, tx: Stamp) -> Stamp
             Mark::LG => tx,
             Mark::DC => tx,
             Mark::RD => own,
+            Mark::IV => tx,
+            Mark::LD => tx,
         },
         Marked::Refused(_) => tx,
     }
@@ -290,4 +335,53 @@ pub fn put_fields(
     put_reads(read, reads, versions);
     put_writes(written, writes, values);
     put_pairs(pairs, numbers, answers);
+}
+
+fn put_ballots(
+    a: [Ballot; 26],
+    numbers: &mut [u8; 26],
+    answers: &mut [u8; 26],
+    views: &mut [u16; 26],
+)
+    ensures { λ r. ⌜ (now (numbers .exit) ≡ ballotNumbers a) × (now (answers .exit) ≡ ballotAnswers a) × (now (views .exit) ≡ ballotViews a) ⌝ }
+{
+    let mut boxes = [0; 26];
+    let mut given = [0; 26];
+    let mut told = [0; 26];
+    let mut j = 0;
+    while j < 26 {
+        boxes[j] = a[j].number;
+        given[j] = a[j].answer;
+        told[j] = a[j].view.0;
+        j += 1;
+    }
+    *numbers = boxes;
+    *answers = given;
+    *views = told;
+}
+
+fn put_view_head(l: ViewList, head: &mut [u64; 4])
+    ensures { λ r. ⌜ now (head .exit) ≡ viewRow l ⌝ }
+{
+    *head = [
+        l.leader as u64,
+        l.decision as u64,
+        l.view.0 as u64,
+        l.count as u64,
+    ];
+}
+
+// A list of views, put down.
+pub fn put_views(
+    l: ViewList,
+    head: &mut [u64; 4],
+    numbers: &mut [u8; 26],
+    answers: &mut [u8; 26],
+    views: &mut [u16; 26],
+)
+    ensures { λ r. ⌜ viewFields (now (head .exit)) (now (numbers .exit)) (now (answers .exit)) (now (views .exit)) ≡ viewFieldsOf l ⌝ }
+{
+    let ballots = l.ballots;
+    put_view_head(l, head);
+    put_ballots(ballots, numbers, answers, views);
 }

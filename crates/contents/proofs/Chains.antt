@@ -19,5 +19,5 @@ pub of-tx : (s a b c d n : ℕ) → orElse (orElse s (orElse a b)) (orElse (orEl
 of-tx s a b c d n = simp together
 
 -- 8, then 5, then 6
-pub of-list : (k d a w f : ℕ) → orElse (orElse (orElse k d) a) (orElse w f) ≡ orElse k (orElse d (orElse a (orElse w f)))
-of-list k d a w f = simp together
+pub of-list : (k d a b : ℕ) → orElse (orElse (orElse k d) a) b ≡ orElse k (orElse d (orElse a b))
+of-list k d a b = simp together

@@ -1,2 +1,4 @@
 pub mod Chains
+pub mod Taken
 pub mod Keys
+pub mod Ballots

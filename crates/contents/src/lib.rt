@@ -5,11 +5,16 @@ ghost use Rattle.terms.specs.Choice.{tab, any, falls};
 ghost use Rattle.terms.specs.Checks.{when, range, order, misbehaviour, code};
 ghost use Rattle.records.specs.Tx.{txIn, readsIn};
 ghost use Rattle.records.specs.Vl.{listIn, pairsIn};
-ghost use Rattle.records.specs.Contents.{countsWrong, countWrong, tooNew, txWrong, codeWrong, answerOdd, boxWide, pairBox, listWrong, logListWrong, rdWrong};
+ghost use Rattle.records.specs.Views.{viewsIn};
+ghost use Rattle.records.specs.Contents.{countsWrong, countWrong, tooNew, txWrong, codeWrong, answerOdd, boxWide, pairBox, boxesWrong, listWrong, logListWrong, viewsWrong, rdWrong};
 ghost use Rattle.contents.specs.Keys.{keysRead, keysWritten, keysIn, keyWide, keyNumber};
+ghost use Rattle.contents.specs.Ballots.{ballotPairs};
+use records::Ballot;
 use records::Pair;
 use records::Read;
 use records::Transaction;
+use records::ViewList;
+use records::ViewMark;
 use records::VoteList;
 use records::Write;
 use terms::Group;
@@ -195,6 +200,14 @@ fn boxes_fall(a: [Pair; 26], n: usize) -> u8
     0
 }
 
+// The boxes for 5, then 6.
+fn boxes_wrong(g: Group, a: [Pair; 26], n: usize) -> u8
+    requires { ⌜ n ≤ 26 ⌝ }
+    ensures { λ r. ⌜ r ≡ boxesWrong (g .f) (tab (pairsIn a) 0 n) ⌝ }
+{
+    terms::first(boxes_wide(g, a, n), boxes_fall(a, n))
+}
+
 // A list for 8, then 5, then 6.
 pub fn list_wrong(g: Group, l: VoteList) -> u8
     requires { ⌜ l .count ≤ 26 ⌝ }
@@ -203,9 +216,7 @@ pub fn list_wrong(g: Group, l: VoteList) -> u8
     let pairs = l.pairs;
     let codes = terms::first(code_wrong(l.kind), code_wrong(l.decision));
     let answers = answers_odd(pairs, l.count);
-    let range = boxes_wide(g, pairs, l.count);
-    let order = boxes_fall(pairs, l.count);
-    terms::first(terms::first(codes, answers), terms::first(range, order))
+    terms::first(terms::first(codes, answers), boxes_wrong(g, pairs, l.count))
 }
 
 // The same in an LG, where a list of logs is 8 too.
@@ -214,6 +225,45 @@ pub fn log_list_wrong(g: Group, l: VoteList) -> u8
     ensures { λ r. ⌜ r ≡ logListWrong (g .f) (listIn l) ⌝ }
 {
     terms::first(terms::refuse_if(l.kind == 2, terms::CODE), list_wrong(g, l))
+}
+
+// What ballots say of boxes and answers: they are judged as the pairs of a list are.
+fn ballot_pairs(a: [Ballot; 26]) -> [Pair; 26]
+    ensures { λ r. ⌜ r ≡ ballotPairs a ⌝ }
+{
+    let z = Pair {
+        number: 0,
+        answer: 0,
+    };
+    let mut pairs = [z; 26];
+    let mut j = 0;
+    while j < 26 {
+        let b = a[j];
+        pairs[j] = Pair {
+            number: b.number,
+            answer: b.answer,
+        };
+        j += 1;
+    }
+    pairs
+}
+
+// A VS for 5, then 6; an EL for 8, then 5, of its leader too, then 6.
+pub fn views_wrong(k: ViewMark, g: Group, l: ViewList) -> u8
+    requires { ⌜ l .count ≤ 26 ⌝ }
+    ensures { λ r. ⌜ r ≡ viewsWrong k (g .f) (viewsIn k l) ⌝ }
+{
+    let ballots = l.ballots;
+    let pairs = ballot_pairs(ballots);
+    let boxes = boxes_wrong(g, pairs, l.count);
+    match k {
+        ViewMark::VS => boxes,
+        ViewMark::EL => {
+            let codes = terms::first(code_wrong(l.decision), answers_odd(pairs, l.count));
+            let leader = terms::refuse_if(g.n() <= records::wide(l.leader), terms::RANGE);
+            terms::first(codes, terms::first(leader, boxes))
+        }
+    }
 }
 
 // An RD for 5; the clock is the box's.

@@ -1,16 +1,17 @@
--- PR, LG and DC raise no mark, RD puts no entry.
+-- PR, LG, DC, IV and LD raise no mark, RD puts no entry.
 use Prim.Native.Nat.{ℕ}
 use mathlib.Core.Path.{_≡_, refl}
 use mathlib.Core.List.{List}
 use Rattle.records.specs.declared.Mark.{Mark}
-use Rattle.records.specs.declared.Mark.the-variants.{PR, LG, DC, RD}
+use Rattle.records.specs.declared.Mark.the-variants.{PR, LG, DC, RD, IV, LD}
 use Rattle.records.specs.Cutting.{txPart}
-use Rattle.records.specs.Messages.{listBehind, rdKey, rdStamp}
+use Rattle.records.specs.declared.ViewMark.the-variants.{VS, EL}
+use Rattle.records.specs.Messages.{listBehind, rdKey, rdStamp, viewsBehind}
 use Rattle.rules.specs.declared.Told.{Told}
 use Rattle.rules.specs.Calls.{Act, nothing, lookAct, rdRule}
 use Rattle.rules.specs.Act.{due, rule, dueAct, markedAct, dueMark, markBy, marksAfter}
 use Rattle.rules.proofs.Deeds.{guarded-elim}
-use Rattle.rules.proofs.Room.{pr-still, lg-still, dc-still}
+use Rattle.rules.proofs.Room.{pr-still, lg-still, dc-still, iv-still, ld-still}
 use Rattle.engine.specs.Outcome.{Kept, boxIn, calledBy, tableBy, leavesAlone, LeavesAlone}
 
 rule-alone : (k : Mark) (told : Told) (x : Kept) (m : List ℕ) → leavesAlone k x (rule k told (boxIn x) m .change)
@@ -18,6 +19,8 @@ unfolding leavesAlone rule rdRule lookAct tableBy
 rule-alone PR told x m = pr-still told (boxIn x) (txPart m) (x .marks)
 rule-alone LG told x m = lg-still told (boxIn x) (txPart m) (x .marks) (listBehind m)
 rule-alone DC told x m = dc-still told (boxIn x) (txPart m) (x .marks) (listBehind m)
+rule-alone IV told x m = iv-still told (boxIn x) (txPart m) (x .marks) (viewsBehind VS m)
+rule-alone LD told x m = ld-still told (boxIn x) (txPart m) (x .marks) (viewsBehind EL m)
 rule-alone RD told x m = guarded-elim (λ (a : Act). tableBy (x .table) (a .change) ≡ x .table) _ _ (λ _. refl) (λ _. refl)
 
 nothing-alone : (k : Mark) (x : Kept) → leavesAlone k x nothing
@@ -26,6 +29,8 @@ nothing-alone PR x = refl
 nothing-alone LG x = refl
 nothing-alone DC x = refl
 nothing-alone RD x = refl
+nothing-alone IV x = refl
+nothing-alone LD x = refl
 
 pub leaves-alone : LeavesAlone
 unfolding calledBy dueMark markBy markedAct dueAct

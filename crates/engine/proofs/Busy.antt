@@ -7,7 +7,7 @@ use mathlib.Core.Path.{_≡_, refl, ap, sym, _∙_}
 use mathlib.Core.List.{List, [], _∷_}
 use lib.Dec.{T, eqb}
 use borrow.Author.Tests.{eqb-true}
-use Rattle.records.specs.declared.Mark.the-variants.{PR, LG, DC, RD}
+use Rattle.records.specs.declared.Mark.the-variants.{PR, LG, DC, RD, IV, LD}
 use Rattle.rules.specs.declared.Answer.the-variants.{Refused}
 use Rattle.terms.specs.declared.Refusal.the-variants.{Table}
 use Rattle.records.specs.Cutting.{txPart}
@@ -22,10 +22,10 @@ use Rattle.rules.specs.Lists.{bit}
 use Rattle.rules.specs.Table.{Box, empty}
 use Rattle.rules.specs.Calls.{Act}
 use Rattle.rules.specs.Act.{act, after, EntryPoint, toldWrong, dueMark, markBy}
-use Rattle.rules.specs.System.{Event, toldAt, boxAt, answerTo, Word, givesNow, gave, howMany, givenIn, Sound, HonestBy, Fair, Given, carriesList, isWord, wordIn}
+use Rattle.rules.specs.System.{Event, toldAt, boxAt, answerTo, Word, givesNow, gave, howMany, givenIn, Sound, HonestBy, Fair, Given, Carries, isWord, wordIn}
 use Rattle.rules.specs.Traces.{liar, at, each, busyFirst, busyThen, busy}
 use Rattle.rules.proofs.Laws.{and-l, and-r}
-use Rattle.rules.proofs.Alike.{Alike, backed-alike, proof-alike}
+use Rattle.rules.proofs.Alike.{Alike, carries-alike, proof-alike}
 use Rattle.rules.proofs.Traces.{busy-trace}
 use Rattle.table.specs.Table.{entriesOf, tableWrong}
 use Rattle.engine.specs.Outcome.{Kept, boxIn, lentWrong}
@@ -99,7 +99,7 @@ alike r i s b w = sym (gives r i b w)
 fair-calls : {es rs : List Event} → Runs es rs → Fair 1 liar rs → FairCalls 1 liar eight es
 unfolding Fair FairCalls HonestBy
 fair-calls done F = tt
-fair-calls (takes e c r) F = (fair-calls r (F .0), λ s k q z y. backed-alike 1 liar _ _ (alike r) _ _ (F .1 s k q z y))
+fair-calls (takes e c r) F = (fair-calls r (F .0), λ s k q z. carries-alike 1 liar _ _ (alike r) k _ (F .1 s k q z))
 fair-calls (drops e n q o r) F = (fair-calls r F, λ s. o _)
 
 -- ---- the busy trace
@@ -127,11 +127,13 @@ unfolding lentWrong toldWrong tooLarge orElse ifLess groupWrong
 short-told = rw (untouched, too-short 8 9 (omega arith))
 
 no-list : (g : Given) → HonestBy 1 liar g (tooLarge .entry) (tooLarge .message)
-unfolding HonestBy tooLarge carriesList dueMark markBy running
-no-list g PR q z y = absurd y
-no-list g LG q z y = let z : _≡_ {A = ℕ} 0 1 = cc in absurd (omega arith)
-no-list g DC q z y = let z : _≡_ {A = ℕ} 0 1 = cc in absurd (omega arith)
-no-list g RD q z y = absurd y
+unfolding HonestBy tooLarge Carries dueMark markBy running
+no-list g PR q z = tt
+no-list g LG q z = let z : _≡_ {A = ℕ} 0 1 = cc in absurd (omega arith)
+no-list g DC q z = let z : _≡_ {A = ℕ} 0 1 = cc in absurd (omega arith)
+no-list g RD q z = tt
+no-list g IV q z = tt
+no-list g LD q z = let z : _≡_ {A = ℕ} 0 1 = cc in absurd (omega arith)
 
 runs : Runs busyCalls busy
 unfolding busyCalls busy tooLarge

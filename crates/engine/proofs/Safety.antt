@@ -20,7 +20,7 @@ use Rattle.rules.specs.Act.{EntryPoint, act, after, marksAfter}
 use Rattle.rules.specs.System.{Event, toldAt, boxAt, answerTo, Word, wordIn, isWord, givesNow, gave, givenIn, Sound, HonestBy, Fair}
 use Rattle.rules.proofs.Laws.{decideT, no-both}
 use Rattle.rules.proofs.Safety.{safety}
-use Rattle.rules.proofs.Alike.{Alike, backed-alike, safe-alike}
+use Rattle.rules.proofs.Alike.{Alike, carries-alike, safe-alike}
 use Rattle.table.specs.Table.{entriesOf, tableWrong}
 use Rattle.engine.specs.Outcome.{Kept, boxIn, lentWrong, calledBy, called, tableBy}
 use Rattle.engine.specs.Safety.{leaves, keptAt, answered, gaveBy, Empty, FairCalls, EngineSafety, Tracks, EngineTracks}
@@ -121,7 +121,7 @@ module _ (f : ℕ) (faulty : ℕ → Bool) where
           rules = e ∷ S .rules;
           held = λ i z. held-by i z (eqb (e .box) i) refl;
           said = λ i z b w. rw (alike, S .said i z b w);
-          fair = λ F. (S .fair (F .0), λ _ k q z c. backed-alike f faulty _ _ (S .said) _ _ (F .1 s k q z c));
+          fair = λ F. (S .fair (F .0), λ _ k q z. carries-alike f faulty _ _ (S .said) k _ (F .1 s k q z));
         }
 
       step : Shadow (e ∷ es)

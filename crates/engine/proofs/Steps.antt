@@ -9,17 +9,21 @@ use Rattle.terms.specs.declared.Refusal.{Refusal}
 use Rattle.terms.specs.declared.Key.{Key}
 use Rattle.terms.specs.declared.Stamp.{Stamp}
 use Rattle.records.specs.declared.Mark.{Mark}
-use Rattle.records.specs.declared.Mark.the-variants.{PR, LG, DC, RD}
+use Rattle.records.specs.declared.Mark.the-variants.{PR, LG, DC, RD, IV, LD}
+use Rattle.records.specs.declared.ViewMark.{ViewMark}
+use Rattle.records.specs.declared.ViewMark.the-variants.{VS, EL}
+use Rattle.records.specs.declared.ViewList.{ViewList}
+use Rattle.records.specs.Views.{Views, viewsIn, viewsOf, heldViews, viewsCount}
 use Rattle.records.specs.Vl.{Vl}
 use Rattle.records.specs.Cutting.{txCut, behindMark, txPart}
-use Rattle.records.specs.Messages.{dueRefusal, listBehind, rdKey, rdStamp}
+use Rattle.records.specs.Messages.{dueRefusal, listBehind, viewsBehind, rdKey, rdStamp}
 use Rattle.records.specs.declared.VoteList.{VoteList}
 use Rattle.records.specs.Vl.{vlOf, vlCount, listIn, heldList}
-use Rattle.records.specs.Cutting.{vlCut, vlPart}
-use Rattle.records.proofs.Held.{list-in}
+use Rattle.records.specs.Cutting.{vlCut, viewsCut, listPart}
+use Rattle.records.proofs.Held.{list-in, views-in, own-views}
 use Rattle.reading.proofs.Answers.{behind-view}
 use Rattle.terms.proofs.Scans.{tab-length}
-use Rattle.reading.proofs.Cuts.{vl-there}
+use Rattle.reading.proofs.Cuts.{vl-there, views-there}
 use Rattle.reading.proofs.Due.{tx-due}
 use Rattle.rules.specs.declared.Answer.{Answer}
 use Rattle.rules.specs.declared.Answer.the-variants.{Refused as refusedAnswer}
@@ -27,6 +31,7 @@ use Rattle.rules.specs.declared.Told.{Told}
 use Rattle.rules.specs.Bodies.{Body, stampOf}
 use Rattle.rules.specs.Table.{Box, boxWith}
 use Rattle.rules.specs.Calls.{Act, Change, nothing, puts, raises, guarded, refuse, prRule, lgRule, dcRule, lookAct, rdRule}
+use Rattle.rules.specs.Fallback.{ivRule, ldRule}
 use Rattle.rules.specs.Act.{rule, marksAfter}
 use Rattle.rules.proofs.Deeds.{guarded-elim}
 use Rattle.rules.proofs.Room.{FitsBy, FitsIn, Fit, Fits, rule-fits}
@@ -75,6 +80,8 @@ unfolding rule rdRule lookAct Bodied
 rule-bodied PR told x m z = any-bodied m (prRule told x (txPart m) .change) (tx-due told.f m PR refl z)
 rule-bodied LG told x m z = any-bodied m (lgRule told x (txPart m) (listBehind m) .change) (tx-due told.f m LG refl z)
 rule-bodied DC told x m z = any-bodied m (dcRule told x (txPart m) (listBehind m) .change) (tx-due told.f m DC refl z)
+rule-bodied IV told x m z = any-bodied m (ivRule told x (txPart m) (viewsBehind VS m) .change) (tx-due told.f m IV refl z)
+rule-bodied LD told x m z = any-bodied m (ldRule told x (txPart m) (viewsBehind EL m) .change) (tx-due told.f m LD refl z)
 rule-bodied RD told x m z = guarded-bodied m _ _ (λ _. tt)
 
 -- ---- what fits the lent box can be made, at the place of the message's stamp
@@ -121,15 +128,33 @@ module _ (told : Told) (t marks m : List ℕ) (lent : lentWrong told t ≡ 0) wh
 
 -- ---- the list of a message that is cut fits its array, and is the message's
 module _ (m : List ℕ) (l : VoteList) (p : l ≡ heldList (listBehind m)) where
-  pub few-pairs : vlCut (vlPart m) ≡ 0 → l .count ≤ 26
+  pub few-pairs : vlCut (listPart m) ≡ 0 → l .count ≤ 26
   unfolding heldList listBehind vlOf
   few-pairs c =
-      let h = vl-there (vlPart m) _ refl c .0 in
-      let n : l .count ≡ vlCount (vlPart m) = ap (λ (y : VoteList). y .count) p ∙ tab-length _ 0 _ in
+      let h = vl-there (listPart m) _ refl c .0 in
+      let n : l .count ≡ vlCount (listPart m) = ap (λ (y : VoteList). y .count) p ∙ tab-length _ 0 _ in
       rw n h
 
   pub list-is : listIn l ≡ listBehind m
   list-is = ap listIn p ∙ list-in (listBehind m) (behind-view m)
+
+-- ---- so are the views
+ballots-long : (k : ViewMark) (s : List ℕ) → length (viewsOf k s .ballots) ≡ viewsCount k s
+unfolding viewsOf
+ballots-long VS s = tab-length _ 0 _
+ballots-long EL s = tab-length _ 0 _
+
+module _ (k : ViewMark) (m : List ℕ) (l : ViewList) (p : l ≡ heldViews (viewsBehind k m)) where
+  pub few-ballots : viewsCut k (listPart m) ≡ 0 → l .count ≤ 26
+  unfolding heldViews viewsBehind
+  few-ballots c =
+      let h = views-there k (listPart m) _ refl c .0 in
+      let n : l .count ≡ viewsCount k (listPart m) = ap (λ (y : ViewList). y .count) p ∙ ballots-long k (listPart m) in
+      rw n h
+
+  pub views-are : viewsIn k l ≡ viewsBehind k m
+  unfolding viewsBehind
+  views-are = ap (viewsIn k) p ∙ views-in k (viewsBehind k m) (own-views k (listPart m))
 
 -- ---- the step on the rows is the lent table's: rows, their number and the body as the code has them
 module _ (told : Told) (t m rs : List ℕ) (n : ℕ) (p : rs ≡ drop headLen t) (q : n ≡ countOf t) (marks : List ℕ) (r : Step) where
@@ -149,6 +174,15 @@ module _ (told : Told) (t m rs : List ℕ) (n : ℕ) (p : rs ≡ drop headLen t)
       pub dc-is : r ≡ stepBy (place (stampOf b) (entries rs n)) (dcRule told (boxWith (entries rs n) marks) b l) → its DC
       unfolding rule boxIn entriesOf
       dc-is w = w ∙ (rw (p, q, u, k))
+
+    module _ (l : Views) where
+      pub iv-is : l ≡ viewsBehind VS m → r ≡ stepBy (place (stampOf b) (entries rs n)) (ivRule told (boxWith (entries rs n) marks) b l) → its IV
+      unfolding rule boxIn entriesOf
+      iv-is k w = w ∙ (rw (p, q, u, k))
+
+      pub ld-is : l ≡ viewsBehind EL m → r ≡ stepBy (place (stampOf b) (entries rs n)) (ldRule told (boxWith (entries rs n) marks) b l) → its LD
+      unfolding rule boxIn entriesOf
+      ld-is k w = w ∙ (rw (p, q, u, k))
 
   pub rd-is : (k : Key) (s : Stamp) → k .0 ≡ rdKey m → s .0 ≡ rdStamp m
       → r ≡ stepBy (place (stampOf (txPart m)) (entriesOf t)) (rdRule told (boxWith (entries rs n) marks) (k .0) (s .0)) → its RD

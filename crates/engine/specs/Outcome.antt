@@ -5,7 +5,7 @@ use mathlib.Core.Path.{_≡_}
 use lib.ListN.{length}
 use Rattle.terms.specs.Checks.{orElse}
 use Rattle.records.specs.declared.Mark.{Mark}
-use Rattle.records.specs.declared.Mark.the-variants.{PR, LG, DC, RD}
+use Rattle.records.specs.declared.Mark.the-variants.{PR, LG, DC, RD, IV, LD}
 use Rattle.records.specs.declared.Marked.{Marked}
 use Rattle.records.specs.declared.Marked.the-variants.{Is}
 use Rattle.records.specs.Contents.{largestKey}
@@ -55,12 +55,14 @@ tableBy t (raises k s) = t
 abbrev pub Leaves : Act → Kept → Answer → Kept → Type 0
 Leaves a x r y = (r ≡ a .answer) × (y .table ≡ tableBy (x .table) (a .change)) × (y .marks ≡ marksAfter (x .marks) (a .change))
 
--- PR, LG and DC leave the read marks as they are, RD the table
+-- PR, LG, DC, IV and LD leave the read marks as they are, RD the table
 unfoldable pub leavesAlone : Mark → Kept → Change → Type 0
 leavesAlone PR x c = marksAfter (x .marks) c ≡ x .marks
 leavesAlone LG x c = marksAfter (x .marks) c ≡ x .marks
 leavesAlone DC x c = marksAfter (x .marks) c ≡ x .marks
 leavesAlone RD x c = tableBy (x .table) c ≡ x .table
+leavesAlone IV x c = marksAfter (x .marks) c ≡ x .marks
+leavesAlone LD x c = marksAfter (x .marks) c ≡ x .marks
 
 abbrev pub LeavesAlone : Type 0
 LeavesAlone = (k : Mark) (told : Told) (x : Kept) (m : List ℕ) → leavesAlone k x (called (due (Is k)) told x m .change)

@@ -48,11 +48,14 @@ fn step_of(mark: Mark, t: &[u8], marks: &[u64], told: Told, m: &[u8], reading: R
     let n = table::count_of(t);
     let rows = table::rows(t);
     let list = reading.list;
+    let views = reading.views;
     match mark {
         Mark::PR => steps::pr_step(rows, n, marks, told, reading::tx_part_of(m)),
         Mark::LG => steps::lg_step(rows, n, told, reading::tx_part_of(m), list),
         Mark::DC => steps::dc_step(rows, n, told, reading::tx_part_of(m), list),
         Mark::RD => steps::rd_step(rows, n, told, reading.key, reading.stamp),
+        Mark::IV => steps::iv_step(rows, n, told, reading::tx_part_of(m), views),
+        Mark::LD => steps::ld_step(rows, n, told, reading::tx_part_of(m), views),
     }
 }
 
@@ -117,7 +120,7 @@ fn run(
     apply(table, marks, step, message)
 }
 
-// The mark that is due; none of the four is 2.
+// The mark that is due; none of the six is 2.
 fn due_mark(marked: Marked) -> Marked
     ensures { λ r. ⌜ r ≡ dueMark marked ⌝ }
 {
@@ -127,7 +130,8 @@ fn due_mark(marked: Marked) -> Marked
     }
 }
 
-// A message where one with a certain mark is due: PR to vote on a transaction, LG to log a decision, DC to take one, RD to read a key.
+// A message where one with a certain mark is due: PR to vote on a transaction, LG to log a decision, DC to take one, RD to read a key,
+// IV to move on to a higher view, LD to log a leader's decision.
 pub fn due(
     marked: Marked,
     table: &mut [u8],
@@ -140,7 +144,7 @@ pub fn due(
     run(due_mark(marked), table, marks, told, message)
 }
 
-// Any of the four messages, by its mark.
+// Any of the six messages, by its mark.
 pub fn receive(table: &mut [u8], marks: &mut [u64; 512], told: Told, message: &[u8]) -> Answer
     ensures { λ r. ⌜ Leaves (called receive told (kept (now (table .entry)) (now (marks .entry))) (now (message .entry))) (kept (now (table .entry)) (now (marks .entry))) r (kept (now (table .exit)) (now (marks .exit))) ⌝ }
 {

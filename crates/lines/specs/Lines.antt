@@ -1,4 +1,5 @@
 -- 01, 'Bench program': "Each record prints number from 0, its mark (`??` if the mark is cut or not GP, CK, PR, LG, DC, RD), the answer."
+-- A5 adds IV and LD.
 use Prim.Native.Nat.{ℕ, zero, suc, _+_, _-_, _*_, _/_, _%_, _≤_}
 use mathlib.Core.Path.{_≡_}
 use mathlib.Core.Bool.{Bool, true, false, _||_}
@@ -18,7 +19,7 @@ use Rattle.rules.specs.declared.Vote.{Vote}
 use Rattle.rules.specs.declared.Vote.the-variants.{None as unvoted, Commit as voteCommit, Abort as voteAbort, Waiting as waiting}
 use Rattle.rules.specs.declared.Version.{Version}
 use Rattle.rules.specs.declared.Answer.{Answer}
-use Rattle.rules.specs.declared.Answer.the-variants.{Voted, Decided, Logged, Done, Found, Refused}
+use Rattle.rules.specs.declared.Answer.the-variants.{Voted, Decided, Logged, Done, Found, Refused, Elected}
 use Rattle.lines.specs.declared.Said.{Said}
 use Rattle.lines.specs.declared.Said.the-variants.{Taken, Answered}
 
@@ -76,6 +77,10 @@ decidedBlank = 100 ∷ 101 ∷ 99 ∷ 105 ∷ 100 ∷ 101 ∷ 100 ∷ 32 ∷ []
 abbrev pub loggedBlank : List ℕ
 loggedBlank = 108 ∷ 111 ∷ 103 ∷ 103 ∷ 101 ∷ 100 ∷ 32 ∷ []
 
+-- "elect "
+abbrev pub electBlank : List ℕ
+electBlank = 101 ∷ 108 ∷ 101 ∷ 99 ∷ 116 ∷ 32 ∷ []
+
 -- "done"
 abbrev pub doneText : List ℕ
 doneText = 100 ∷ 111 ∷ 110 ∷ 101 ∷ []
@@ -110,14 +115,22 @@ lackingText lacking = pick (eqb lacking 0) [] (blank ++ decimal lacking)
 unfoldable pub refusalText : Refusal → List ℕ
 refusalText r = refusedBlank ++ (decimal (numberOf r) ++ lackingText (lackingOf r))
 
+-- A5: a log answer "tells its view"; an election answer tells its decision, view and leader
+unfoldable pub loggedText : Decision → ℕ → List ℕ
+loggedText d v = loggedBlank ++ (decisionText d ++ (blank ++ decimal v))
+
+unfoldable pub electedText : Decision → ℕ → ℕ → List ℕ
+electedText d v l = electBlank ++ (decisionText d ++ (blank ++ (decimal v ++ (blank ++ decimal l))))
+
 -- "`decided`/`logged` and commit or abort, `done`, .. `refused` and number"
 unfoldable pub answerText : Answer → List ℕ
 answerText (Voted v) = voteText v
 answerText (Decided d) = decidedBlank ++ decisionText d
-answerText (Logged d) = loggedBlank ++ decisionText d
+answerText (Logged d v) = loggedText d (v .0)
 answerText Done = doneText
 answerText (Found c u) = foundText c u
 answerText (Refused r) = refusalText r
+answerText (Elected d v l) = electedText d (v .0) l
 
 -- "`ok`": a GP or a CK that was taken
 unfoldable pub saidText : Said → List ℕ
@@ -135,7 +148,7 @@ markCK = 67 ∷ 75 ∷ []
 abbrev pub noMark : List ℕ
 noMark = 63 ∷ 63 ∷ []
 
--- "PR, LG, DC, RD"
+-- "PR, LG, DC, RD", IV, LD
 abbrev pub isMessage : Marked → Bool
 isMessage (Is k) = true
 isMessage (Unmarked n) = false

@@ -2,13 +2,14 @@
 ghost use mathlib.Core.Path.{_≡_};
 ghost use Prim.Native.Nat.{_+_, _≤_};
 ghost use lib.ListN.{length};
-ghost use Rattle.lines.specs.Lines.{decimal, decisionText, voteText, versionText, foundText, lackingText, refusalText, answerText, saidText, isMessage, known, markText, lineOf, putAt, Puts};
+ghost use Rattle.lines.specs.Lines.{decimal, decisionText, voteText, versionText, foundText, lackingText, refusalText, loggedText, electedText, answerText, saidText, isMessage, known, markText, lineOf, putAt, Puts};
 use records::Marked;
 use rules::Answer;
 use rules::Version;
 use rules::Vote;
 use terms::Decision;
 use terms::Refusal;
+use terms::View;
 
 // What a record is told: that it was taken (a GP or a CK), or a box's answer.
 pub enum Said {
@@ -147,6 +148,28 @@ fn put_refusal(out: &mut [u8], at: usize, why: Refusal) -> usize
     put_lacking(out, b, why.lacking())
 }
 
+fn put_logged(out: &mut [u8], at: usize, d: Decision, view: View) -> usize
+    requires { ⌜ at + 34 ≤ length (now out) ⌝ }
+    ensures { λ r. ⌜ Puts (now (out .entry)) at (loggedText d (view .0)) 34 (now (out .exit)) r ⌝ }
+{
+    let a = put_text(out, at, b"logged ");
+    let b = put_decision(out, a, d);
+    let c = put_text(out, b, b" ");
+    put_decimal(out, c, view.0 as u64)
+}
+
+fn put_elected(out: &mut [u8], at: usize, d: Decision, view: View, leader: u8) -> usize
+    requires { ⌜ at + 54 ≤ length (now out) ⌝ }
+    ensures { λ r. ⌜ Puts (now (out .entry)) at (electedText d (view .0) leader) 54 (now (out .exit)) r ⌝ }
+{
+    let a = put_text(out, at, b"elect ");
+    let b = put_decision(out, a, d);
+    let c = put_text(out, b, b" ");
+    let e = put_decimal(out, c, view.0 as u64);
+    let g = put_text(out, e, b" ");
+    put_decimal(out, g, leader as u64)
+}
+
 fn put_answer(out: &mut [u8], at: usize, answer: Answer) -> usize
     requires { ⌜ at + 83 ≤ length (now out) ⌝ }
     ensures { λ r. ⌜ Puts (now (out .entry)) at (answerText answer) 83 (now (out .exit)) r ⌝ }
@@ -157,13 +180,11 @@ fn put_answer(out: &mut [u8], at: usize, answer: Answer) -> usize
             let a = put_text(out, at, b"decided ");
             put_decision(out, a, d)
         }
-        Answer::Logged(d) => {
-            let a = put_text(out, at, b"logged ");
-            put_decision(out, a, d)
-        }
+        Answer::Logged(d, v) => put_logged(out, at, d, v),
         Answer::Done => put_text(out, at, b"done"),
         Answer::Found(committed, undecided) => put_found(out, at, committed, undecided),
         Answer::Refused(why) => put_refusal(out, at, why),
+        Answer::Elected(d, v, leader) => put_elected(out, at, d, v, leader),
     }
 }
 

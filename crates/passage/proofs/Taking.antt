@@ -21,10 +21,11 @@ use Rattle.rules.specs.Lists.{decisionOf, meets, forProof, kindOf}
 use Rattle.rules.specs.declared.Told.{Told}
 use Rattle.rules.specs.Table.{Box, Entry, find, put}
 use Rattle.rules.specs.Calls.{Act, keep, refuse, castAct, logAct, decideAct, lookAct, needing, roomFor, isFull, sameDecision, dcSame, dcOther, dcByEntry, dcRule}
+use Rattle.rules.specs.Fallback.{electAct}
 use Rattle.rules.specs.Act.{EntryPoint, tableAfter, boxAfter, after, rule, dueAct, markedAct, markBy, act}
 use Rattle.rules.specs.System.{Event, toldAt, boxAt, answerTo}
 use Rattle.rules.proofs.Laws.{pick-elim, pick-true, sameBody-eq, sameDecision-eq, find-in, find-put-same}
-use Rattle.rules.proofs.Moves.{some-eq, un-settled, Prior, Move, quiet, looks, again, casts, logs-first, decides, replaces}
+use Rattle.rules.proofs.Moves.{some-eq, un-settled, Prior, Move, quiet, looks, again, casts, logs-first, decides, replaces, takes, elects}
 use Rattle.rules.proofs.Deeds.{guarded-elim}
 use Rattle.rules.proofs.Kept.{put-cases}
 use Rattle.rules.proofs.Trace.{table, Step, still, arrives, step}
@@ -52,12 +53,14 @@ open-there p e d q = un-settled (p .undecided e (sym (p .at) ∙ q)) d
 
 stays : {f : ℕ} {x : Box} {way : EntryPoint} {m : List ℕ} {b : Body} {a : Act} → Move f x way m b a → (c : Body) (e : Entry)
     → find (stampOf c) x.table ≡ some e → e.decided ≡ settled commit → find (stampOf c) (tableAfter x.table (a .change)) ≡ some e
-unfolding castAct logAct decideAct lookAct tableAfter
+unfolding castAct logAct electAct decideAct lookAct tableAfter
 stays (quiet n) c e h d = h
 stays (looks k s) c e h d = h
 stays (again w o p g n) c e h d = h
 stays {x = x} (casts v o p n r cl) c e h d = put-stays x.table _ c e h (open-there p e d)
 stays {x = x} (logs-first l o w k y p n) c e h d = put-stays x.table _ c e h (open-there p e d)
+stays {x = x} (takes l o w k p u v) c e h d = put-stays x.table _ c e h (open-there p e d)
+stays {x = x} (elects told v y s u p k n) c e h d = put-stays x.table _ c e h (open-there p e d)
 stays {x = x} (decides l o w p) c e h d = put-stays x.table _ c e h (open-there p e d)
 stays {x = x} (replaces l o w p g) c e h d = put-stays x.table _ c e h (λ q. p .not-committed (rw (some-eq (p .at) q) d))
 

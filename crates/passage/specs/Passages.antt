@@ -7,7 +7,7 @@ use Rattle.terms.specs.declared.Key.{Key}
 use Rattle.terms.specs.Refusals.{numberOf, refusalOf}
 use Rattle.rules.specs.declared.Version.{Version}
 use Rattle.rules.specs.declared.Answer.{Answer}
-use Rattle.rules.specs.declared.Answer.the-variants.{Voted, Decided, Logged, Done, Found, Refused as Unanswered}
+use Rattle.rules.specs.declared.Answer.the-variants.{Voted, Decided, Logged, Done, Found, Refused as Unanswered, Elected}
 use Rattle.passage.specs.declared.Values.{Values}
 use Rattle.passage.specs.declared.Seen.{Seen}
 use Rattle.passage.specs.declared.Sight.{Sight}
@@ -104,7 +104,8 @@ noVersion = record { stamp = record { 0 = 0 }; value = 0 }
 abbrev pub half : Answer → Version
 half (Voted v) = noVersion
 half (Decided d) = noVersion
-half (Logged d) = noVersion
+half (Logged d v) = noVersion
+half (Elected d v l) = noVersion
 half Done = noVersion
 half (Found committed undecided) = committed
 half (Unanswered r) = noVersion
@@ -113,7 +114,8 @@ half (Unanswered r) = noVersion
 abbrev pub unfound : Answer → ℕ
 unfound (Voted v) = mark
 unfound (Decided d) = mark
-unfound (Logged d) = mark
+unfound (Logged d v) = mark
+unfound (Elected d v l) = mark
 unfound Done = mark
 unfound (Found committed undecided) = 0
 unfound (Unanswered r) = numberOf r

@@ -234,10 +234,11 @@ fn half(a: Answer) -> Version
     match a {
         Answer::Voted(_) => NO_VERSION,
         Answer::Decided(_) => NO_VERSION,
-        Answer::Logged(_) => NO_VERSION,
+        Answer::Logged(_, _) => NO_VERSION,
         Answer::Done => NO_VERSION,
         Answer::Found(committed, _) => committed,
         Answer::Refused(_) => NO_VERSION,
+        Answer::Elected(_, _, _) => NO_VERSION,
     }
 }
 
@@ -248,10 +249,11 @@ fn unfound(a: Answer) -> u8
     match a {
         Answer::Voted(_) => terms::MARK,
         Answer::Decided(_) => terms::MARK,
-        Answer::Logged(_) => terms::MARK,
+        Answer::Logged(_, _) => terms::MARK,
         Answer::Done => terms::MARK,
         Answer::Found(_, _) => 0,
         Answer::Refused(r) => r.number(),
+        Answer::Elected(_, _, _) => terms::MARK,
     }
 }
 

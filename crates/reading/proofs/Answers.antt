@@ -11,20 +11,25 @@ use Rattle.terms.proofs.Checks.{pass, stop, together}
 use Rattle.terms.specs.declared.Key.{Key}
 use Rattle.terms.specs.declared.Stamp.{Stamp}
 use Rattle.records.specs.declared.Mark.{Mark}
-use Rattle.records.specs.declared.Mark.the-variants.{PR, LG, DC, RD}
+use Rattle.records.specs.declared.Mark.the-variants.{PR, LG, DC, RD, IV, LD}
+use Rattle.records.specs.declared.ViewMark.{ViewMark}
+use Rattle.records.specs.declared.ViewMark.the-variants.{VS, EL}
 use Rattle.records.specs.declared.Marked.{Marked}
 use Rattle.records.specs.declared.Transaction.{Transaction}
 use Rattle.records.specs.declared.VoteList.{VoteList}
+use Rattle.records.specs.declared.ViewList.{ViewList}
 use Rattle.records.specs.declared.Reading.{Reading}
 use Rattle.records.specs.declared.TxReading.{TxReading}
 use Rattle.records.specs.Tx.{Tx, txOf, txIn, heldTx, noTx}
 use Rattle.records.specs.Vl.{Vl, vlOf, listIn, heldList, noList, viewOf}
-use Rattle.records.specs.Contents.{txWrong, listWrong, rdWrong}
-use Rattle.records.specs.Cutting.{txPart, vlPart}
-use Rattle.records.specs.Messages.{listBehind, txReadingBy, vlReadingBy, refusedReading, messageTx, messageList, messageKey, messageStamp, contentsWrong, dueRefusal, readingBy, readDue, readMarked, readingAfter}
-use Rattle.records.proofs.Held.{tx-in, list-in, own-view}
+use Rattle.records.specs.Views.{Views, viewsOf, viewsIn, heldViews, noViews, OwnViews}
+use Rattle.records.specs.Contents.{txWrong, listWrong, logListWrong, viewsWrong, rdWrong}
+use Rattle.records.specs.Cutting.{carrier, txPart, listPart}
+use Rattle.records.specs.Messages.{listBehind, viewsBehind, txReadingBy, vlReadingBy, viewsReadingBy, refusedReading, messageTx, messageList, messageViews, messageKey, messageStamp, contentsWrong, dueRefusal, readingBy, readDue, readMarked, readingAfter}
+use Rattle.records.proofs.Held.{tx-in, list-in, own-view, views-in, own-views}
 use Rattle.records.proofs.Mark as M
-use Rattle.reading.specs.Judging.{txReadingOf, vlReadingOf, readingOf, early, listWrongIn, judgedBy}
+use Rattle.reading.specs.Judging.{txReadingOf, vlReadingOf, viewsReadingOf, noLists, listAlone, viewsAlone, readingOf, early, listWrongIn, judgedBy}
+use Rattle.reading.specs.declared.Lists.{Lists}
 use Rattle.reading.proofs.Cuts.{Listed, by-list}
 
 -- a refusal has its number only
@@ -38,12 +43,17 @@ unfolding vlReadingOf
 vl-refused zero l none h e = absurd (h refl)
 vl-refused (suc n) l none h e = rw e
 
-pub reading-refused : (n : ℕ) (k : Mark) (t : Transaction) (l : VoteList) (key : Key) (s : Stamp) → (n ≡ 0 → ⊥) → refusedReading n ≡ readingOf n k t l key s
+pub views-refused : (n : ℕ) (l none : ViewList) → (n ≡ 0 → ⊥) → none ≡ heldViews noViews → record { wrong = n; views = none } ≡ viewsReadingOf n l
+unfolding viewsReadingOf
+views-refused zero l none h e = absurd (h refl)
+views-refused (suc n) l none h e = rw e
+
+pub reading-refused : (n : ℕ) (k : Mark) (t : Transaction) (l : Lists) (key : Key) (s : Stamp) → (n ≡ 0 → ⊥) → refusedReading n ≡ readingOf n k t l key s
 unfolding readingOf
 reading-refused zero k t l key s h = absurd (h refl)
 reading-refused (suc n) k t l key s h = refl
 
--- a TX and a VL by themselves
+-- a TX, a VL, a VS and an EL by themselves
 pub tx-none : (n N : ℕ) (x : Tx) (t : Transaction) → n ≡ N → (n ≡ 0 → ⊥) → txReadingOf n t ≡ txReadingBy N x
 unfolding txReadingOf txReadingBy
 tx-none zero N x t p h = absurd (h refl)
@@ -64,12 +74,25 @@ unfolding vlReadingOf vlReadingBy
 vl-by zero N x l p e = rw (← p, e)
 vl-by (suc n) N x l p e = rw (← p)
 
+pub views-none : (n N : ℕ) (x : Views) (l : ViewList) → n ≡ N → (n ≡ 0 → ⊥) → viewsReadingOf n l ≡ viewsReadingBy N x
+unfolding viewsReadingOf viewsReadingBy
+views-none zero N x l p h = absurd (h refl)
+views-none (suc n) N x l p h = rw (← p)
+
+pub views-by : (n N : ℕ) (x : Views) (l : ViewList) → n ≡ N → l ≡ heldViews x → viewsReadingOf n l ≡ viewsReadingBy N x
+unfolding viewsReadingOf viewsReadingBy
+views-by zero N x l p e = rw (← p, e)
+views-by (suc n) N x l p e = rw (← p)
+
 -- the check of a struct is the check of what it was read from
 pub wrong-tx : (x : Tx) (t : Transaction) (n : ℕ) → t ≡ heldTx x → n ≡ txWrong (txIn t) → n ≡ txWrong x
 wrong-tx x t n a p = p ∙ ap (λ (y : Transaction). txWrong (txIn y)) a ∙ ap txWrong (tx-in x)
 
 pub wrong-list : (W : Vl → ℕ) (l : Vl) (v : VoteList) (n : ℕ) → viewOf (l .kind) (l .view) ≡ l .view → v ≡ heldList l → n ≡ W (listIn v) → n ≡ W l
 wrong-list W l v n h a p = p ∙ ap (λ (y : VoteList). W (listIn y)) a ∙ ap W (list-in l h)
+
+pub wrong-views : (k : ViewMark) (f : ℕ) (x : Views) (v : ViewList) (n : ℕ) → OwnViews k x → v ≡ heldViews x → n ≡ viewsWrong k f (viewsIn k v) → n ≡ viewsWrong k f x
+wrong-views k f x v n h a p = p ∙ ap (λ (y : ViewList). viewsWrong k f (viewsIn k y)) a ∙ ap (viewsWrong k f) (views-in k x h)
 
 pub rd-same : {k s x y : ℕ} → k ≡ x → s ≡ y → rdWrong k s ≡ rdWrong x y
 rd-same p q = cc
@@ -80,44 +103,79 @@ tx-at p q = rw p at q
 pub list-at : {s t : List ℕ} {v : VoteList} → s ≡ t → v ≡ heldList (vlOf s) → v ≡ heldList (vlOf t)
 list-at p q = rw p at q
 
+pub views-at : (k : ViewMark) {s t : List ℕ} {v : ViewList} → s ≡ t → v ≡ heldViews (viewsOf k s) → v ≡ heldViews (viewsOf k t)
+views-at k p q = rw p at q
+
 -- a message: its fields are what its mark says
+abbrev pub messageLists : Mark → List ℕ → Lists
+messageLists k m = record { list = heldList (messageList k m); views = heldViews (messageViews k m) }
+
 module _ (k : Mark) (m : List ℕ) where
-  pub reading-by : (n N : ℕ) (t : Transaction) (l : VoteList) (key : Key) (s : Stamp) → n ≡ N → t ≡ heldTx (messageTx k m) → l ≡ heldList (messageList k m)
+  pub reading-by : (n N : ℕ) (t : Transaction) (l : Lists) (key : Key) (s : Stamp) → n ≡ N → t ≡ heldTx (messageTx k m) → l ≡ messageLists k m
       → key ≡ record { 0 = messageKey k m } → s ≡ record { 0 = messageStamp k m } → readingOf n k t l key s ≡ readingBy N k m
   unfolding readingOf readingBy
   reading-by zero N t l key s p a b c d = rw (← p, a, b, c, d)
   reading-by (suc n) N t l key s p a b c d = rw (← p)
 
 -- the list of another message than an LG
-pub other-list : (k : Mark) (f : ℕ) (l : Vl) → OneOf (0 ∷ 2 ∷ 3 ∷ []) (tagOf M.the-type k) → listWrong f l ≡ listWrongIn k f l
+pub other-list : (k : Mark) (f : ℕ) (l : Lists) → OneOf (0 ∷ 2 ∷ 3 ∷ []) (tagOf M.the-type k) → listWrong f (listIn (l .list)) ≡ listWrongIn k f l
 other-list PR f l h = refl
 other-list LG f l h = absurd (elim h [ inl e ↦ omega arith | inr r ↦ elim r [ inl e ↦ omega arith | inr e ↦ omega arith ] ])
 other-list DC f l h = refl
 other-list RD f l h = refl
+other-list IV f l h = absurd (elim h [ inl e ↦ omega arith | inr r ↦ elim r [ inl e ↦ omega arith | inr e ↦ omega arith ] ])
+other-list LD f l h = absurd (elim h [ inl e ↦ omega arith | inr r ↦ elim r [ inl e ↦ omega arith | inr e ↦ omega arith ] ])
 
--- judged with the list behind it: the transaction's refusal, then the list's
-pub judged-at : (k : Mark) (f : ℕ) (r r′ : TxReading) (l l′ : VoteList) → r ≡ r′ → l ≡ l′ → judgedBy r k f l ≡ judgedBy r′ k f l′
-judged-at k f r r′ l l′ p q = ap (λ (y : TxReading). judgedBy y k f l) p ∙ ap (λ (y : VoteList). judgedBy r′ k f y) q
+-- judged with what stands behind it: the transaction's refusal, then that one's
+pub judged-at : (k : Mark) (f : ℕ) (r r′ : TxReading) (l l′ : Lists) → r ≡ r′ → l ≡ l′ → judgedBy r k f l ≡ judgedBy r′ k f l′
+judged-at k f r r′ l l′ p q = ap (λ (y : TxReading). judgedBy y k f l) p ∙ ap (λ (y : Lists). judgedBy r′ k f y) q
 
--- the view of the list behind a transaction is that of its kind
+-- of what is none, few
+pub list-few : {l : VoteList} → l ≡ heldList noList → l .count ≤ 26
+unfolding heldList noList
+list-few p = rw p (omega arith)
+
+pub views-few : {l : ViewList} → l ≡ heldViews noViews → l .count ≤ 26
+unfolding heldViews noViews
+views-few p = rw p (omega arith)
+
+pub list-alone : {l : VoteList} {v : ViewList} (x : Vl) → l ≡ heldList x → v ≡ heldViews noViews → record { list = l; views = v } ≡ listAlone x
+unfolding listAlone
+list-alone x p q = rw (p, q)
+
+pub views-alone : {l : VoteList} {v : ViewList} (x : Views) → l ≡ heldList noList → v ≡ heldViews x → record { list = l; views = v } ≡ viewsAlone x
+unfolding viewsAlone
+views-alone x p q = rw (p, q)
+
+-- the view of the list behind a transaction is that of its kind; the views are all told
 pub behind-view : (m : List ℕ) → viewOf (listBehind m .kind) (listBehind m .view) ≡ listBehind m .view
 unfolding listBehind
-behind-view m = own-view (vlPart m)
+behind-view m = own-view (listPart m)
 
-pub judged-is : (k : Mark) (m : List ℕ) (N f : ℕ) (x : Tx) (l : Vl) → viewOf (l .kind) (l .view) ≡ l .view → x ≡ messageTx k m → l ≡ messageList k m → 0 ≡ messageKey k m → 0 ≡ messageStamp k m
-    → judgedBy (txReadingBy N x) k f (heldList l) ≡ readingBy (orElse N (listWrongIn k f l)) k m
+pub behind-own : (k : ViewMark) (m : List ℕ) → OwnViews k (viewsBehind k m)
+unfolding viewsBehind
+behind-own k m = own-views k (listPart m)
+
+judged-is : (k : Mark) (m : List ℕ) (N f : ℕ) (x : Tx) (l : Lists) (n : ℕ) → x ≡ messageTx k m → l ≡ messageLists k m → 0 ≡ messageKey k m → 0 ≡ messageStamp k m → listWrongIn k f l ≡ n
+    → judgedBy (txReadingBy N x) k f l ≡ readingBy (orElse N n) k m
 unfolding txReadingBy orElse readingBy
-judged-is k m zero f x l v a b c d =
-    reading-by k m _ _ _ _ _ _ (ap (listWrongIn k f) (list-in l v)) (ap heldTx a) (ap heldList b) (ap (λ (n : ℕ). record { 0 = n }) c) (ap (λ (n : ℕ). record { 0 = n }) d)
-judged-is k m (suc N) f x l v a b c d = refl
+judged-is k m zero f x l n a b c d e =
+    reading-by k m _ _ _ _ _ _ e (ap heldTx a) b (ap (λ (n : ℕ). record { 0 = n }) c) (ap (λ (n : ℕ). record { 0 = n }) d)
+judged-is k m (suc N) f x l n a b c d e = refl
 
 pub listed-read : (f : ℕ) (m : List ℕ) (k : Mark) → Listed k
-    → judgedBy (txReadingBy (txWrong (txOf (txPart m))) (txOf (txPart m))) k f (heldList (listBehind m)) ≡ readingBy (contentsWrong k f m) k m
-unfolding contentsWrong messageTx messageList messageKey messageStamp
+    → judgedBy (txReadingBy (txWrong (txOf (txPart m))) (txOf (txPart m))) k f (listAlone (listBehind m)) ≡ readingBy (contentsWrong k f m) k m
+unfolding contentsWrong messageTx messageList messageViews messageKey messageStamp listAlone
 listed-read f m =
-    by-list (λ (k : Mark). judgedBy (txReadingBy (txWrong (txOf (txPart m))) (txOf (txPart m))) k f (heldList (listBehind m)) ≡ readingBy (contentsWrong k f m) k m)
-    (judged-is LG m _ f _ _ (behind-view m) refl refl refl refl)
-    (judged-is DC m _ f _ _ (behind-view m) refl refl refl refl)
+    by-list (λ (k : Mark). judgedBy (txReadingBy (txWrong (txOf (txPart m))) (txOf (txPart m))) k f (listAlone (listBehind m)) ≡ readingBy (contentsWrong k f m) k m)
+    (judged-is LG m _ f _ _ _ refl refl refl refl (ap (logListWrong f) (list-in _ (behind-view m))))
+    (judged-is DC m _ f _ _ _ refl refl refl refl (ap (listWrong f) (list-in _ (behind-view m))))
+
+pub viewed-read : (f : ℕ) (m : List ℕ) (k : ViewMark)
+    → judgedBy (txReadingBy (txWrong (txOf (txPart m))) (txOf (txPart m))) (carrier k) f (viewsAlone (viewsBehind k m)) ≡ readingBy (contentsWrong (carrier k) f m) (carrier k) m
+unfolding contentsWrong messageTx messageList messageViews messageKey messageStamp viewsAlone
+viewed-read f m VS = judged-is IV m _ f _ _ _ refl refl refl refl (ap (viewsWrong VS f) (views-in VS _ (behind-own VS m)))
+viewed-read f m EL = judged-is LD m _ f _ _ _ refl refl refl refl (ap (viewsWrong EL f) (views-in EL _ (behind-own EL m)))
 
 -- the chain of a message's refusals, and where its contents are all that is left
 module _ (k : Mark) (f : ℕ) (m : List ℕ) where

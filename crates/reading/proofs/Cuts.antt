@@ -14,11 +14,14 @@ use Rattle.terms.specs.Group.{groupWrong, largestF}
 use Rattle.terms.proofs.Checks.{first-none, rest-none, not-less}
 use Rattle.terms.proofs.Groups.{group-small}
 use Rattle.records.specs.declared.Mark.{Mark}
-use Rattle.records.specs.declared.Mark.the-variants.{PR, LG, DC, RD}
+use Rattle.records.specs.declared.Mark.the-variants.{PR, LG, DC, RD, IV, LD}
+use Rattle.records.specs.declared.ViewMark.{ViewMark}
+use Rattle.records.specs.declared.ViewMark.the-variants.{VS, EL}
 use Rattle.records.specs.Tx.{rCount, wCount, txLen, TxThere}
 use Rattle.records.specs.Vl.{vlCount, vlLen, VlThere}
+use Rattle.records.specs.Views.{ballotsFrom, viewsCount, viewsLen, ViewsThere}
 use Rattle.records.specs.Contents.{countsWrong, countWrong}
-use Rattle.records.specs.Cutting.{markBytes, markWrong, txCut, vlCut, behindWrong, behindMark, txPart, vlPart, listedCut, restCut, messageCut, listedLen, messageLen, rdLen}
+use Rattle.records.specs.Cutting.{markBytes, markWrong, txCut, vlCut, viewsCut, behindWrong, behindMark, carrier, txPart, listPart, listedCut, viewedCut, restCut, messageCut, listedLen, viewedLen, messageLen, rdLen}
 use Rattle.records.proofs.Mark as M
 use Rattle.reading.specs.Judging.{early}
 
@@ -45,15 +48,35 @@ tx-there s x p z =
     let f : (rCount s ≤ 8) × (wCount s ≤ 8) = few _ _ (first-none _ _ b) in
     (f .0, f .1, not-less _ _ _ (rest-none _ _ b))
 
+-- a list: its mark, the bytes up to its count, the count, the rest
+module _ (m l n c w x : ℕ) (p : x ≡ orElse m (orElse (ifLess l n short) (orElse (countWrong c) (ifLess l w short)))) (z : x ≡ 0) where
+  fixed-there : n ≤ l
+  fixed-there = not-less _ _ _ (first-none _ _ (rest-none _ _ (sym p ∙ z)))
+
+  all-there : (c ≤ 26) × (w ≤ l)
+  all-there =
+      let b : orElse (countWrong c) (ifLess l w short) ≡ 0 = rest-none _ _ (rest-none _ _ (sym p ∙ z)) in
+      (few-pairs _ (first-none _ _ b), not-less _ _ _ (rest-none _ _ b))
+
 pub vl-long : (s : List ℕ) (x : ℕ) → x ≡ vlCut s → x ≡ 0 → 5 ≤ length s
 unfolding vlCut
-vl-long s x p z = not-less _ _ _ (first-none _ _ (rest-none _ _ (sym p ∙ z)))
+vl-long s x p z = fixed-there _ _ _ _ _ x p z
 
 pub vl-there : (s : List ℕ) (x : ℕ) → x ≡ vlCut s → x ≡ 0 → VlThere s
 unfolding vlCut
-vl-there s x p z =
-    let b : orElse (countWrong (vlCount s)) (ifLess (length s) (vlLen s) short) ≡ 0 = rest-none _ _ (rest-none _ _ (sym p ∙ z)) in
-    (few-pairs _ (first-none _ _ b), not-less _ _ _ (rest-none _ _ b))
+vl-there s x p z = all-there _ _ _ _ _ x p z
+
+pub views-long : (k : ViewMark) (s : List ℕ) (x : ℕ) → x ≡ viewsCut k s → x ≡ 0 → ballotsFrom k ≤ length s
+unfolding viewsCut
+views-long k s x p z = fixed-there _ _ _ _ _ x p z
+
+pub views-there : (k : ViewMark) (s : List ℕ) (x : ℕ) → x ≡ viewsCut k s → x ≡ 0 → ViewsThere k s
+unfolding viewsCut
+views-there k s x p z = all-there _ _ _ _ _ x p z
+
+pub views-short : (k : ViewMark) (s : List ℕ) → viewsCount k s ≤ 26 → viewsLen k s ≤ 111
+views-short VS s h = omega arith
+views-short EL s h = omega arith
 
 -- the front of a TX that is there has the same counts, and is there
 pub front-there : (s : List ℕ) → TxThere s → TxThere (take (txLen s) s)
@@ -91,13 +114,18 @@ by-list P a b PR h = absurd (elim h [ inl e ↦ omega arith | inr e ↦ omega ar
 by-list P a b LG h = a
 by-list P a b DC h = b
 by-list P a b RD h = absurd (elim h [ inl e ↦ omega arith | inr e ↦ omega arith ])
+by-list P a b IV h = absurd (elim h [ inl e ↦ omega arith | inr e ↦ omega arith ])
+by-list P a b LD h = absurd (elim h [ inl e ↦ omega arith | inr e ↦ omega arith ])
 
 -- the whole messages
 abbrev pub TxCut : List ℕ → Type 0
 TxCut m = (2 ≤ length m) × (txCut (behindMark m) ≡ 0)
 
 abbrev pub ListedCut : List ℕ → Type 0
-ListedCut m = (2 ≤ length m) × (txCut (behindMark m) ≡ 0) × (vlCut (vlPart m) ≡ 0)
+ListedCut m = (2 ≤ length m) × (txCut (behindMark m) ≡ 0) × (vlCut (listPart m) ≡ 0)
+
+abbrev pub ViewedCut : ViewMark → List ℕ → Type 0
+ViewedCut k m = (2 ≤ length m) × (txCut (behindMark m) ≡ 0) × (viewsCut k (listPart m) ≡ 0)
 
 pub message-long : (k : Mark) (m : List ℕ) → messageCut k m ≡ 0 → 2 ≤ length m
 unfolding messageCut
@@ -134,6 +162,23 @@ pub listed-long : (m : List ℕ) (k : Mark) → Listed k → listedLen m ≡ mes
 unfolding messageLen
 listed-long m = by-list (λ (k : Mark). listedLen m ≡ messageLen k m) refl refl
 
+-- an IV or an LD
+pub viewed-rest : (k : ViewMark) (m : List ℕ) → viewedCut k m ≡ restCut (carrier k) m
+unfolding restCut
+viewed-rest VS m = refl
+viewed-rest EL m = refl
+
+pub viewed-long : (k : ViewMark) (m : List ℕ) → viewedLen k m ≡ messageLen (carrier k) m
+unfolding messageLen
+viewed-long VS m = refl
+viewed-long EL m = refl
+
+pub viewed-cuts : (k : ViewMark) (m : List ℕ) → messageCut (carrier k) m ≡ 0 → ViewedCut k m
+unfolding viewedCut
+viewed-cuts k m z =
+    let c : viewedCut k m ≡ 0 = viewed-rest k m ∙ rest-cut (carrier k) m z in
+    (message-long (carrier k) m z, first-none _ _ c, rest-none _ _ c)
+
 pub rd-long : (m : List ℕ) → messageCut RD m ≡ 0 → rdLen ≤ length m
 unfolding restCut
 rd-long m z = not-less _ _ _ (rest-cut RD m z)
@@ -152,8 +197,8 @@ module _ (k : Mark) (f : ℕ) (m : List ℕ) (z : early k f m ≡ 0) where
 pub counts-same : {a b x y : ℕ} → a ≡ x → b ≡ y → countsWrong a b ≡ countsWrong x y
 counts-same p q = cc
 
-pub rest-is : (m s : List ℕ) (n : ℕ) → s ≡ behindMark m → n ≡ txLen s → drop n s ≡ vlPart m
-unfolding vlPart
+pub rest-is : (m s : List ℕ) (n : ℕ) → s ≡ behindMark m → n ≡ txLen s → drop n s ≡ listPart m
+unfolding listPart
 rest-is m s n p q = rw (q, p)
 
 pub behind-at : (s : List ℕ) {n k : ℕ} → n ≡ k → behindWrong n s ≡ behindWrong k s

@@ -8,16 +8,19 @@ use lib.ListN.{length}
 use Rattle.terms.specs.Group.{groupWrong}
 use Rattle.terms.proofs.Checks.{first-none, rest-none, not-less}
 use Rattle.records.specs.declared.Mark.{Mark}
-use Rattle.records.specs.declared.Mark.the-variants.{PR, LG, DC, RD}
+use Rattle.records.specs.declared.Mark.the-variants.{PR, LG, DC, RD, IV, LD}
+use Rattle.records.specs.declared.ViewMark.{ViewMark}
+use Rattle.records.specs.declared.ViewMark.the-variants.{VS, EL}
 use Rattle.records.specs.declared.Marked.the-variants.{Is, Refused}
 use Rattle.records.specs.declared.Reading.{Reading}
 use Rattle.records.specs.Tx.{heldTx}
 use Rattle.records.specs.Vl.{heldList}
+use Rattle.records.specs.Views.{heldViews}
 use Rattle.records.specs.Contents.{largestKey, rdWrong}
-use Rattle.records.specs.Cutting.{messageCut, rdLen}
-use Rattle.records.specs.Messages.{listBehind, rdKey, rdStamp, messageTx, messageList, messageKey, messageStamp, contentsWrong, dueRefusal, readingBy, refusedReading, readDue}
+use Rattle.records.specs.Cutting.{carrier, messageCut, rdLen}
+use Rattle.records.specs.Messages.{listBehind, viewsBehind, rdKey, rdStamp, messageTx, messageList, messageViews, messageKey, messageStamp, contentsWrong, dueRefusal, readingBy, refusedReading, readDue}
 use Rattle.reading.specs.Judging.{hasTx}
-use Rattle.reading.proofs.Cuts.{Listed, by-list, TxCut, ListedCut, pr-cuts, lg-cuts, dc-cuts, listed-cuts, rd-long}
+use Rattle.reading.proofs.Cuts.{Listed, by-list, TxCut, ListedCut, ViewedCut, pr-cuts, lg-cuts, dc-cuts, listed-cuts, viewed-cuts, rd-long}
 
 -- each check of a message that is not refused passed
 module _ (k : Mark) (f : ℕ) (m : List ℕ) (z : dueRefusal k f m ≡ 0) where
@@ -47,6 +50,9 @@ module _ (f : ℕ) (m : List ℕ) where
   pub listed-due : (k : Mark) → Listed k → dueRefusal k f m ≡ 0 → ListedCut m
   listed-due k h z = listed-cuts m k h (due-cut k f m z)
 
+  pub viewed-due : (k : ViewMark) → dueRefusal (carrier k) f m ≡ 0 → ViewedCut k m
+  viewed-due k z = viewed-cuts k m (due-cut (carrier k) f m z)
+
   pub rd-due : dueRefusal RD f m ≡ 0 → (rdLen ≤ length m) × (rdKey m ≤ largestKey)
   unfolding contentsWrong rdWrong
   rd-due z = (rd-long m (due-cut RD f m z), not-less _ _ _ (first-none _ _ (due-contents RD f m z)))
@@ -57,6 +63,8 @@ module _ (f : ℕ) (m : List ℕ) where
   tx-due LG h z = let c = lg-due z in (c .0, c .1)
   tx-due DC h z = let c = dc-due z in (c .0, c .1)
   tx-due RD h z = absurd (let z : _≡_ {A = ℕ} 0 1 = cc in omega arith)
+  tx-due IV h z = let c = viewed-due VS z in (c .0, c .1)
+  tx-due LD h z = let c = viewed-due EL z in (c .0, c .1)
 
 -- what was found tells which
 found-is : (N : ℕ) (k k′ : Mark) (m : List ℕ) → readingBy N k m .found ≡ Is k′ → (N ≡ 0) × (k′ ≡ k)
@@ -92,6 +100,10 @@ module _ (k : Mark) (f : ℕ) (m : List ℕ) (r : Reading) (e : r ≡ readDue k 
     unfolding readDue readingBy
     read-list = ap (λ (y : Reading). y .list) e ∙ (rw z)
 
+    pub read-views : r .views ≡ heldViews (messageViews k m)
+    unfolding readDue readingBy
+    read-views = ap (λ (y : Reading). y .views) e ∙ (rw z)
+
     pub read-key : r .key .0 ≡ messageKey k m
     unfolding readDue readingBy
     read-key = ap (λ (y : Reading). y .key .0) e ∙ (rw z)
@@ -111,6 +123,11 @@ module _ (f : ℕ) (m : List ℕ) (r : Reading) where
 
   pub listed-list : (k : Mark) → Listed k → r ≡ readDue k f m → dueRefusal k f m ≡ 0 → r .list ≡ heldList (listBehind m)
   listed-list = by-list (λ (k : Mark). r ≡ readDue k f m → dueRefusal k f m ≡ 0 → r .list ≡ heldList (listBehind m)) lg-list dc-list
+
+  pub viewed-views : (k : ViewMark) → r ≡ readDue (carrier k) f m → dueRefusal (carrier k) f m ≡ 0 → r .views ≡ heldViews (viewsBehind k m)
+  unfolding messageViews
+  viewed-views VS e z = read-views IV f m r e z
+  viewed-views EL e z = read-views LD f m r e z
 
   pub rd-key : r ≡ readDue RD f m → dueRefusal RD f m ≡ 0 → r .key .0 ≡ rdKey m
   unfolding messageKey

@@ -9,7 +9,7 @@ use borrow.Author.Tests.{lt-ltb, le-ltb}
 use Rattle.terms.specs.Checks.{short, mark}
 use Rattle.terms.specs.Group.{groupWrong}
 use Rattle.records.specs.declared.Mark.{Mark}
-use Rattle.records.specs.declared.Mark.the-variants.{PR, LG, DC, RD}
+use Rattle.records.specs.declared.Mark.the-variants.{PR, LG, DC, RD, IV, LD}
 use Rattle.records.specs.declared.Marked.{Marked}
 use Rattle.records.specs.declared.Marked.the-variants.{Is, Refused}
 use Rattle.records.specs.declared.Reading.{Reading}
@@ -19,13 +19,13 @@ use Rattle.reading.specs.Judging.{markedOr, hasTx}
 use Rattle.reading.proofs.Cuts.{TxCut}
 use Rattle.reading.proofs.Due.{tx-due, read-is}
 
--- the mark: none, or the first of the four that it is
+-- the mark: none, or the first of the six that it is
 module _ (m : List ℕ) where
   pub no-mark : length m < 2 → Refused short ≡ markOf m
   unfolding markOf
   no-mark l = rw (lt-ltb (length m) 2 l)
 
-  pub mark-is : 2 ≤ length m → markedOr PR (markedOr LG (markedOr DC (markedOr RD (Refused mark) m) m) m) m ≡ markOf m
+  pub mark-is : 2 ≤ length m → markedOr PR (markedOr LG (markedOr DC (markedOr RD (markedOr IV (markedOr LD (Refused mark) m) m) m) m) m) m ≡ markOf m
   unfolding markOf markedOr
   mark-is l = rw (le-ltb (length m) 2 l)
 
@@ -52,6 +52,8 @@ handed-some (Is PR) s h = refl
 handed-some (Is LG) s h = refl
 handed-some (Is DC) s h = refl
 handed-some (Is RD) s h = absurd (let z : _≡_ {A = ℕ} 0 1 = cc in omega arith)
+handed-some (Is IV) s h = refl
+handed-some (Is LD) s h = refl
 handed-some (Refused n) s h = absurd (let z : _≡_ {A = ℕ} 0 1 = cc in omega arith)
 
 handed-none : (w : Marked) (s : List ℕ) → hasTx w ≡ false → [] ≡ handedBy w s
@@ -60,6 +62,8 @@ handed-none (Is PR) s h = absurd (let z : _≡_ {A = ℕ} 0 1 = cc in omega arit
 handed-none (Is LG) s h = absurd (let z : _≡_ {A = ℕ} 0 1 = cc in omega arith)
 handed-none (Is DC) s h = absurd (let z : _≡_ {A = ℕ} 0 1 = cc in omega arith)
 handed-none (Is RD) s h = refl
+handed-none (Is IV) s h = absurd (let z : _≡_ {A = ℕ} 0 1 = cc in omega arith)
+handed-none (Is LD) s h = absurd (let z : _≡_ {A = ℕ} 0 1 = cc in omega arith)
 handed-none (Refused n) s h = refl
 
 pub handed-part : (f : ℕ) (m : List ℕ) → hasTx (readMessage f m .found) ≡ true → txPart m ≡ handedBack f m

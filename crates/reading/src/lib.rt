@@ -4,11 +4,13 @@ ghost use Prim.Native.Nat.{_≤_};
 ghost use lib.ListN.{length, drop};
 ghost use Rattle.records.specs.declared.Mark.the-variants.{PR, RD};
 ghost use Rattle.records.specs.Tx.{txOf, heldTx, noTx, TxThere};
-ghost use Rattle.records.specs.Vl.{listIn, heldList, noList};
+ghost use Rattle.records.specs.Vl.{heldList, noList};
+ghost use Rattle.records.specs.Views.{heldViews, noViews};
 ghost use Rattle.records.specs.Contents.{txWrong, rdWrong};
-ghost use Rattle.records.specs.Cutting.{markWrong, txCut, vlCut, behindWrong, behindMark, txPart, vlPart, listedCut, restCut, messageCut, listedLen, messageLen, rdLen};
-ghost use Rattle.records.specs.Messages.{txReadingBy, readTX, readVL, listBehind, rdKey, rdStamp, refusedReading, readingBy, readDue, isMark, markOf, readMarked, readMessage, handedBack};
-ghost use Rattle.reading.specs.Judging.{txReadingOf, vlReadingOf, readingOf, early, readOf, listWrongIn, listedReading, judgedBy, markedOr, hasTx};
+ghost use Rattle.records.specs.Cutting.{markWrong, txCut, vlCut, viewsCut, behindWrong, behindMark, carrier, txPart, listPart, listedCut, viewedCut, restCut, messageCut, listedLen, viewedLen, messageLen, rdLen};
+ghost use Rattle.records.specs.Messages.{txReadingBy, readTX, readVL, readViews, listBehind, viewsBehind, rdKey, rdStamp, refusedReading, readingBy, readDue, isMark, markOf, readMarked, readMessage, handedBack};
+ghost use Rattle.reading.specs.Judging.{txReadingOf, vlReadingOf, viewsReadingOf, noLists, listAlone, viewsAlone, readingOf, early, readOf, listWrongIn, listedReading, judgedBy, markedOr, hasTx};
+use records::Ballot;
 use records::Mark;
 use records::Marked;
 use records::Pair;
@@ -16,6 +18,9 @@ use records::Read;
 use records::Reading;
 use records::Transaction;
 use records::TxReading;
+use records::ViewList;
+use records::ViewMark;
+use records::ViewsReading;
 use records::VlReading;
 use records::VoteList;
 use records::Write;
@@ -75,6 +80,24 @@ pub fn vl_cut(s: &[u8]) -> u8
     )
 }
 
+// A VS or an EL at the front.
+fn views_cut(k: ViewMark, s: &[u8]) -> u8
+    ensures { λ r. ⌜ r ≡ viewsCut k (now (s .entry)) ⌝ }
+{
+    let at = k.count_at();
+    let head = terms::first(
+        mark_wrong(s, &k.bytes()),
+        terms::refuse_if(s.len() < 1 + at, terms::SHORT),
+    );
+    if head != 0 {
+        return head;
+    }
+    terms::first(
+        contents::count_wrong(records::wide(s[at])),
+        terms::refuse_if(s.len() < records::views_len(k, s), terms::SHORT),
+    )
+}
+
 // 4 where bytes stand behind the first n.
 pub fn behind_wrong(s: &[u8], n: usize) -> u8
     ensures { λ r. ⌜ r ≡ behindWrong n (now (s .entry)) ⌝ }
@@ -103,6 +126,19 @@ fn listed_cut(m: &[u8]) -> u8
     vl_cut(behind(s, records::tx_len(s)))
 }
 
+// A TX and a VS behind the mark, or a TX and an EL.
+fn viewed_cut(k: ViewMark, m: &[u8]) -> u8
+    requires { ⌜ 2 ≤ length (now m) ⌝ }
+    ensures { λ r. ⌜ r ≡ viewedCut k (now (m .entry)) ⌝ }
+{
+    let s = behind(m, 2);
+    let cut = tx_cut(s);
+    if cut != 0 {
+        return cut;
+    }
+    views_cut(k, behind(s, records::tx_len(s)))
+}
+
 // What follows the mark.
 fn rest_cut(mark: Mark, m: &[u8]) -> u8
     requires { ⌜ 2 ≤ length (now m) ⌝ }
@@ -112,6 +148,8 @@ fn rest_cut(mark: Mark, m: &[u8]) -> u8
         Mark::PR => tx_cut(behind(m, 2)),
         Mark::LG | Mark::DC => listed_cut(m),
         Mark::RD => terms::refuse_if(m.len() < RD_LEN, terms::SHORT),
+        Mark::IV => viewed_cut(ViewMark::VS, m),
+        Mark::LD => viewed_cut(ViewMark::EL, m),
     }
 }
 
@@ -139,9 +177,9 @@ pub fn tx_part_of(m: &[u8]) -> &[u8]
 }
 
 // What stands behind the TX part.
-pub fn vl_part_of(m: &[u8]) -> &[u8]
+pub fn list_part_of(m: &[u8]) -> &[u8]
     requires { ⌜ (2 ≤ length (now m)) × (txCut (behindMark (now m)) ≡ 0) ⌝ }
-    ensures { λ r. ⌜ now r ≡ vlPart (now (m .entry)) ⌝ }
+    ensures { λ r. ⌜ now r ≡ listPart (now (m .entry)) ⌝ }
 {
     let s = behind(m, 2);
     behind(s, records::tx_len(s))
@@ -149,10 +187,18 @@ pub fn vl_part_of(m: &[u8]) -> &[u8]
 
 // The length of an LG or a DC.
 fn listed_len(m: &[u8]) -> usize
-    requires { ⌜ (2 ≤ length (now m)) × (txCut (behindMark (now m)) ≡ 0) × (vlCut (vlPart (now m)) ≡ 0) ⌝ }
+    requires { ⌜ (2 ≤ length (now m)) × (txCut (behindMark (now m)) ≡ 0) × (vlCut (listPart (now m)) ≡ 0) ⌝ }
     ensures { λ r. ⌜ r ≡ listedLen (now (m .entry)) ⌝ }
 {
-    2 + records::tx_len(behind(m, 2)) + records::vl_len(vl_part_of(m))
+    2 + records::tx_len(behind(m, 2)) + records::vl_len(list_part_of(m))
+}
+
+// The length of an IV or an LD.
+fn viewed_len(k: ViewMark, m: &[u8]) -> usize
+    requires { ⌜ (2 ≤ length (now m)) × (txCut (behindMark (now m)) ≡ 0) × (viewsCut k (listPart (now m)) ≡ 0) ⌝ }
+    ensures { λ r. ⌜ r ≡ viewedLen k (now (m .entry)) ⌝ }
+{
+    2 + records::tx_len(behind(m, 2)) + records::views_len(k, list_part_of(m))
 }
 
 // The length of the message at the front.
@@ -164,6 +210,8 @@ pub fn message_len(mark: Mark, m: &[u8]) -> usize
         Mark::PR => 2 + records::tx_len(behind(m, 2)),
         Mark::LG | Mark::DC => listed_len(m),
         Mark::RD => RD_LEN,
+        Mark::IV => viewed_len(ViewMark::VS, m),
+        Mark::LD => viewed_len(ViewMark::EL, m),
     }
 }
 
@@ -208,15 +256,35 @@ fn no_list() -> VoteList
     }
 }
 
+fn no_views() -> ViewList
+    ensures { λ l. ⌜ l ≡ heldViews noViews ⌝ }
+{
+    let b = Ballot {
+        number: 0,
+        answer: 0,
+        view: View(0),
+    };
+    let ballots = [b; 26];
+    ViewList {
+        leader: 0,
+        decision: 0,
+        view: View(0),
+        count: 0,
+        ballots,
+    }
+}
+
 pub fn refused(n: u8) -> Reading
     ensures { λ r. ⌜ r ≡ refusedReading n ⌝ }
 {
     let tx = no_tx();
     let list = no_list();
+    let views = no_views();
     Reading {
         found: Marked::Refused(n),
         tx,
         list,
+        views,
         key: Key(0),
         stamp: Stamp(0),
     }
@@ -242,23 +310,50 @@ fn vl_reading(wrong: u8, list: VoteList) -> VlReading
     VlReading { wrong, list }
 }
 
+fn views_reading(wrong: u8, views: ViewList) -> ViewsReading
+    ensures { λ r. ⌜ r ≡ viewsReadingOf wrong views ⌝ }
+{
+    if wrong != 0 {
+        let none = no_views();
+        return ViewsReading { wrong, views: none };
+    }
+    ViewsReading { wrong, views }
+}
+
+// What stands behind a transaction: a list of answers, or what boxes told of their views. The other is none.
+struct Lists {
+    list: VoteList,
+    views: ViewList,
+}
+
+fn no_lists() -> Lists
+    ensures { λ l. ⌜ l ≡ noLists ⌝ }
+{
+    let list = no_list();
+    let views = no_views();
+    Lists { list, views }
+}
+
 fn reading_of(
     wrong: u8,
     mark: Mark,
     tx: Transaction,
-    list: VoteList,
+    lists: Lists,
     key: Key,
     stamp: Stamp,
 ) -> Reading
-    ensures { λ r. ⌜ r ≡ readingOf wrong mark tx list key stamp ⌝ }
+    ensures { λ r. ⌜ r ≡ readingOf wrong mark tx lists key stamp ⌝ }
 {
     if wrong != 0 {
         return refused(wrong);
     }
+    let list = lists.list;
+    let views = lists.views;
     Reading {
         found: Marked::Is(mark),
         tx,
         list,
+        views,
         key,
         stamp,
     }
@@ -281,29 +376,31 @@ fn read_of(r: TxReading) -> TxRead
     }
 }
 
-// In an LG a list of logs is 8 too.
-fn list_wrong_in(due: Mark, g: Group, l: VoteList) -> u8
-    requires { ⌜ l .count ≤ 26 ⌝ }
-    ensures { λ n. ⌜ n ≡ listWrongIn due (g .f) (listIn l) ⌝ }
+// In an LG a list of logs is 8 too; an IV and an LD have views.
+fn list_wrong_in(due: Mark, g: Group, l: Lists) -> u8
+    requires { ⌜ (l .list .count ≤ 26) × (l .views .count ≤ 26) ⌝ }
+    ensures { λ n. ⌜ n ≡ listWrongIn due (g .f) l ⌝ }
 {
     match due {
-        Mark::LG => contents::log_list_wrong(g, l),
-        _ => contents::list_wrong(g, l),
+        Mark::LG => contents::log_list_wrong(g, l.list),
+        Mark::IV => contents::views_wrong(ViewMark::VS, g, l.views),
+        Mark::LD => contents::views_wrong(ViewMark::EL, g, l.views),
+        _ => contents::list_wrong(g, l.list),
     }
 }
 
-// The transaction and the list behind it, or the list's refusal.
-fn with_list(tx: Transaction, due: Mark, g: Group, list: VoteList) -> Reading
-    requires { ⌜ list .count ≤ 26 ⌝ }
-    ensures { λ x. ⌜ x ≡ listedReading due (g .f) tx list ⌝ }
+// The transaction and what stands behind it, or its refusal.
+fn with_list(tx: Transaction, due: Mark, g: Group, lists: Lists) -> Reading
+    requires { ⌜ (lists .list .count ≤ 26) × (lists .views .count ≤ 26) ⌝ }
+    ensures { λ x. ⌜ x ≡ listedReading due (g .f) tx lists ⌝ }
 {
-    let wrong = list_wrong_in(due, g, list);
-    reading_of(wrong, due, tx, list, Key(0), Stamp(0))
+    let wrong = list_wrong_in(due, g, lists);
+    reading_of(wrong, due, tx, lists, Key(0), Stamp(0))
 }
 
 // The transaction taken from its reading, or its refusal.
-fn judged(r: TxReading, due: Mark, g: Group, l: VoteList) -> Reading
-    requires { ⌜ l .count ≤ 26 ⌝ }
+fn judged(r: TxReading, due: Mark, g: Group, l: Lists) -> Reading
+    requires { ⌜ (l .list .count ≤ 26) × (l .views .count ≤ 26) ⌝ }
     ensures { λ x. ⌜ x ≡ judgedBy r due (g .f) l ⌝ }
 {
     let TxRead::Tx(tx) = read_of(r) else {
@@ -343,6 +440,22 @@ pub fn read_vl(f: u64, s: &[u8]) -> VlReading
     vl_reading(wrong, list)
 }
 
+// A VS or an EL by itself.
+pub fn read_views(k: ViewMark, f: u64, s: &[u8]) -> ViewsReading
+    ensures { λ r. ⌜ r ≡ readViews k f (now (s .entry)) ⌝ }
+{
+    let cut = terms::first(terms::group_wrong(f), views_cut(k, s));
+    if cut != 0 {
+        return views_reading(cut, no_views());
+    }
+    let views = records::views_of(k, s);
+    let wrong = terms::first(
+        behind_wrong(s, records::views_len(k, s)),
+        contents::views_wrong(k, Group { f: f as u8 }, views),
+    );
+    views_reading(wrong, views)
+}
+
 // What is refused of a message before its contents: 14, the cutting, 4.
 fn early_wrong(mark: Mark, f: u64, m: &[u8]) -> u8
     ensures { λ r. ⌜ r ≡ early mark f (now (m .entry)) ⌝ }
@@ -361,18 +474,37 @@ fn read_pr(m: &[u8]) -> Reading
 {
     let tx = records::transaction_of(tx_part_of(m));
     let wrong = contents::tx_wrong(tx);
-    reading_of(wrong, Mark::PR, tx, no_list(), Key(0), Stamp(0))
+    reading_of(wrong, Mark::PR, tx, no_lists(), Key(0), Stamp(0))
+}
+
+// The transaction of a message that is cut, and what stands behind it.
+fn read_behind(mark: Mark, f: u64, m: &[u8], l: Lists) -> Reading
+    requires { ⌜ (f ≤ 5) × (2 ≤ length (now m)) × (txCut (behindMark (now m)) ≡ 0) × (l .list .count ≤ 26) × (l .views .count ≤ 26) ⌝ }
+    ensures { λ r. ⌜ r ≡ judgedBy (txReadingBy (txWrong (txOf (txPart (now (m .entry))))) (txOf (txPart (now (m .entry))))) mark f l ⌝ }
+{
+    let tx = records::transaction_of(tx_part_of(m));
+    let reading = tx_reading(contents::tx_wrong(tx), tx);
+    judged(reading, mark, Group { f: f as u8 }, l)
 }
 
 // An LG or a DC that is cut.
 fn read_listed(mark: Mark, f: u64, m: &[u8]) -> Reading
-    requires { ⌜ (f ≤ 5) × (2 ≤ length (now m)) × (txCut (behindMark (now m)) ≡ 0) × (vlCut (vlPart (now m)) ≡ 0) ⌝ }
-    ensures { λ r. ⌜ r ≡ judgedBy (txReadingBy (txWrong (txOf (txPart (now (m .entry))))) (txOf (txPart (now (m .entry))))) mark f (heldList (listBehind (now (m .entry)))) ⌝ }
+    requires { ⌜ (f ≤ 5) × (2 ≤ length (now m)) × (txCut (behindMark (now m)) ≡ 0) × (vlCut (listPart (now m)) ≡ 0) ⌝ }
+    ensures { λ r. ⌜ r ≡ judgedBy (txReadingBy (txWrong (txOf (txPart (now (m .entry))))) (txOf (txPart (now (m .entry))))) mark f (listAlone (listBehind (now (m .entry)))) ⌝ }
 {
-    let tx = records::transaction_of(tx_part_of(m));
-    let reading = tx_reading(contents::tx_wrong(tx), tx);
-    let list = records::list_of(vl_part_of(m));
-    judged(reading, mark, Group { f: f as u8 }, list)
+    let list = records::list_of(list_part_of(m));
+    let views = no_views();
+    read_behind(mark, f, m, Lists { list, views })
+}
+
+// An IV or an LD that is cut.
+fn read_viewed(k: ViewMark, f: u64, m: &[u8]) -> Reading
+    requires { ⌜ (f ≤ 5) × (2 ≤ length (now m)) × (txCut (behindMark (now m)) ≡ 0) × (viewsCut k (listPart (now m)) ≡ 0) ⌝ }
+    ensures { λ r. ⌜ r ≡ judgedBy (txReadingBy (txWrong (txOf (txPart (now (m .entry))))) (txOf (txPart (now (m .entry))))) (carrier k) f (viewsAlone (viewsBehind k (now (m .entry)))) ⌝ }
+{
+    let views = records::views_of(k, list_part_of(m));
+    let list = no_list();
+    read_behind(k.carrier(), f, m, Lists { list, views })
 }
 
 // An RD that is cut.
@@ -383,7 +515,7 @@ fn read_rd(m: &[u8]) -> Reading
     let key = Key(records::u16_at(m, 2));
     let stamp = Stamp(records::u64_at(m, 4));
     let wrong = contents::rd_wrong(key, stamp);
-    reading_of(wrong, Mark::RD, no_tx(), no_list(), key, stamp)
+    reading_of(wrong, Mark::RD, no_tx(), no_lists(), key, stamp)
 }
 
 // A message where one with this mark is due.
@@ -398,6 +530,8 @@ pub fn read_due(mark: Mark, f: u64, m: &[u8]) -> Reading
         Mark::PR => read_pr(m),
         Mark::LG | Mark::DC => read_listed(mark, f, m),
         Mark::RD => read_rd(m),
+        Mark::IV => read_viewed(ViewMark::VS, f, m),
+        Mark::LD => read_viewed(ViewMark::EL, f, m),
     }
 }
 
@@ -422,14 +556,16 @@ fn marked_or(m: &[u8], mark: Mark, others: Marked) -> Marked
     others
 }
 
-// The mark that a message has: 1 where there is none, 2 where it is not one of the four.
+// The mark that a message has: 1 where there is none, 2 where it is not one of the six.
 pub fn mark_of(m: &[u8]) -> Marked
     ensures { λ r. ⌜ r ≡ markOf (now (m .entry)) ⌝ }
 {
     if m.len() < 2 {
         return Marked::Refused(terms::SHORT);
     }
-    let rd = marked_or(m, Mark::RD, Marked::Refused(terms::MARK));
+    let ld = marked_or(m, Mark::LD, Marked::Refused(terms::MARK));
+    let iv = marked_or(m, Mark::IV, ld);
+    let rd = marked_or(m, Mark::RD, iv);
     let dc = marked_or(m, Mark::DC, rd);
     let lg = marked_or(m, Mark::LG, dc);
     marked_or(m, Mark::PR, lg)
@@ -445,7 +581,7 @@ pub fn read_marked(marked: Marked, f: u64, m: &[u8]) -> Reading
     }
 }
 
-// Any of the four messages.
+// Any of the six messages.
 pub fn read(f: u64, m: &[u8]) -> Reading
     ensures { λ r. ⌜ r ≡ readMessage f (now (m .entry)) ⌝ }
 {
@@ -466,6 +602,8 @@ fn has_tx(found: Marked) -> bool
             Mark::LG => true,
             Mark::DC => true,
             Mark::RD => false,
+            Mark::IV => true,
+            Mark::LD => true,
         },
         Marked::Refused(_) => false,
     }

@@ -1,7 +1,7 @@
--- "Then contents: all of TX for 5, then 6, then 7; a list .. for 8, then 5, then 6. RD has 5".
+-- "Then contents: all of TX for 5, then 6, then 7; a list .. for 8, then 5, then 6. RD has 5". A VS has 5, then 6.
 use Prim.Native.Nat.{ℕ, _+_}
 use mathlib.Core.Bool.{Bool, true, false, _||_}
-use mathlib.Core.List.{List}
+use mathlib.Core.List.{List, map}
 use lib.Dec.{eqb, ltb, leb}
 use Rattle.terms.specs.Choice.{any, falls}
 use Rattle.terms.specs.Checks.{orElse, when, ifLess, ifSame, ifOther, count, range, order, misbehaviour, code}
@@ -11,6 +11,9 @@ use Rattle.records.specs.declared.Write.{Write}
 use Rattle.records.specs.declared.Pair.{Pair}
 use Rattle.records.specs.Tx.{Tx, readKey, readVersion, writeKey}
 use Rattle.records.specs.Vl.{Vl}
+use Rattle.records.specs.declared.ViewMark.{ViewMark}
+use Rattle.records.specs.declared.ViewMark.the-variants.{VS, EL}
+use Rattle.records.specs.Views.{Views, ballotPair}
 
 -- "count: r or w above 8, r + w = 0"
 unfoldable pub countsWrong : ℕ → ℕ → ℕ
@@ -59,14 +62,17 @@ boxWide f p = leb (boxes f) (p .number)
 abbrev pub pairBox : Pair → ℕ
 pairBox p = p .number
 
--- "code: kind, decision or answer not 1 or 2"; "range: .. box number n or more"; "order: .. box numbers not strictly rising"
+-- "range: .. box number n or more"; "order: .. box numbers not strictly rising"
+abbrev pub boxesWrong : ℕ → List Pair → ℕ
+boxesWrong f ps = orElse (when (any (boxWide f) ps) range) (when (falls pairBox 0 ps) order)
+
+-- "code: kind, decision or answer not 1 or 2"; then the boxes
 unfoldable pub listWrong : ℕ → Vl → ℕ
 listWrong f l =
     orElse (codeWrong (l .kind))
     (orElse (codeWrong (l .decision))
     (orElse (when (any answerOdd (l .pairs)) code)
-    (orElse (when (any (boxWide f) (l .pairs)) range)
-    (when (falls pairBox 0 (l .pairs)) order))))
+    (boxesWrong f (l .pairs))))
 
 -- the kind of a list of logs
 abbrev pub logs : ℕ
@@ -75,6 +81,15 @@ logs = 2
 -- the list of an LG: "code: .. kind 2 in an LG"
 unfoldable pub logListWrong : ℕ → Vl → ℕ
 logListWrong f l = orElse (ifSame (l .kind) logs code) (listWrong f l)
+
+-- a VS: the boxes; an EL: "8 (decision, answers), 5 (leader or a box n or more), 6"
+unfoldable pub viewsWrong : ViewMark → ℕ → Views → ℕ
+viewsWrong VS f l = boxesWrong f (map ballotPair (l .ballots))
+viewsWrong EL f l =
+    orElse (codeWrong (l .decision))
+    (orElse (when (any answerOdd (map ballotPair (l .ballots))) code)
+    (orElse (when (leb (boxes f) (l .leader)) range)
+    (boxesWrong f (map ballotPair (l .ballots)))))
 
 -- an RD's key and stamp, without the clock
 unfoldable pub rdWrong : ℕ → ℕ → ℕ

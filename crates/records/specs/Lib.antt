@@ -1,6 +1,7 @@
 pub mod Numbers
 pub mod Tx
 pub mod Vl
+pub mod Views
 pub mod Contents
 pub mod Cutting
 pub mod Messages

@@ -4,7 +4,8 @@ ghost use Prim.Native.Nat.{_+_, _*_, _<_, _≤_};
 ghost use lib.ListN.{length, getD};
 ghost use Rattle.records.specs.Numbers.{numAt, leBytes};
 ghost use Rattle.records.specs.Tx.{readAt, writeAt, padded, zeroRead, zeroWrite, txLen, txOf, heldTx, TxThere};
-ghost use Rattle.records.specs.Cutting.{markBytes};
+ghost use Rattle.records.specs.Cutting.{markBytes, carrier};
+ghost use Rattle.records.specs.Views.{viewMarkBytes, countAt, ballotsFrom, ballotLen, viewsLen, ballotFrom, ballotAt, zeroBallot, viewsOf, heldViews, ViewsThere};
 ghost use Rattle.records.specs.Vl.{viewLen, viewOf, pairAt, zeroPair, vlLen, vlOf, heldList, VlThere};
 use terms::Key;
 use terms::Refusal;
@@ -45,12 +46,30 @@ pub struct VoteList {
     pub pairs: [Pair; 26],
 }
 
-// The four messages, by their marks.
+// What a box is said to have told: its view, and in an election answer the decision that it had logged (1 commit, 2 abort).
+pub struct Ballot {
+    pub number: u8,
+    pub answer: u8,
+    pub view: View,
+}
+
+// What boxes told of one transaction, in a VS their views, in an EL their election answers with leader, decision and view: the first count places count.
+pub struct ViewList {
+    pub leader: u8,
+    pub decision: u8,
+    pub view: View,
+    pub count: usize,
+    pub ballots: [Ballot; 26],
+}
+
+// The six messages, by their marks.
 pub enum Mark {
     PR,
     LG,
     DC,
     RD,
+    IV,
+    LD,
 }
 
 impl Mark {
@@ -63,6 +82,56 @@ impl Mark {
             Mark::LG => *b"LG",
             Mark::DC => *b"DC",
             Mark::RD => *b"RD",
+            Mark::IV => *b"IV",
+            Mark::LD => *b"LD",
+        }
+    }
+}
+
+// The two lists of views, by their marks: an IV carries the one, an LD the other.
+pub enum ViewMark {
+    VS,
+    EL,
+}
+
+impl ViewMark {
+    // Its two bytes.
+    pub fn bytes(self) -> [u8; 2]
+        ensures { λ r. ⌜ r ≡ viewMarkBytes self ⌝ }
+    {
+        match self {
+            ViewMark::VS => *b"VS",
+            ViewMark::EL => *b"EL",
+        }
+    }
+
+    // The message that carries it.
+    pub fn carrier(self) -> Mark
+        ensures { λ r. ⌜ r ≡ carrier self ⌝ }
+    {
+        match self {
+            ViewMark::VS => Mark::IV,
+            ViewMark::EL => Mark::LD,
+        }
+    }
+
+    // Where the count stands.
+    pub fn count_at(self) -> usize
+        ensures { λ r. ⌜ (r ≡ countAt self) × (r ≤ 6) ⌝ }
+    {
+        match self {
+            ViewMark::VS => 2,
+            ViewMark::EL => 6,
+        }
+    }
+
+    // How many bytes a ballot has.
+    pub fn ballot_len(self) -> usize
+        ensures { λ r. ⌜ (r ≡ ballotLen self) × (r ≤ 4) ⌝ }
+    {
+        match self {
+            ViewMark::VS => 3,
+            ViewMark::EL => 4,
         }
     }
 }
@@ -73,16 +142,17 @@ pub enum Marked {
     Refused(u8),
 }
 
-// What was read of a message: which it is, or its refusal; its transaction and its list; an RD's key and stamp.
+// What was read of a message: which it is, or its refusal; its transaction, its list and its views; an RD's key and stamp.
 pub struct Reading {
     pub found: Marked,
     pub tx: Transaction,
     pub list: VoteList,
+    pub views: ViewList,
     pub key: Key,
     pub stamp: Stamp,
 }
 
-// A TX by itself, and a VL by itself: 0 and the value, or the refusal's number and no value.
+// A TX, a VL, a VS or an EL by itself: 0 and the value, or the refusal's number and no value.
 pub struct TxReading {
     pub wrong: u8,
     pub tx: Transaction,
@@ -91,6 +161,11 @@ pub struct TxReading {
 pub struct VlReading {
     pub wrong: u8,
     pub list: VoteList,
+}
+
+pub struct ViewsReading {
+    pub wrong: u8,
+    pub views: ViewList,
 }
 
 // How many bytes were written.
@@ -340,5 +415,80 @@ pub fn list_of(s: &[u8]) -> VoteList
         view,
         count,
         pairs,
+    }
+}
+
+// The length of a VS, or of an EL, that its count gives.
+pub fn views_len(k: ViewMark, s: &[u8]) -> usize
+    requires { ⌜ ballotsFrom k ≤ length (now s) ⌝ }
+    ensures { λ r. ⌜ r ≡ viewsLen k (now (s .entry)) ⌝ }
+{
+    let at = k.count_at();
+    1 + at + k.ballot_len() * wide(s[at])
+}
+
+// The ballot that begins at `p`.
+fn ballot_from(k: ViewMark, s: &[u8], p: usize) -> Ballot
+    requires { ⌜ (p ≤ 200) × (p + ballotLen k ≤ length (now s)) ⌝ }
+    ensures { λ r. ⌜ r ≡ ballotFrom k (now (s .entry)) p ⌝ }
+{
+    let number = s[p];
+    match k {
+        ViewMark::VS => Ballot {
+            number,
+            answer: 0,
+            view: View(u16_at(s, p + 1)),
+        },
+        ViewMark::EL => Ballot {
+            number,
+            answer: s[p + 1],
+            view: View(u16_at(s, p + 2)),
+        },
+    }
+}
+
+// Its first n ballots, in an array of 26.
+fn ballots_of(k: ViewMark, s: &[u8], n: usize) -> [Ballot; 26]
+    requires { ⌜ (n ≤ 26) × (ballotsFrom k + ballotLen k * n ≤ length (now s)) ⌝ }
+    ensures { λ r. ⌜ r ≡ padded (ballotAt k (now (s .entry))) n 26 zeroBallot ⌝ }
+{
+    let z = Ballot {
+        number: 0,
+        answer: 0,
+        view: View(0),
+    };
+    let from = 1 + k.count_at();
+    let width = k.ballot_len();
+    let mut a = [z; 26];
+    let mut j = 0;
+    while j < n {
+        a[j] = ballot_from(k, s, from + width * j);
+        j += 1;
+    }
+    a
+}
+
+// What a VS, or an EL, says.
+pub fn views_of(k: ViewMark, s: &[u8]) -> ViewList
+    requires { ⌜ ViewsThere k (now s) ⌝ }
+    ensures { λ l. ⌜ (l ≡ heldViews (viewsOf k (now (s .entry)))) × (l .count ≤ 26) ⌝ }
+{
+    let count = wide(s[k.count_at()]);
+    let ballots = ballots_of(k, s, count);
+    match k {
+        ViewMark::VS => ViewList {
+            leader: 0,
+            decision: 0,
+            view: View(0),
+            count,
+            ballots,
+        },
+        ViewMark::EL => ViewList {
+            leader: s[2],
+            decision: s[3],
+            view: View(u16_at(s, 4)),
+            count,
+            ballots,
+        },
     }
 }

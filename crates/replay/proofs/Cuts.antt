@@ -10,14 +10,17 @@ use Rattle.terms.specs.Choice.{pick}
 use Rattle.terms.specs.Checks.{ifLess, short, mark}
 use Rattle.terms.proofs.Checks.{pass, halt, less-no, less-yes, not-less, first-none, rest-none}
 use Rattle.records.specs.declared.Mark.{Mark}
-use Rattle.records.specs.declared.Mark.the-variants.{PR, LG, DC, RD}
+use Rattle.records.specs.declared.Mark.the-variants.{PR, LG, DC, RD, IV, LD}
 use Rattle.records.specs.declared.Marked.{Marked}
 use Rattle.records.specs.declared.Marked.the-variants.{Is, Refused as Unmarked}
 use Rattle.records.specs.Tx.{txLen, TxThere}
 use Rattle.records.specs.Vl.{VlThere}
-use Rattle.records.specs.Cutting.{behindMark, vlPart, messageCut, listedLen, messageLen, rdLen, markPR, markLG, markDC, markRD}
+use Rattle.records.specs.Views.{ViewsThere}
+use Rattle.records.specs.declared.ViewMark.{ViewMark}
+use Rattle.records.specs.declared.ViewMark.the-variants.{VS, EL}
+use Rattle.records.specs.Cutting.{behindMark, listPart, messageCut, listedLen, viewedLen, messageLen, rdLen, markPR, markLG, markDC, markRD, markIV, markLD}
 use Rattle.records.specs.Messages.{isMark, markOf}
-use Rattle.reading.proofs.Cuts.{ListedCut, tx-there, vl-there, pr-cuts, lg-cuts, dc-cuts, rd-long}
+use Rattle.reading.proofs.Cuts.{ListedCut, ViewedCut, tx-there, vl-there, views-there, pr-cuts, lg-cuts, dc-cuts, viewed-cuts, rd-long}
 use Rattle.lines.specs.Lines.{markCK}
 use Rattle.replay.specs.Bench.{markedCut, markedLen, recordCut, recordLen, ckLen}
 
@@ -52,7 +55,7 @@ module _ (s : List ℕ) where
       unfolding markedCut
       cut-none k p = other k (rw p)
 
--- what has none of the four marks is refused
+-- what has none of the six marks is refused
 Refusing : Marked → Type 0
 Refusing (Is k) = Unit {0}
 Refusing (Unmarked n) = n ≡ 0 → ⊥
@@ -68,7 +71,9 @@ refusing s =
     (either (isMark markPR s) (Is PR) _ tt
     (either (isMark markLG s) (Is LG) _ tt
     (either (isMark markDC s) (Is DC) _ tt
-    (either (isMark markRD s) (Is RD) (Unmarked mark) tt (λ (z : mark ≡ 0). omega arith)))))
+    (either (isMark markRD s) (Is RD) _ tt
+    (either (isMark markIV s) (Is IV) _ tt
+    (either (isMark markLD s) (Is LD) (Unmarked mark) tt (λ (z : mark ≡ 0). omega arith)))))))
 
 unmarked : (w : Marked) (n : ℕ) → Refusing w → w ≡ Unmarked n → n ≡ 0 → ⊥
 unfolding Refusing
@@ -84,12 +89,21 @@ abbrev Fits : List ℕ → ℕ → Type 0
 Fits s n = (10 ≤ n) × (n ≤ length s)
 
 listed-fits : (s : List ℕ) → ListedCut s → Fits s (listedLen s)
-unfolding listedLen vlPart
+unfolding listedLen listPart
 listed-fits s c =
     let h : TxThere (behindMark s) = tx-there _ _ refl (c .1) in
-    let g : VlThere (vlPart s) = vl-there _ _ refl (c .2) in
+    let g : VlThere (listPart s) = vl-there _ _ refl (c .2) in
     let d : length (behindMark s) ≡ length s - 2 = length-drop 2 s in
-    let e : length (vlPart s) ≡ length (behindMark s) - txLen (behindMark s) = length-drop (txLen (behindMark s)) (behindMark s) in
+    let e : length (listPart s) ≡ length (behindMark s) - txLen (behindMark s) = length-drop (txLen (behindMark s)) (behindMark s) in
+    (omega arith, omega arith)
+
+viewed-fits : (k : ViewMark) (s : List ℕ) → ViewedCut k s → Fits s (viewedLen k s)
+unfolding viewedLen listPart
+viewed-fits k s c =
+    let h : TxThere (behindMark s) = tx-there _ _ refl (c .1) in
+    let g : ViewsThere k (listPart s) = views-there k _ _ refl (c .2) in
+    let d : length (behindMark s) ≡ length s - 2 = length-drop 2 s in
+    let e : length (listPart s) ≡ length (behindMark s) - txLen (behindMark s) = length-drop (txLen (behindMark s)) (behindMark s) in
     (omega arith, omega arith)
 
 message-fits : (k : Mark) (s : List ℕ) → messageCut k s ≡ 0 → Fits s (messageLen k s)
@@ -100,6 +114,8 @@ message-fits PR s z =
     (omega arith, omega arith)
 message-fits LG s z = listed-fits s (lg-cuts s z)
 message-fits DC s z = listed-fits s (dc-cuts s z)
+message-fits IV s z = viewed-fits VS s (viewed-cuts VS s z)
+message-fits LD s z = viewed-fits EL s (viewed-cuts EL s z)
 message-fits RD s z = let h : rdLen ≤ length s = rd-long s z in (omega arith, omega arith)
 
 module _ (s : List ℕ) (z : recordCut s ≡ 0) where

@@ -282,15 +282,15 @@ zeros-empty : (n : ℕ) → boxIn (kept (replicate (suc n) 0) (replicate 512 0))
 unfolding boxIn empty entriesOf
 zeros-empty n = refl
 
-pub zeros-start : (input : List ℕ) → gpRefusal input ≡ 0 → (tableWrong (getD input 3 0) (replicate 44881 0) ≡ 0) × (boxIn (kept (replicate 44881 0) (replicate 512 0)) ≡ empty)
+pub zeros-start : (input : List ℕ) → gpRefusal input ≡ 0 → (tableWrong (getD input 3 0) (replicate 45901 0) ≡ 0) × (boxIn (kept (replicate 45901 0) (replicate 512 0)) ≡ empty)
 unfolding gpRefusal toldWrong toldBy
 zeros-start input z =
     let c : getD input 3 0 ≤ 255 = not-less _ _ _ (rest-none _ _ (rest-none _ _ (rest-none _ _ (rest-none _ _ z)))) in
-    (zeros-taken (getD input 3 0) 44880 (omega arith), zeros-empty 44880)
+    (zeros-taken (getD input 3 0) 45900 (omega arith), zeros-empty 45900)
 
 -- the first line, then the rest
 pub rest-ready : (input : List ℕ) {o e : List ℕ} {a : ℕ} → (gpRefusal input ≡ 0) × (length input ≤ longest) × (room ≤ length o) → Puts o 0 (lineOf 0 input Taken) 112 e a
-    → (gpRefusal input ≡ 0) × (length input ≤ longest) × (room ≤ length e) × (a ≤ 112) × (tableWrong (getD input 3 0) (replicate 44881 0) ≡ 0) × (boxIn (kept (replicate 44881 0) (replicate 512 0)) ≡ empty)
+    → (gpRefusal input ≡ 0) × (length input ≤ longest) × (room ≤ length e) × (a ≤ 112) × (tableWrong (getD input 3 0) (replicate 45901 0) ≡ 0) × (boxIn (kept (replicate 45901 0) (replicate 512 0)) ≡ empty)
 rest-ready input h p =
     let w = h .2 in
     let l = puts-same p (omega arith) in

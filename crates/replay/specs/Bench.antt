@@ -15,7 +15,7 @@ use Rattle.records.specs.declared.Marked.the-variants.{Is, Refused as Unmarked}
 use Rattle.records.specs.Cutting.{markWrong, messageCut, messageLen}
 use Rattle.records.specs.Messages.{isMark, markOf}
 use Rattle.rules.specs.declared.Answer.{Answer}
-use Rattle.rules.specs.declared.Answer.the-variants.{Voted, Decided, Logged, Done, Found, Refused}
+use Rattle.rules.specs.declared.Answer.the-variants.{Voted, Decided, Logged, Done, Found, Refused, Elected}
 use Rattle.rules.specs.declared.Told.{Told}
 use Rattle.rules.specs.Table.{Box, empty}
 use Rattle.rules.specs.Act.{receive, toldWrong, act, after}
@@ -85,7 +85,8 @@ stopsAt n = eqb n 1 || (eqb n 2 || (eqb n 3 || eqb n 14))
 abbrev pub answerStops : Answer → Bool
 answerStops (Voted v) = false
 answerStops (Decided d) = false
-answerStops (Logged d) = false
+answerStops (Logged d v) = false
+answerStops (Elected d v l) = false
 answerStops Done = false
 answerStops (Found committed undecided) = false
 answerStops (Refused r) = stopsAt (numberOf r)

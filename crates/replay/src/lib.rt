@@ -23,7 +23,7 @@ use terms::Refusal;
 // Room for the lines of every input: a line is at most 112 bytes, and all records but the last have at least ten.
 pub const ROOM: usize = 786_544;
 
-// A table with room for every capacity: a count and 255 rows of 176.
+// A table with room for every capacity: a count and 255 rows of 180.
 const TABLE: usize = table::HEAD + 255 * table::ROW;
 
 // What a GP tells a box, at a clock.
@@ -141,10 +141,11 @@ fn answer_stops(a: Answer) -> bool
     match a {
         Answer::Voted(_) => false,
         Answer::Decided(_) => false,
-        Answer::Logged(_) => false,
+        Answer::Logged(_, _) => false,
         Answer::Done => false,
         Answer::Found(_, _) => false,
         Answer::Refused(r) => stops_at(r.number()),
+        Answer::Elected(_, _, _) => false,
     }
 }
 

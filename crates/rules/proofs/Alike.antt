@@ -1,12 +1,15 @@
--- Where sound boxes gave the same, the same lists are backed, the same bodies have proofs, and both are safe or neither is.
+-- Where sound boxes gave the same, the same messages carry what was given, the same bodies have proofs, and both are safe or neither is.
 use Prim.Native.Nat.{ℕ}
 use mathlib.Core.Bool.{Bool}
 use mathlib.Core.Path.{_≡_, sym}
 use mathlib.Core.List.{List}
+use Rattle.records.specs.declared.Mark.{Mark}
+use Rattle.records.specs.declared.Mark.the-variants.{PR, LG, DC, RD, IV, LD}
 use Rattle.records.specs.Vl.{Vl}
+use Rattle.records.specs.Views.{Views}
 use Rattle.rules.specs.Answers.{Decision, abort, commit}
 use Rattle.rules.specs.Bodies.{Body}
-use Rattle.rules.specs.System.{BackedBy, Given, ListsBy, ProofBy, SafeBy, Sound, Word}
+use Rattle.rules.specs.System.{BackedBy, Carries, ChosenBy, Given, ListsBy, ProofBy, SafeBy, Sound, Word}
 
 module _ (f : ℕ) (faulty : ℕ → Bool) where
   abbrev pub Alike : Given → Given → Type 0
@@ -16,6 +19,19 @@ module _ (f : ℕ) (faulty : ℕ → Bool) where
     pub backed-alike : (b : Body) (l : Vl) → BackedBy f faulty g b l → BackedBy f faulty h b l
     unfolding BackedBy
     backed-alike b l B p m s = rw (e (p .number) s b _) at (B p m s)
+
+    chosen-alike : (b : Body) (l : Views) → ChosenBy f faulty g b l → ChosenBy f faulty h b l
+    unfolding ChosenBy
+    chosen-alike b l C p m s = rw (e (p .number) s b _) at (C p m s)
+
+    pub carries-alike : (k : Mark) (m : List ℕ) → Carries f faulty g k m → Carries f faulty h k m
+    unfolding Carries
+    carries-alike PR m c = tt
+    carries-alike LG m c = backed-alike _ _ c
+    carries-alike DC m c = backed-alike _ _ c
+    carries-alike RD m c = tt
+    carries-alike IV m c = tt
+    carries-alike LD m c = chosen-alike _ _ c
 
     pub proof-alike : (b : Body) (d : Decision) → ProofBy f faulty g b d → ProofBy f faulty h b d
     proof-alike b d P =

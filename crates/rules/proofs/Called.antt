@@ -11,7 +11,7 @@ use Rattle.terms.specs.declared.Refusal.{Refusal}
 use Rattle.records.specs.Tx.{txOf}
 use Rattle.records.specs.Vl.{Vl}
 use Rattle.records.specs.Contents.{txWrong, listWrong}
-use Rattle.rules.specs.Answers.{Decision, commit, abort, votes, Vote, unvoted, waiting, voteCommit, voteAbort, Decided, unsettled, Settled, settled}
+use Rattle.rules.specs.Answers.{Decision, commit, abort, votes, Vote, unvoted, waiting, voteCommit, voteAbort, Decided, unsettled, Settled, settled, Log, logged, unlogged}
 use Rattle.rules.specs.Bodies.{Body, stampOf, sameBody}
 use Rattle.rules.specs.Lists.{kindOf, decisionOf, forLogging, forProof, meets}
 use Rattle.rules.specs.Table.{Entry, Box, Told, find}
@@ -81,10 +81,10 @@ module _ (told : Told) (x : Box) (way : EntryPoint) (m : List ℕ) (b : Body) (s
 -- LG
 module _ (told : Told) (x : Box) (way : EntryPoint) (m : List ℕ) (b : Body) (l : Vl) (w : Brings told.f way m b l) (k : kindOf (l .kind) ≡ votes)
     (h : listWrong told.f l ≡ 0) where
-  lg-log : (e : Entry) → Prior x.table b (some e) → (o : Settled) → e.log ≡ o → Move told.f x way m b (lgByLog told b l e o)
+  lg-log : (e : Entry) → Prior x.table b (some e) → (o : Log) → e.log ≡ o → Move told.f x way m b (lgByLog told b l e o)
   unfolding lgByLog Holds wordIn
-  lg-log e p (settled d) q = again (log d) e p q refl
-  lg-log e p unsettled q =
+  lg-log e p (logged d v) q = again (log d (v .0)) e p q refl
+  lg-log e p unlogged q =
       needed (forLogging told.f (decisionOf (l .decision))) l _ (λ n. logs-first l (some e) w k (record { formed = h; enough = n }) p q)
 
   lg-decided : (e : Entry) → find (stampOf b) x.table ≡ some e → e.body ≡ b → (o : Settled) → e.decided ≡ o

@@ -12,7 +12,7 @@ use Rattle.terms.specs.Group.{boxes}
 use Rattle.terms.proofs.Checks.{first-none, rest-none, when-none}
 use Rattle.records.specs.declared.Pair.{Pair}
 use Rattle.records.specs.Vl.{Vl}
-use Rattle.records.specs.Contents.{listWrong, codeWrong, boxWide, pairBox, answerOdd}
+use Rattle.records.specs.Contents.{listWrong, codeWrong, boxesWrong, boxWide, pairBox, answerOdd}
 use Rattle.rules.specs.Answers.{Found}
 use Rattle.rules.specs.Lists.{bit, tally}
 use Rattle.rules.specs.Act.{after}
@@ -115,12 +115,14 @@ rising-of f lo (p ∷ ps) h k =
     (both (ltb (p .number) (boxes f)) _ (lt→ltb (p .number) (boxes f) (nleb→lt (boxes f) (p .number) (not-of _ (w .0))))
     (rising-of f (p .number + 1) ps (w .1) (v .1)))
 
--- what a list that is judged in order tells
+-- what boxes that are judged in order tell
+pub boxes-rising : (f : ℕ) (ps : List Pair) → boxesWrong f ps ≡ 0 → T (rising 0 (boxes f) ps)
+boxes-rising f ps h = rising-of f 0 ps (when-none _ _ (first-none _ _ h)) (when-none _ _ (rest-none _ _ h))
+
+-- and a list so
 pub formed-rising : (f : ℕ) (l : Vl) → listWrong f l ≡ 0 → T (rising 0 (boxes f) (l .pairs))
 unfolding listWrong
-formed-rising f l h =
-    let codes = rest-none _ _ (rest-none _ _ (rest-none _ _ h)) in
-    rising-of f 0 (l .pairs) (when-none _ _ (first-none _ _ codes)) (when-none _ _ (rest-none _ _ codes))
+formed-rising f l h = boxes-rising f (l .pairs) (rest-none _ _ (rest-none _ _ (rest-none _ _ h)))
 
 nor : (a b : Bool) → (T a → ⊥) → b ≡ false → (a || b) ≡ false
 nor true b h k = absurd (h tt)

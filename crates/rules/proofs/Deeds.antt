@@ -11,12 +11,13 @@ use Rattle.terms.specs.Checks.{ifSame}
 use Rattle.terms.specs.Refusals.{refusalOf}
 use Rattle.terms.specs.declared.Refusal.{Refusal}
 use Rattle.terms.proofs.Checks.{first-none, rest-none, not-less}
-use Rattle.records.specs.Contents.{listWrong, logListWrong, codeWrong}
+use Rattle.records.specs.Contents.{listWrong, logListWrong, codeWrong, viewsWrong}
 use Rattle.records.specs.declared.Mark.{Mark}
-use Rattle.records.specs.declared.Mark.the-variants.{PR, LG, DC, RD}
+use Rattle.records.specs.declared.Mark.the-variants.{PR, LG, DC, RD, IV, LD}
 use Rattle.records.specs.declared.Marked.{Marked}
+use Rattle.records.specs.declared.ViewMark.the-variants.{VS, EL}
 use Rattle.records.specs.declared.Marked.the-variants.{Is, Refused as Unmarked}
-use Rattle.records.specs.Messages.{contentsWrong, dueRefusal, listBehind}
+use Rattle.records.specs.Messages.{contentsWrong, dueRefusal, listBehind, viewsBehind}
 use Rattle.rules.specs.Answers.{votes}
 use Rattle.rules.specs.Bodies.{Body}
 use Rattle.rules.specs.Lists.{kindOf}
@@ -24,9 +25,9 @@ use Rattle.rules.specs.Table.{Box, Told}
 use Rattle.rules.specs.Calls.{Act, refuse, guarded, prRule, lgRule, dcRule, rdRule}
 use Rattle.records.specs.Cutting.{txPart}
 use Rattle.rules.specs.Act.{EntryPoint, toldWrong, rule, dueAct, markedAct, markBy, act}
-use Rattle.rules.specs.System.{carriesList}
-use Rattle.rules.proofs.Moves.{Brings, Move, looks}
+use Rattle.rules.proofs.Moves.{Listed, in-lg, in-dc, Brings, Move, looks}
 use Rattle.rules.proofs.Called.{refuses, pr-move, lg-move, dc-move}
+use Rattle.rules.proofs.Fallback.{iv-move, ld-move}
 
 pub guarded-elim : (P : Act → Type 0) (n : ℕ) (a : Act) → (n ≡ 0 → P a) → ((r : Refusal) → P (refuse r)) → P (guarded n a)
 unfolding guarded
@@ -59,18 +60,23 @@ module _ (told : Told) (x : Box) (way : EntryPoint) (m : List ℕ) where
   unfolding dueRefusal
   judged k h = rest-none _ _ (rest-none _ _ (rest-none _ _ h))
 
-  brings : (k : Mark) → markBy way m ≡ Is k → dueRefusal k told.f m ≡ 0 → T (carriesList k) → Brings told.f way m (txPart m) (listBehind m)
+  brings : (k : Mark) → markBy way m ≡ Is k → dueRefusal k told.f m ≡ 0 → Listed k → Brings told.f way m (txPart m) (listBehind m)
   brings k q h y = record { mark = k; marked = q; read = h; carries = y; body = refl; list = refl }
 
   deed-by : (k : Mark) → markBy way m ≡ Is k → dueRefusal k told.f m ≡ 0 → Move told.f x way m (txPart m) (rule k told x m)
-  unfolding rule contentsWrong logListWrong listWrong carriesList rdRule
+  unfolding rule contentsWrong logListWrong listWrong viewsWrong rdRule
   deed-by PR q h = pr-move told x way m (txPart m) (judged PR h)
   deed-by LG q h =
       let list = rest-none _ _ (judged LG h) in
       let formed = rest-none _ _ list in
-      lg-move told x way m (txPart m) (listBehind m) (brings LG q h tt) (kind-votes _ (first-none _ _ list) (first-none _ _ formed)) formed
-  deed-by DC q h = dc-move told x way m (txPart m) (listBehind m) (brings DC q h tt) (rest-none _ _ (judged DC h))
+      lg-move told x way m (txPart m) (listBehind m) (brings LG q h in-lg) (kind-votes _ (first-none _ _ list) (first-none _ _ formed)) formed
+  deed-by DC q h = dc-move told x way m (txPart m) (listBehind m) (brings DC q h in-dc) (rest-none _ _ (judged DC h))
   deed-by RD q h = guard _ _ (λ _. looks _ _)
+  deed-by IV q h = iv-move told x way m (txPart m) (viewsBehind VS m)
+  deed-by LD q h =
+      let answers = rest-none _ _ (judged LD h) in
+      ld-move told x way m (txPart m) (viewsBehind EL m) (record { marked = q; read = h; body = refl; answers = refl })
+      (rest-none _ _ (rest-none _ _ (rest-none _ _ answers)))
 
   deed-marked : (k : Marked) → markBy way m ≡ k → Move told.f x way m (txPart m) (markedAct k told x m)
   unfolding markedAct dueAct

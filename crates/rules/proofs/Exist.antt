@@ -138,7 +138,7 @@ listing f faulty few es F = (
   record {
     order = gather-order p single es;
     only = λ b h. provable-proof f faulty es b commit (gather-passes p single es b h);
-    every = λ b P. let w = asked b P in gather-all p single es b (proof-provable f faulty es b commit P) (w .0) (w .1) (w .2);
+    every = λ b P. let w = asked b P in gather-all p single es b (proof-provable f faulty few es b commit P) (w .0) (w .1) (w .2);
   },
 )
   where

@@ -1,21 +1,23 @@
 -- The entry that a move puts into the table.
 use Prim.Native.Nat.{ℕ}
-use mathlib.Core.Path.{_≡_, refl, sym, _∙_, ap}
+use mathlib.Core.Path.{_≡_, refl, sym, _∙_}
 use mathlib.Core.Logic.{_⊎_, inl, inr}
 use mathlib.Core.Option.{Option, some, none}
 use mathlib.Core.List.{List, List·Memᴰ as In, List·Memᴰ·head as here}
 use lib.Dec.{T}
 use Rattle.records.specs.Vl.{Vl}
 use Rattle.rules.specs.Answers.{Decision, commit, abort, Vote, unvoted, waiting, voteCommit, voteAbort, Answer, Voted, Logged, Done, Settled, settled, unsettled}
+use Rattle.rules.specs.Answers.{View, logged, unlogged, viewAs}
 use Rattle.rules.specs.Bodies.{Body, stampOf}
 use Rattle.rules.specs.Lists.{decisionOf}
 use Rattle.rules.specs.Table.{Entry, Box, voteIn, logIn, liveBy, live}
 use Rattle.rules.specs.Calls.{Act, Change, nothing, puts, raises, castAct, logAct, decideAct, lookAct}
+use Rattle.rules.specs.Fallback.{electAct}
 use Rattle.rules.specs.Act.{tableAfter, EntryPoint}
-use Rattle.rules.specs.System.{Word, vote, log, cast, voteWord, wordIn}
+use Rattle.rules.specs.System.{Word, vote, log, elect, cast, voteWord, wordIn}
 use Rattle.rules.proofs.Laws.{find-in, in-put}
-use Rattle.rules.proofs.Moves.{none-some, some-eq, Holds, stands, stands-cast, Clear, Prior, Arrives, Move, quiet, looks, again, casts, logs-first, settled-eq, un-settled}
-use Rattle.rules.proofs.Moves.{decides, replaces}
+use Rattle.rules.proofs.Moves.{settled-eq, un-settled, un-logged, Holds, stands, stands-cast, Clear, Prior, Arrives}
+use Rattle.rules.proofs.Moves.{Move, quiet, looks, again, casts, logs-first, takes, elects, decides, replaces}
 use Rattle.rules.proofs.Kept.{Keeps}
 use Rattle.rules.proofs.Said.{Spoken, Carried, carried}
 
@@ -67,21 +69,28 @@ module _ {t : List Entry} {b : Body} (o : Option Entry) (p : Prior t b o) where
   told-cast : (v : Vote) (x : Entry) → x.vote ≡ v → x.log ≡ logIn o → (w : Word) → Holds (some x) w → (wordIn (Voted v) ≡ some w) ⊎ Carried t b w
   unfolding Holds wordIn voteWord
   told-cast v x q k (vote d) h = inl (rw (rw q at h))
-  told-cast v x q k (log d) h = inr (carried o p (log d) (sym k ∙ h))
+  told-cast v x q k (log d u) h = inr (carried o p (log d u) (sym k ∙ h))
+  told-cast v x q k (elect d u) h = absurd h
 
-  told-log : (y : Decision) (x : Entry) → x.vote ≡ voteIn o → x.log ≡ settled y → (w : Word) → Holds (some x) w
-      → (wordIn (Logged y) ≡ some w) ⊎ Carried t b w
+  told-log : (y : Decision) (v : View) (x : Entry) → x.vote ≡ voteIn o → x.log ≡ logged y v → (w : Word) → Holds (some x) w
+      → (wordIn (Logged y v) ≡ some w) ⊎ Carried t b w
   unfolding Holds wordIn
-  told-log y x q k (vote d) h = inr (carried o p (vote d) (rw q at h))
-  told-log y x q k (log d) h = inl (ap (λ z. some (log z)) (settled-eq k h))
+  told-log y v x q k (vote d) h = inr (carried o p (vote d) (rw q at h))
+  told-log y v x q k (log d u) h =
+      let r : logged y v ≡ logged d (viewAs u) = sym k ∙ h in
+      let a : y ≡ d = cc in
+      let c : v ≡ viewAs u = cc in
+      inl (rw (a, c) refl)
+  told-log y v x q k (elect d u) h = absurd h
 
   told-kept : (x : Entry) → x.vote ≡ voteIn o → x.log ≡ logIn o → (w : Word) → Holds (some x) w → Carried t b w
   unfolding Holds
   told-kept x q k (vote d) h = carried o p (vote d) (rw q at h)
-  told-kept x q k (log d) h = carried o p (log d) (sym k ∙ h)
+  told-kept x q k (log d u) h = carried o p (log d u) (sym k ∙ h)
+  told-kept x q k (elect d u) h = absurd h
 
 fresh : {f : ℕ} {x : Box} {way : EntryPoint} {m : List ℕ} {b : Body} {a : Act} → Move f x way m b a → FreshBy f x way m b (a .answer) (a .change)
-unfolding FreshBy castAct logAct decideAct lookAct stands Holds cast
+unfolding FreshBy castAct logAct electAct decideAct lookAct stands Holds cast
 fresh (quiet n) = tt
 fresh (looks k s) = tt
 fresh (again w e p h n) = tt
@@ -97,9 +106,21 @@ fresh {x = x} {b = b} (casts v o p n r cl) = record {
     go (inr q) = inl (upright-by o p (rw q tt))
 fresh (logs-first l o q k w p n) = record {
   owner = refl;
-  told = told-log o p (decisionOf (l .decision)) _ refl refl;
+  told = told-log o p (decisionOf (l .decision)) (viewAs 0) _ refl refl;
   decided = λ d h. absurd (un-settled refl h);
   stood = λ w. inl (upright-by o p (w .vote));
+}
+fresh (takes l o q w p c n) = record {
+  owner = refl;
+  told = told-log o p (decisionOf (l .decision)) (viewAs (l .view)) _ refl refl;
+  decided = λ d h. absurd (un-settled refl h);
+  stood = λ w. inl (upright-by o p (w .vote));
+}
+fresh (elects told v e d u p q c) = record {
+  owner = refl;
+  told = λ w h. inr (told-kept (some e) p _ refl refl w h);
+  decided = λ d h. absurd (un-settled refl h);
+  stood = λ w. inl (upright-by (some e) p (w .vote));
 }
 fresh (decides l o w p) = record {
   owner = refl;
@@ -114,10 +135,11 @@ fresh {x = x} {b = b} (replaces l e w p d) = record {
   stood = λ w. absurd (w .vote);
 }
   where
-    blank : (w : Word) → Holds (some (record { body = b; vote = unvoted; log = unsettled; decided = settled commit })) w
+    blank : (w : Word) → Holds (some (record { body = b; vote = unvoted; log = unlogged; view = viewAs 0; decided = settled commit })) w
         → (wordIn Done ≡ some w) ⊎ Carried x.table b w
     blank (vote d) h = absurd (un-settled refl h)
-    blank (log d) h = absurd (un-settled refl h)
+    blank (log d v) h = absurd (un-logged refl h)
+    blank (elect d v) h = absurd h
 
 -- an entry after a move: an old one, or the new one
 pub after-cases : {f : ℕ} {x : Box} {way : EntryPoint} {m : List ℕ} {b : Body} (a : Act) → Move f x way m b a → (e : Entry) → In e (tableAfter x.table (a .change))

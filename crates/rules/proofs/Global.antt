@@ -1,7 +1,7 @@
 -- One outcome, one body, and no write between a read and its version: from what sound boxes rest on.
 use Prim.Native.Nat.{ℕ, _+_, _≤_, _<_}
 use mathlib.Core.Bool.{Bool, _&&_}
-use mathlib.Core.Path.{_≡_, refl}
+use mathlib.Core.Path.{_≡_, refl, sym}
 use mathlib.Core.Logic.{_⊎_, inl, inr}
 use mathlib.Core.List.{List, List·Memᴰ as In}
 use native.Mathlib.Omega.{arith}
@@ -14,12 +14,13 @@ use Rattle.rules.specs.Bodies.{Body, stampOf, readsOf, writesKey}
 use Rattle.rules.specs.Lists.{kindOf, forLogging, forProof}
 use Rattle.rules.specs.Tests.{undercut}
 use Rattle.rules.specs.System.{Event, Word, vote, log, word, gave, howMany, Sound, Fair, Proof}
-use Rattle.rules.proofs.Laws.{both, any-of}
+use Rattle.rules.proofs.Laws.{both, any-of, lt-cases}
 use Rattle.rules.proofs.Counting.{count-more, meet}
 use Rattle.rules.proofs.Quorums.{quorums}
 use Rattle.rules.proofs.Local.{local}
 use Rattle.rules.proofs.Backing.{upheld, upheld-gave, proof-count, logged-count}
 use Rattle.rules.proofs.Rests.{ReadOk, rests}
+use Rattle.rules.proofs.Views.{votes-behind, one-log}
 use Rattle.rules.proofs.Apart.{Dead, aborted, rivalled, by-vote, parted}
 
 commit-abort : commit ≡ abort → ⊥
@@ -59,52 +60,64 @@ module _ (f : ℕ) (faulty : ℕ → Bool) (few : howMany faulty (boxes f) ≤ f
       let m = count-more (upheld f faulty es b w) faulty (boxes f) (omega arith) in
       record { box = m .0; sound = (m .1, m .3); one = upheld-gave f faulty es b w (m .0) (m .2) (m .3) }
 
-  -- a proof is votes, or logged decisions
+  -- a proof is votes, or logged decisions of one view
   data Case (b : Body) (d : Decision) : Type 0 where
     by-votes : forProof f votes d ≤ many b (vote d) → Case b d
-    by-logs : forProof f logs d ≤ many b (log d) → Case b d
+    by-logs : (v : ℕ) → forProof f logs d ≤ many b (log d v) → Case b d
 
   cases : (b : Body) (d : Decision) → Proof f faulty es b d → Case b d
   unfolding many word
   cases b d P = go (kindOf (P .list .kind)) (proof-count f faulty es b d P)
     where
-      go : (k : Kind) → forProof f k d ≤ many b (word k d) → Case b d
+      go : (k : Kind) → forProof f k d ≤ many b (word k (P .list .view) d) → Case b d
       go votes h = by-votes h
-      go logs h = by-logs h
+      go logs h = by-logs (P .list .view) h
 
-  behind-logs : (b : Body) (d : Decision) → forProof f logs d ≤ many b (log d) → forLogging f d ≤ many b (vote d)
+  behind-logs : (b : Body) (d : Decision) (v : ℕ) → forProof f logs d ≤ many b (log d v) → forLogging f d ≤ many b (vote d)
   unfolding many
-  behind-logs b d h =
-      let w = giver b (log d) (omega (arith, quorums f .log-sound d)) in
-      logged-count f faulty es b d (rests f faulty (w .box) (w .sound) es F .logged b d (w .one))
+  behind-logs b d v h =
+      let w = giver b (log d v) (omega (arith, quorums f .log-sound d)) in
+      logged-count f faulty es b d (votes-behind f faulty few es F (w .box) (w .sound) b d v (w .one))
 
   quorum-votes : (b : Body) → Case b commit → forLogging f commit ≤ many b (vote commit)
   quorum-votes b (by-votes h) = omega (arith, quorums f .proof-lists)
-  quorum-votes b (by-logs h) = behind-logs b commit h
+  quorum-votes b (by-logs v h) = behind-logs b commit v h
 
   pub quorum : (b : Body) → Proof f faulty es b commit → forLogging f commit ≤ howMany (upheld f faulty es b (vote commit)) (boxes f)
   unfolding many
   quorum b P = quorum-votes b (cases b commit P)
 
-  -- no box votes both ways, nor logs both
+  -- no box votes both ways; and 4f + 1 boxes do not log one decision and 4f + 1 the other, in one view or in two
   votes-clash : (b : Body) → boxes f + f < many b (vote commit) + many b (vote abort) → ⊥
   votes-clash b h =
       let w = shared b b (vote commit) (vote abort) h in
       commit-abort (local f (w .box) es .one-vote b b commit abort (w .one) (w .two) refl .1)
 
-  logs-clash : (b : Body) → boxes f + f < many b (log commit) + many b (log abort) → ⊥
-  logs-clash b h =
-      let w = shared b b (log commit) (log abort) h in
-      commit-abort (local f (w .box) es .one-log b commit abort (w .one) (w .two))
+  logs-clash : (b : Body) (u v : ℕ) → forProof f logs commit ≤ many b (log commit u) → forProof f logs abort ≤ many b (log abort v) → ⊥
+  unfolding many
+  logs-clash b u v h k = go (lt-cases u v) (lt-cases v u)
+    where
+      go : (u < v) ⊎ (v ≤ u) → (v < u) ⊎ (u ≤ v) → ⊥
+      go (inl l) r =
+          let w = giver b (log abort v) (omega (arith, quorums f .log-sound abort)) in
+          commit-abort (sym (one-log f faulty few es F b u v commit abort l h (w .box) (w .sound) (w .one)))
+      go (inr l) (inl r) =
+          let w = giver b (log commit u) (omega (arith, quorums f .log-sound commit)) in
+          commit-abort (one-log f faulty few es F b v u abort commit r k (w .box) (w .sound) (w .one))
+      go (inr l) (inr r) =
+          let q : v ≡ u = omega arith in
+          let k′ = rw q at k in
+          let w = shared b b (log commit u) (log abort u) (omega (arith, quorums f .both-logged)) in
+          commit-abort (local f (w .box) es .one-log b commit abort u (w .one) (w .two))
 
   pub one-outcome : (b : Body) → Proof f faulty es b commit → Proof f faulty es b abort → ⊥
   one-outcome b P Q = go (cases b commit P) (cases b abort Q)
     where
       go : Case b commit → Case b abort → ⊥
       go (by-votes c) (by-votes h) = votes-clash b (omega (arith, quorums f .both-voted))
-      go (by-votes c) (by-logs h) = votes-clash b (omega (arith, quorums f .abort-logged, behind-logs b abort h))
-      go (by-logs c) (by-votes h) = votes-clash b (omega (arith, quorums f .commit-logged, behind-logs b commit c))
-      go (by-logs c) (by-logs h) = logs-clash b (omega (arith, quorums f .both-logged))
+      go (by-votes c) (by-logs v h) = votes-clash b (omega (arith, quorums f .abort-logged, behind-logs b abort v h))
+      go (by-logs u c) (by-votes h) = votes-clash b (omega (arith, quorums f .commit-logged, behind-logs b commit u c))
+      go (by-logs u c) (by-logs v h) = logs-clash b u v c h
 
   agreeing : (b c : Body) → Proof f faulty es b commit → Proof f faulty es c commit → Both b c (vote commit) (vote commit)
   unfolding many

@@ -1,12 +1,12 @@
 -- Taking the rules' tests apart, and the laws of look-up and put.
-use Prim.Native.Nat.{ℕ}
+use Prim.Native.Nat.{ℕ, _≤_, _<_}
 use mathlib.Core.Bool.{Bool, true, false, not, _&&_, _||_}
 use mathlib.Core.Path.{_≡_, refl, sym, _∙_, ap}
 use mathlib.Core.Logic.{_⊎_, inl, inr}
 use mathlib.Core.Option.{some, none}
 use mathlib.Core.List.{List, [], _∷_, List·Memᴰ as In, List·Memᴰ·head as here, List·Memᴰ·tail as there, List·Memᴰ·cases-cons}
 use native.Mathlib.Omega.{arith}
-use lib.Dec.{T, eqb, eqb→eq, eqb-refl}
+use lib.Dec.{T, eqb, eqb→eq, eqb-refl, ltb, ltb→lt, nltb→le}
 use Rattle.terms.specs.Choice.{pick, any}
 use Rattle.rules.specs.Answers.{Decision, commit, abort}
 use Rattle.rules.specs.Bodies.{Body, stampOf, sameBody}
@@ -56,6 +56,13 @@ or-r false b h = h
 pub decideT : (b : Bool) → T b ⊎ T (not b)
 decideT true = inl tt
 decideT false = inr tt
+
+pub lt-cases : (m n : ℕ) → (m < n) ⊎ (n ≤ m)
+lt-cases m n = go (decideT (ltb m n))
+  where
+    go : T (ltb m n) ⊎ T (not (ltb m n)) → (m < n) ⊎ (n ≤ m)
+    go (inl h) = inl (ltb→lt m n h)
+    go (inr h) = inr (nltb→le m n h)
 
 pub no-both : (b : Bool) → T b → T (not b) → ⊥
 no-both true h k = k

@@ -1,4 +1,4 @@
--- In the order of use. Of what the theorem rests on, only Tested, Called and Deeds look into the rules.
+-- In the order of use. Of what the theorem rests on, only Tested, Called, Fallback and Deeds look into the rules.
 pub mod Laws
 pub mod Counting
 pub mod Lacking
@@ -6,6 +6,7 @@ pub mod Quorums
 pub mod Moves
 pub mod Tested
 pub mod Called
+pub mod Fallback
 pub mod Deeds
 pub mod Outcome
 pub mod Kept
@@ -16,6 +17,7 @@ pub mod Trace
 pub mod Local
 pub mod Backing
 pub mod Rests
+pub mod Views
 pub mod Apart
 pub mod Global
 pub mod Serial
@@ -26,3 +28,4 @@ pub mod Alike
 pub mod Running
 pub mod Cases
 pub mod Traces
+pub mod Leading

@@ -12,8 +12,9 @@ use Rattle.rules.specs.Answers.{Refused}
 use Rattle.rules.specs.Bodies.{Body}
 use Rattle.rules.specs.Table.{Box, Told}
 use Rattle.rules.specs.Calls.{Act, Change, nothing, puts, raises, castAct, logAct, decideAct, rdAnswer, lookAct}
+use Rattle.rules.specs.Fallback.{electAct}
 use Rattle.rules.specs.Act.{EntryPoint, receive, due, dueMark, markBy, act, tableAfter, raise, marksAfter, boxAfter, after}
-use Rattle.rules.proofs.Moves.{Move, quiet, looks, again, casts, logs-first, decides, replaces}
+use Rattle.rules.proofs.Moves.{Move, quiet, looks, again, casts, logs-first, takes, elects, decides, replaces}
 use Rattle.rules.proofs.Deeds.{deed}
 
 -- the entry point for any message does what the one for its mark does
@@ -23,12 +24,14 @@ act-due told x m k e = rw e
 
 -- ---- "A refusal returns its number only. Table, read marks, .. stay unchanged."
 refused-change : {f : ℕ} {x : Box} {way : EntryPoint} {m : List ℕ} {b : Body} {a : Act} (r : Refusal) → Move f x way m b a → a .answer ≡ Refused r → a .change ≡ nothing
-unfolding castAct logAct decideAct lookAct rdAnswer
+unfolding castAct logAct electAct decideAct lookAct rdAnswer
 refused-change r (quiet n) q = refl
 refused-change r (looks k s) q = let z : _≡_ {A = ℕ} 0 1 = cc in absurd (omega arith)
 refused-change r (again w e p h n) q = refl
 refused-change r (casts v o p n d c) q = let z : _≡_ {A = ℕ} 0 1 = cc in absurd (omega arith)
 refused-change r (logs-first l o w k y p n) q = let z : _≡_ {A = ℕ} 0 1 = cc in absurd (omega arith)
+refused-change r (takes l o w y p c n) q = let z : _≡_ {A = ℕ} 0 1 = cc in absurd (omega arith)
+refused-change r (elects told v e d u p h c) q = let z : _≡_ {A = ℕ} 0 1 = cc in absurd (omega arith)
 refused-change r (decides l o w p) q = let z : _≡_ {A = ℕ} 0 1 = cc in absurd (omega arith)
 refused-change r (replaces l e w p d) q = let z : _≡_ {A = ℕ} 0 1 = cc in absurd (omega arith)
 

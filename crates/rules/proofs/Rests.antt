@@ -1,36 +1,89 @@
 -- What sound boxes rest on along a fair trace: proofs, lists of votes, committed versions.
-use Prim.Native.Nat.{ℕ, _<_}
+use Prim.Native.Nat.{ℕ, _≤_, _<_}
 use mathlib.Core.Bool.{Bool}
 use mathlib.Core.Path.{_≡_, refl}
 use mathlib.Core.Logic.{_⊎_, inl, inr}
-use mathlib.Core.Option.{some}
 use mathlib.Core.List.{List, [], _∷_, List·Memᴰ as In}
 use native.Mathlib.Omega.{arith}
 use lib.Dec.{T}
+use Rattle.terms.specs.Group.{boxes}
 use Rattle.records.specs.declared.Read.{Read}
 use Rattle.records.specs.Tx.{readKey, readVersion}
 use Rattle.records.specs.Vl.{Vl}
+use Rattle.records.specs.Views.{Views}
+use Rattle.records.specs.declared.Mark.{Mark}
+use Rattle.records.specs.declared.Mark.the-variants.{LG, DC, LD}
 use Rattle.rules.specs.Answers.{Decision, commit, Vote, unvoted, waiting, voteCommit, voteAbort, settled}
 use Rattle.rules.specs.Bodies.{Body, stampOf, readsOf, writesKey}
 use Rattle.rules.specs.Lists.{decisionOf}
 use Rattle.rules.specs.Table.{Entry, empty, find}
 use Rattle.rules.specs.Calls.{Act}
 use Rattle.records.specs.Cutting.{txPart}
+use Rattle.records.specs.Messages.{listBehind}
 use Rattle.rules.specs.Act.{EntryPoint}
-use Rattle.rules.specs.System.{Event, boxAt, vote, log, cast, gave, Sound, Backed, Honest, Fair, Proof, HonestBy}
+use Rattle.rules.specs.Quorums.{majority}
+use Rattle.rules.specs.System.{Event, boxAt, vote, log, elect, cast, gave, givenIn, howMany, Sound, Backed, ChosenBy, Carries, HonestBy, Honest, Fair, Proof}
 use Rattle.rules.proofs.Laws.{find-stamp, find-in}
-use Rattle.rules.proofs.Moves.{none-some, un-settled, abort-commit, Names, start, here-held, Ready, Brings, Move}
-use Rattle.rules.proofs.Said.{Said, repeats, by-tests, by-list, said}
+use Rattle.rules.proofs.Moves.{un-settled, abort-commit, Names, start, here-held, Ready, Listed, in-lg, in-dc, Brings, Leads, Move}
+use Rattle.rules.proofs.Said.{Said, repeats, by-tests, by-list, by-leader, by-log, said}
 use Rattle.rules.proofs.Fresh.{Fresh, after-cases}
 use Rattle.rules.proofs.Trace.{table, New, Idle, Moved, Step, still, arrives, step}
 use Rattle.rules.proofs.Local.{carried-gave, local}
-use Rattle.rules.proofs.Backing.{LogBehind, logged-later, proof-later}
+use Rattle.rules.proofs.Backing.{upheld, ballot-count, LogBehind, proof-later}
 
 module _ (f : ℕ) (faulty : ℕ → Bool) where
+  backed-in : (es : List Event) (m : List ℕ) (k : Mark) → Listed k → Carries f faulty (givenIn f es) k m → Backed f faulty es (txPart m) (listBehind m)
+  unfolding Carries
+  backed-in es m LG in-lg h = h
+  backed-in es m DC in-dc h = h
+
   -- a list that a message brings is backed
   brought : (es : List Event) (way : EntryPoint) (m : List ℕ) (b : Body) (l : Vl) → Brings f way m b l → Honest f faulty es way m → Backed f faulty es b l
   unfolding HonestBy
-  brought es way m b l w h = rw (← w .body, ← w .list) (h (w .mark) (w .marked) (w .read) (w .carries))
+  brought es way m b l w h = rw (← w .body, ← w .list) (backed-in es m (w .mark) (w .carries) (h (w .mark) (w .marked) (w .read)))
+
+  -- and the election answers of a leader's decision were given
+  led : (es : List Event) (way : EntryPoint) (m : List ℕ) (b : Body) (l : Views) → Leads f way m b l → Honest f faulty es way m
+      → ChosenBy f faulty (givenIn f es) b l
+  unfolding HonestBy Carries
+  led es way m b l w h = rw (← w .body, ← w .answers) (h LD (w .marked) (w .read))
+
+  -- where a sound box's log comes from: it was given earlier, or it rests on votes, or on the majority of election answers
+  pub data Source (j : ℕ) (es : List Event) (b : Body) (d : Decision) (w : ℕ) : Type 0 where
+    earlier : T (gave f j b (log d w) es) → Source j es b d w
+    from-votes : 0 ≡ w → LogBehind f faulty es b d → Source j es b d w
+    from-ballots : majority f ≤ howMany (upheld f faulty es b (elect d w)) (boxes f) → Source j es b d w
+
+  source-said : (j : ℕ) (es : List Event) (way : EntryPoint) (m : List ℕ) (b : Body) (d : Decision) (w : ℕ) → Honest f faulty es way m
+      → Said f (boxAt f j es) way m b (log d w) → Source j es b d w
+  unfolding table
+  source-said j es way m b d w H (repeats e p h) =
+      earlier (carried-gave f j es (local f j es) b (log d w) (record { entry = e; prior = p; holds = h }))
+  source-said j es way m b d w H (by-tests d′ v o q p n k r) = let z : _≡_ {A = ℕ} 0 1 = cc in absurd (omega arith)
+  source-said j es way m b d w H (by-list l o q i k y p n) =
+      let a : decisionOf (l .decision) ≡ d = cc in
+      let v : 0 ≡ w = cc in
+      from-votes v (record { list = l; kind = k; names = a; listing = y; backed = brought es way m b l i H })
+  source-said j es way m b d w H (by-leader l o q i y p n k) =
+      let a : decisionOf (l .decision) ≡ d = cc in
+      let v : l .view ≡ w = cc in
+      from-ballots (rw (a, v) at (ballot-count f faulty es b l y (led es way m b l i H)))
+  source-said j es way m b d w H (by-log v e x u q p h) = let z : _≡_ {A = ℕ} 0 1 = cc in absurd (omega arith)
+
+  pub source : (j : ℕ) → Sound f faulty j → (e : Event) (es : List Event) → Fair f faulty (e ∷ es) → (b : Body) (d : Decision) (w : ℕ)
+      → T (gave f j b (log d w) (e ∷ es)) → Source j es b d w
+  unfolding Fair
+  source j s e es F b d w h = by (step f j e es)
+    where
+      by : Step f j e es → Source j es b d w
+      by (still s′) = earlier (s′ .unsaid b (log d w) h)
+      by (arrives s′) = go (s′ .given b (log d w) h)
+        where
+          go : New f j e es (s′ .act) b (log d w) → Source j es b d w
+          go (inr u) = earlier u
+          go (inl u) =
+              rw (← u .0)
+              (source-said j es e.entry e.message (txPart e.message) d w (F .1 (rw (s′ .here) s)) (said (s′ .move) (log d w) (u .1)))
 
   -- a committed writer of a key at a version
   pub record Writer (es : List Event) (k v : ℕ) : Type 0 where
@@ -51,15 +104,14 @@ module _ (f : ℕ) (faulty : ℕ → Bool) where
       go (inr u) =
           inr (record { body = u .body; stamp = u .stamp; writes = u .writes; proof = proof-later f faulty e es (u .body) commit (u .proof) })
 
-  -- of a sound box: what it decided has a proof, what it logged a list of votes, and what it voted to commit reads committed versions
+  -- of a sound box: what it decided has a proof, and what it voted to commit reads committed versions
   pub record Rests (i : ℕ) (es : List Event) : Type 0 where
     pub decided : (e : Entry) (d : Decision) → In e (table f i es) → e.decided ≡ settled d → Proof f faulty es e.body d
-    pub logged : (b : Body) (d : Decision) → T (gave f i b (log d) es) → LogBehind f faulty es b d
     pub reads : (b : Body) → T (gave f i b (vote commit) es) → (r : Read) → In r (readsOf b) → ReadOk es b r
 
   rests-empty : (i : ℕ) → Rests i []
   unfolding table boxAt empty gave find
-  rests-empty i = record { decided = λ e d p q. elim p [ ]; logged = λ b d h. absurd h; reads = λ b h r m. absurd h }
+  rests-empty i = record { decided = λ e d p q. elim p [ ]; reads = λ b h r m. absurd h }
 
   cast-commit : (v : Vote) → cast v ≡ settled commit → v ≡ voteCommit
   unfolding cast
@@ -89,21 +141,12 @@ module _ (f : ℕ) (faulty : ℕ → Bool) where
   reads-said i es R way m b (repeats e p h) = R .reads b (carried-gave f i es (local f i es) b (vote commit) (record { entry = e; prior = p; holds = h }))
   reads-said i es R way m b (by-tests d v o q p n k w) = let a : d ≡ commit = cc in ready-read i es R b v (rw a at k) w
   reads-said i es R way m b (by-list l o q k y w p n) = let z : _≡_ {A = ℕ} 0 1 = cc in absurd (omega arith)
-
-  logged-said : (i : ℕ) (es : List Event) → Rests i es → (way : EntryPoint) (m : List ℕ) (b : Body) (d : Decision) → Honest f faulty es way m
-      → Said f (boxAt f i es) way m b (log d) → LogBehind f faulty es b d
-  unfolding HonestBy table
-  logged-said i es R way m b d H (repeats e p h) =
-      R .logged b d (carried-gave f i es (local f i es) b (log d) (record { entry = e; prior = p; holds = h }))
-  logged-said i es R way m b d H (by-tests d′ v o q p n k r) = let z : _≡_ {A = ℕ} 0 1 = cc in absurd (omega arith)
-  logged-said i es R way m b d H (by-list l o q j k y p n) =
-      let a : decisionOf (l .decision) ≡ d = cc in
-      record { list = l; kind = k; names = a; listing = y; backed = brought es way m b l j H }
+  reads-said i es R way m b (by-leader l o q k y p n u) = let z : _≡_ {A = ℕ} 0 1 = cc in absurd (omega arith)
+  reads-said i es R way m b (by-log v e d u q p h) = let z : _≡_ {A = ℕ} 0 1 = cc in absurd (omega arith)
 
   rests-still : (i : ℕ) (e : Event) (es : List Event) → Idle f i e es → Rests i es → Rests i (e ∷ es)
   rests-still i e es s R = record {
     decided = λ x d p q. proof-later f faulty e es x.body d (R .decided x d (rw (s .table-now) at p) q);
-    logged = λ b d h. logged-later f faulty e es b d (R .logged b d (s .unsaid b (log d) h));
     reads = λ b h r m. read-later e es b r (R .reads b (s .unsaid b (vote commit) h) r m);
   }
 
@@ -111,7 +154,6 @@ module _ (f : ℕ) (faulty : ℕ → Bool) where
   unfolding table
   rests-moved i e es s hon R = record {
     decided = λ x d p q. proof-later f faulty e es x.body d (decided-by x d q (after-cases a m x (rw (s .table-now) at p)));
-    logged = λ b d h. logged-later f faulty e es b d (logged-by b d (s .given b (log d) h));
     reads = λ b h r k. read-later e es b r (reads-by b (s .given b (vote commit) h) r k);
   }
     where
@@ -137,10 +179,6 @@ module _ (f : ℕ) (faulty : ℕ → Bool) where
             enough = y .1 .listing .enough;
             backed = brought es e.entry e.message b₀ (y .0) (y .1 .brings) hon;
           })
-
-      logged-by : (b : Body) (d : Decision) → New f i e es a b (log d) → LogBehind f faulty es b d
-      logged-by b d (inr u) = R .logged b d u
-      logged-by b d (inl u) = rw (← u .0) (logged-said i es R e.entry e.message b₀ d hon (said m (log d) (u .1)))
 
       reads-by : (b : Body) → New f i e es a b (vote commit) → (r : Read) → In r (readsOf b) → ReadOk es b r
       reads-by b (inr u) = R .reads b u

@@ -6,24 +6,29 @@ use mathlib.Core.Logic.{_⊎_, inl, inr}
 use mathlib.Core.Option.{Option, some, none}
 use mathlib.Core.List.{List, [], _∷_}
 use native.Mathlib.Omega.{arith}
-use lib.Dec.{T, eqb, nleb→lt}
+use lib.Dec.{T, eqb, ltb, nleb→lt}
 use lib.ListN.{length}
 use Rattle.terms.proofs.Checks.{first-none, rest-none, not-less}
 use Rattle.records.specs.Vl.{Vl}
+use Rattle.records.specs.declared.Ballot.{Ballot}
+use Rattle.records.specs.declared.ViewMark.the-variants.{VS, EL}
+use Rattle.records.specs.Views.{Views}
 use Rattle.records.specs.Contents.{largestKey, rdWrong}
 use Rattle.records.specs.declared.Mark.{Mark}
-use Rattle.records.specs.declared.Mark.the-variants.{PR, LG, DC, RD}
+use Rattle.records.specs.declared.Mark.the-variants.{PR, LG, DC, RD, IV, LD}
 use Rattle.records.specs.declared.Marked.{Marked}
 use Rattle.records.specs.declared.Marked.the-variants.{Is, Refused as Unmarked}
 use Rattle.records.specs.Messages.{contentsWrong, dueRefusal, rdKey, rdStamp}
-use Rattle.rules.specs.Answers.{Decision, commit, abort, Settled, settled, unsettled, Vote, unvoted, waiting, voteCommit, voteAbort}
+use Rattle.rules.specs.Answers.{Decision, commit, abort, Log, logged, unlogged, Settled, settled, unsettled, Vote, unvoted, waiting, voteCommit, voteAbort}
 use Rattle.rules.specs.Bodies.{Body, stampOf, sameBody}
 use Rattle.rules.specs.Lists.{decisionOf, meets}
 use Rattle.rules.specs.Table.{Entry, Box, Told, find, put}
 use Rattle.rules.specs.Calls.{Act, Change, nothing, puts, raises, isFull, roomFor, needing, sameDecision, castAct, prByVote, prByDecision, prByEntry, prRule, logAct}
 use Rattle.rules.specs.Calls.{lgByLog, lgByDecision, lgByEntry, lgRule, decideAct, dcSame, dcOther, dcByEntry, dcRule, guarded, lookAct, rdRule}
 use Rattle.records.specs.Cutting.{txPart}
-use Rattle.records.specs.Messages.{listBehind}
+use Rattle.records.specs.Messages.{listBehind, viewsBehind}
+use Rattle.rules.specs.Fallback.{largestView, nextView, electAct, ivByLog, ivByDecision, ivByEntry, ivRule}
+use Rattle.rules.specs.Fallback.{leads, mayTake, takeAct, ldByDecision, ldByEntry, ldRule}
 use Rattle.rules.specs.Act.{EntryPoint, rule, dueAct, markedAct, markBy, act, tableAfter, marksAfter, boxAfter, after}
 use Rattle.rules.proofs.Laws.{pick-elim, pick-true, pick-false, decideT}
 use Rattle.rules.proofs.Moves.{none-some}
@@ -82,9 +87,9 @@ module _ (K : ℕ → Type 0) (told : Told) (x : Box) (b : Body) where
   lg-by l none p = need-fits _ l _ (room-fits _ (λ n. (refl, λ _. n)))
   lg-by l (some e) p = pick-elim (Fit K told x b) (sameBody e.body b) (λ _. by-decision e.decided) (λ _. tt)
     where
-      by-log : (d : Settled) → Fit K told x b (lgByLog told b l e d)
-      by-log (settled d) = tt
-      by-log unsettled = need-fits _ l _ (refl, λ q. absurd (none-some q p))
+      by-log : (y : Log) → Fit K told x b (lgByLog told b l e y)
+      by-log (logged d v) = tt
+      by-log unlogged = need-fits _ l _ (refl, λ q. absurd (none-some q p))
 
       by-decision : (d : Settled) → Fit K told x b (lgByDecision told b l e d)
       by-decision unsettled = by-log e.log
@@ -113,6 +118,44 @@ module _ (K : ℕ → Type 0) (told : Told) (x : Box) (b : Body) where
   unfolding dcRule Fit FitsBy
   dc-fits l = need-fits _ l _ (dc-by (decisionOf (l .decision)) (find (stampOf b) x.table) refl)
 
+  iv-by : (ps : List Ballot) (o : Option Entry) → find (stampOf b) x.table ≡ o → Fit K told x b (ivByEntry told b ps o)
+  unfolding ivByEntry ivByDecision ivByLog electAct Fit FitsBy
+  iv-by ps none p = tt
+  iv-by ps (some e) p = pick-elim (Fit K told x b) (sameBody e.body b) (λ _. by-decision e.decided) (λ _. tt)
+    where
+      by-log : (y : Log) → Fit K told x b (ivByLog told b ps e y)
+      by-log unlogged = tt
+      by-log (logged d v) =
+          pick-elim (Fit K told x b) (ltb largestView (nextView told.f (e.view .0) ps)) (λ _. tt) (λ _. (refl, λ q. absurd (none-some q p)))
+
+      by-decision : (d : Settled) → Fit K told x b (ivByDecision told b ps e d)
+      by-decision unsettled = by-log e.log
+      by-decision (settled d) = tt
+
+  pub iv-fits : (l : Views) → Fit K told x b (ivRule told x b l)
+  unfolding ivRule
+  iv-fits l = iv-by (l .ballots) (find (stampOf b) x.table) refl
+
+  take-fits : (l : Views) (o : Option Entry) (a : Act) → Fit K told x b a → Fit K told x b (takeAct told b l o a)
+  unfolding takeAct Fit FitsBy
+  take-fits l o a h =
+      pick-elim (Fit K told x b) (leads told.f b l)
+      (λ _. pick-elim (Fit K told x b) (mayTake (l .view) o) (λ _. h) (λ _. tt))
+      (λ _. tt)
+
+  ld-by : (l : Views) (o : Option Entry) → find (stampOf b) x.table ≡ o → Fit K told x b (ldByEntry told x b l o)
+  unfolding ldByEntry ldByDecision logAct Fit FitsBy
+  ld-by l none p = take-fits l none _ (room-fits _ (λ n. (refl, λ _. n)))
+  ld-by l (some e) p = pick-elim (Fit K told x b) (sameBody e.body b) (λ _. by-decision e.decided) (λ _. tt)
+    where
+      by-decision : (d : Settled) → Fit K told x b (ldByDecision told b l e d)
+      by-decision unsettled = take-fits l (some e) _ (refl, λ q. absurd (none-some q p))
+      by-decision (settled d) = tt
+
+  pub ld-fits : (l : Views) → Fit K told x b (ldRule told x b l)
+  unfolding ldRule
+  ld-fits l = ld-by l (find (stampOf b) x.table) refl
+
   pub rd-fits : (k s : ℕ) → K k → Fit K told x b (rdRule told x k s)
   unfolding rdRule lookAct Fit FitsBy
   rd-fits k s h = guarded-fits _ _ (λ _. h)
@@ -127,6 +170,8 @@ module _ (told : Told) (x : Box) (m : List ℕ) where
   rule-fits PR h = pr-fits _ told x (txPart m)
   rule-fits LG h = lg-fits _ told x (txPart m) (listBehind m)
   rule-fits DC h = dc-fits _ told x (txPart m) (listBehind m)
+  rule-fits IV h = iv-fits _ told x (txPart m) (viewsBehind VS m)
+  rule-fits LD h = ld-fits _ told x (txPart m) (viewsBehind EL m)
   rule-fits RD h = rd-fits _ told x (txPart m) (rdKey m) (rdStamp m) (rd-key told.f m h)
 
   marked-fits : (k : Marked) → Fits told x (txPart m) (markedAct k told x m)
@@ -190,7 +235,7 @@ never-dropped told x way m s e h = go (act way told x m .change)
         by (inl u) = (y, u .1)
         by (inr u) = (e, u ∙ h)
 
--- ---- PR, LG and DC raise no mark, RD puts no entry
+-- ---- PR, LG, DC, IV and LD raise no mark, RD puts no entry
 still : (told : Told) (x : Box) (b : Body) (c : Change) → FitsBy (λ _. ⊥) told x b c → (marks : List ℕ) → marksAfter marks c ≡ marks
 unfolding FitsBy marksAfter
 still told x b nothing h marks = refl
@@ -209,6 +254,14 @@ module _ (told : Told) (x : Box) (b : Body) (marks : List ℕ) where
   pub dc-still : (l : Vl) → marksAfter marks (dcRule told x b l .change) ≡ marks
   unfolding Fit
   dc-still l = still told x b _ (dc-fits (λ _. ⊥) told x b l) marks
+
+  pub iv-still : (l : Views) → marksAfter marks (ivRule told x b l .change) ≡ marks
+  unfolding Fit
+  iv-still l = still told x b _ (iv-fits (λ _. ⊥) told x b l) marks
+
+  pub ld-still : (l : Views) → marksAfter marks (ldRule told x b l .change) ≡ marks
+  unfolding Fit
+  ld-still l = still told x b _ (ld-fits (λ _. ⊥) told x b l) marks
 
 pub rd-still : (told : Told) (x : Box) (k s : ℕ) (t : List Entry) → tableAfter t (rdRule told x k s .change) ≡ t
 unfolding rdRule lookAct tableAfter

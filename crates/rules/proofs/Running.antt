@@ -5,11 +5,13 @@ use Rattle.terms.specs.Group.{groupWrong}
 use Rattle.terms.specs.Refusals.{refusalOf}
 use Rattle.records.specs.Numbers.{numAt}
 use Rattle.records.specs.Tx.{txOf, txBytes, readAt, writeAt}
+use Rattle.records.specs.Views.{ballotFrom, ballotAt, viewsOf, ballotBytes, ledBytes, viewsBytes}
 use Rattle.records.specs.Vl.{viewLen, viewOf, viewBytes, vlOf, vlBytes, pairAt}
-use Rattle.records.specs.Contents.{txWrong, listWrong, logListWrong, codeWrong, rdWrong, countsWrong, countWrong}
-use Rattle.records.specs.Cutting.{txPart, vlPart, txCut, vlCut, listedCut, listedLen, restCut, messageCut, messageLen, behindWrong, markWrong}
-use Rattle.records.specs.Messages.{listBehind, contentsWrong, dueRefusal, isMark, markOf}
-use Rattle.records.specs.Writing.{prBytes, listedBytes, rdBytes}
+use Rattle.records.specs.Contents.{txWrong, listWrong, logListWrong, codeWrong, rdWrong, countsWrong, countWrong, viewsWrong}
+use Rattle.records.specs.Cutting.{txPart, listPart, txCut, vlCut, viewsCut, listedCut, viewedCut, listedLen, viewedLen, restCut, messageCut, messageLen}
+use Rattle.records.specs.Cutting.{behindWrong, markWrong}
+use Rattle.records.specs.Messages.{listBehind, viewsBehind, contentsWrong, dueRefusal, isMark, markOf}
+use Rattle.records.specs.Writing.{prBytes, listedBytes, viewedBytes, rdBytes}
 use Rattle.rules.specs.Bodies.{stampOf, readsOf, writesOf, sameBody, writesKey}
 use Rattle.rules.specs.Lists.{kindOf, decisionOf, bit, tally, meets, lacking}
 use Rattle.rules.specs.Table.{empty, find, put, liveBy, live}
@@ -17,11 +19,13 @@ use Rattle.rules.specs.Tests.{test1, liveWriter, test2, undercut, test3,
 use Rattle.rules.specs.Calls.{guarded, isFull, roomFor, needing, sameDecision, castAct, prByVote, prByDecision, prByEntry, prRule, logAct, lgByLog}
 use Rattle.rules.specs.Calls.{lgByDecision, lgByEntry, lgRule, decideAct, dcSame, dcOther, dcByEntry, dcRule, better, newest, valueAt}
 use Rattle.rules.specs.Calls.{versionOf, isCommitted, isUndecided, rdAnswer, lookAct, rdRule}
+use Rattle.rules.specs.Fallback.{leaderOf, reach, higher, reached, byFew, byMany, nextView, electAct, ivByLog, ivByDecision, ivByEntry, ivRule}
+use Rattle.rules.specs.Fallback.{oneView, leads, mayTake, takeAct, ldByDecision, ldByEntry, ldRule}
 use Rattle.rules.specs.Act.{toldWrong, rule, dueAct, markedAct, dueMark, markBy, act, tableAfter, raise, marksAfter, boxAfter, after}
-use Rattle.rules.specs.System.{boxAt, answerTo, word, cast, voteWord, wordIn, sameWord, isWord, givesNow, gave, howMany, carriesList}
+use Rattle.rules.specs.System.{boxAt, answerTo, word, cast, voteWord, wordIn, sameWord, isWord, givesNow, gave, howMany}
 use Rattle.rules.specs.Cases.{replay, given, due, line, case, read, write, tx, writes, reads, pairs, list, PR, LG, DC, RD, commits, waits}
-use Rattle.rules.specs.Cases.{aborts, lg, dc, few, found}
-use Rattle.rules.specs.Vectors.{group, marked, lent, entry, zeros, stores, run, held, wanted}
+use Rattle.rules.specs.Cases.{aborts, logs0, lg, dc, iv, ld, logsAt, ballotsOf, seen, elections, few, found}
+use Rattle.rules.specs.Vectors.{group, marked, lent, atFirst, viewed, entry, logsIn, elects, zeros, stores, run, held, wanted}
 
 unfoldable checks : ℕ
 unfolding orElse when ifLess ifSame ifOther refusalOf groupWrong
@@ -31,8 +35,12 @@ unfoldable bytes : ℕ
 unfolding numAt readAt writeAt txOf txBytes viewLen viewOf viewBytes pairAt vlOf vlBytes prBytes listedBytes rdBytes
 bytes = 0
 
+unfoldable views : ℕ
+unfolding ballotFrom ballotAt viewsOf ballotBytes ledBytes viewsBytes viewsWrong viewsCut viewedCut viewedLen viewsBehind viewedBytes
+views = 0
+
 unfoldable reading : ℕ
-unfolding countsWrong countWrong txWrong codeWrong listWrong logListWrong rdWrong markWrong txCut vlCut behindWrong txPart vlPart
+unfolding countsWrong countWrong txWrong codeWrong listWrong logListWrong rdWrong markWrong txCut vlCut behindWrong txPart listPart
 reading = 0
 
 unfoldable messages : ℕ
@@ -55,22 +63,30 @@ unfoldable deciding : ℕ
 unfolding decideAct dcSame dcOther dcByEntry dcRule better newest valueAt versionOf isCommitted isUndecided rdAnswer lookAct rdRule
 deciding = 0
 
+unfoldable moving : ℕ
+unfolding leaderOf reach higher reached byFew byMany nextView electAct ivByLog ivByDecision ivByEntry ivRule
+moving = 0
+
+unfoldable leading : ℕ
+unfolding oneView leads mayTake takeAct ldByDecision ldByEntry ldRule
+leading = 0
+
 unfoldable acting : ℕ
 unfolding toldWrong rule dueAct markedAct dueMark markBy act tableAfter raise marksAfter boxAfter after
 acting = 0
 
 unfoldable sending : ℕ
-unfolding replay given due line case read write tx writes reads pairs list PR LG DC RD lg dc few found commits waits aborts
+unfolding replay given due line case read write tx writes reads pairs list PR LG DC RD lg dc iv ld logsAt ballotsOf seen elections few found commits waits aborts logs0
 sending = 0
 
 unfoldable lending : ℕ
-unfolding group marked lent entry zeros run held wanted stores
+unfolding group marked lent atFirst viewed entry logsIn elects zeros run held wanted stores
 lending = 0
 
 unfoldable pub running : ℕ
-unfolding checks bytes reading messages tables testing calling deciding acting sending lending
+unfolding checks bytes views reading messages tables testing calling deciding moving leading acting sending lending
 running = 0
 
 unfoldable pub tracing : ℕ
-unfolding running boxAt answerTo word cast voteWord wordIn sameWord isWord givesNow gave howMany carriesList
+unfolding running boxAt answerTo word cast voteWord wordIn sameWord isWord givesNow gave howMany
 tracing = 0

@@ -6,13 +6,15 @@ use Rattle.terms.specs.Checks.{orElse, ifLess, group, mark}
 use Rattle.terms.specs.Group.{groupWrong}
 use Rattle.terms.specs.Refusals.{refusalOf}
 use Rattle.records.specs.declared.Mark.{Mark}
-use Rattle.records.specs.declared.Mark.the-variants.{PR, LG, DC, RD}
+use Rattle.records.specs.declared.Mark.the-variants.{PR, LG, DC, RD, IV, LD}
 use Rattle.records.specs.declared.Marked.{Marked}
 use Rattle.records.specs.declared.Marked.the-variants.{Is, Refused as Unmarked}
+use Rattle.records.specs.declared.ViewMark.the-variants.{VS, EL}
 use Rattle.records.specs.Cutting.{txPart}
-use Rattle.records.specs.Messages.{dueRefusal, listBehind, markOf, rdKey, rdStamp}
+use Rattle.records.specs.Messages.{dueRefusal, listBehind, markOf, rdKey, rdStamp, viewsBehind}
 use Rattle.rules.specs.Table.{Box, Entry, Told, put}
 use Rattle.rules.specs.Calls.{Act, Change, dcRule, guarded, lgRule, nothing, prRule, puts, raises, rdRule, refuse}
+use Rattle.rules.specs.Fallback.{ivRule, ldRule}
 
 -- 14: "f not 1 to 5, or capacity not 1 to 255". "Order: 14, 16; then cutting": 16 is about a lent table, and is asked where one is lent
 unfoldable pub toldWrong : Told → ℕ
@@ -24,6 +26,8 @@ rule PR told x m = prRule told x (txPart m)
 rule LG told x m = lgRule told x (txPart m) (listBehind m)
 rule DC told x m = dcRule told x (txPart m) (listBehind m)
 rule RD told x m = rdRule told x (rdKey m) (rdStamp m)
+rule IV told x m = ivRule told x (txPart m) (viewsBehind VS m)
+rule LD told x m = ldRule told x (txPart m) (viewsBehind EL m)
 
 -- "then cutting ..; Then contents ..; State refusals follow": a message where one with this mark is due
 unfoldable pub dueAct : Mark → Told → Box → List ℕ → Act
@@ -39,7 +43,7 @@ pub data EntryPoint : Type 0 where
   receive : EntryPoint
   due : Marked → EntryPoint
 
--- "mark is not the one due": where none of the four is due, all is refused with 2
+-- "mark is not the one due": where none of the six is due, all is refused with 2
 unfoldable pub dueMark : Marked → Marked
 dueMark (Is k) = Is k
 dueMark (Unmarked n) = Unmarked mark

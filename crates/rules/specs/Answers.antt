@@ -16,7 +16,10 @@ pub use Rattle.rules.specs.declared.Settled.{Settled}
 pub use Rattle.rules.specs.declared.Settled.the-variants.{None as unsettled, Is as settled}
 pub use Rattle.rules.specs.declared.Version.{Version}
 pub use Rattle.rules.specs.declared.Answer.{Answer}
-pub use Rattle.rules.specs.declared.Answer.the-variants.{Voted, Decided, Logged, Done, Found, Refused}
+pub use Rattle.rules.specs.declared.Answer.the-variants.{Voted, Decided, Logged, Done, Found, Refused, Elected}
+pub use Rattle.terms.specs.declared.View.{View}
+pub use Rattle.rules.specs.declared.Log.{Log}
+pub use Rattle.rules.specs.declared.Log.the-variants.{None as unlogged, Is as logged}
 
 -- "An abort vote carries one of six reasons": the five tests' numbers, and "abort, reason 6"
 abbrev pub reasonNumber : Reason → ℕ
@@ -41,16 +44,31 @@ voteReason waiting = 0
 voteReason voteCommit = 0
 voteReason (voteAbort r) = reasonNumber r
 
--- "logged decision or none, decision or none": its code
+-- "decision or none": its code
 abbrev pub settledNumber : Settled → ℕ
 settledNumber unsettled = 0
 settledNumber (settled d) = decisionNumber d
 
--- "Answers: .. commit, abort and reason, wait, decided/logged and commit or abort, done, four numbers for RD .., refused and number"
+-- a view by its number
+abbrev pub viewAs : ℕ → View
+viewAs v = record { 0 = v }
+
+-- "logged decision or none": its code; A5: "the view of its logged decision", "where nothing is logged, the logged view counts as 0"
+abbrev pub logNumber : Log → ℕ
+logNumber unlogged = 0
+logNumber (logged d v) = decisionNumber d
+
+abbrev pub logView : Log → View
+logView unlogged = viewAs 0
+logView (logged d v) = v
+
+-- "Answers: .. commit, abort and reason, wait, decided/logged and commit or abort, done, four numbers for RD .., refused and number"; A5: "a log answer
+-- tells its view", an election answer its decision, view and leader
 abbrev pub answerValues : Answer → List ℕ
 answerValues (Voted v) = voteNumber v ∷ voteReason v ∷ []
 answerValues (Decided d) = decisionNumber d ∷ []
-answerValues (Logged d) = decisionNumber d ∷ []
+answerValues (Logged d v) = decisionNumber d ∷ v .0 ∷ []
 answerValues Done = []
 answerValues (Found c u) = c .stamp .0 ∷ c .value ∷ u .stamp .0 ∷ u .value ∷ []
 answerValues (Refused r) = numberOf r ∷ lackingOf r ∷ []
+answerValues (Elected d v l) = decisionNumber d ∷ v .0 ∷ l ∷ []

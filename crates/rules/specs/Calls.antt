@@ -14,10 +14,11 @@ use Rattle.records.specs.declared.Write.{Write}
 use Rattle.records.specs.Tx.{writeKey, writeValue}
 use Rattle.records.specs.Vl.{Vl}
 use Rattle.rules.specs.Answers.{Answer, Decided, Decision, Done, Found, Logged, Refused, Settled, Version, Voted, abort, commit, settled, unsettled}
+use Rattle.rules.specs.Answers.{Log, View, logged, unlogged, viewAs}
 use Rattle.rules.specs.Answers.{Vote, unvoted, voteAbort, voteCommit, waiting}
 use Rattle.rules.specs.Bodies.{Body, sameBody, stampOf, writesKey, writesOf}
 use Rattle.rules.specs.Lists.{decisionOf, forLogging, forProof, kindOf, lacking, meets}
-use Rattle.rules.specs.Table.{Box, Told, Entry, find, limit, live, logIn, voteIn}
+use Rattle.rules.specs.Table.{Box, Told, Entry, find, limit, live, logIn, viewIn, voteIn}
 use Rattle.rules.specs.Tests.{firstVote, waitingRule}
 
 -- what a call changes: nothing, an entry that is put into the table, or a key's read mark that is raised to a stamp
@@ -64,7 +65,7 @@ sameDecision abort abort = true
 -- ---- PR
 -- "An abort vote carries one of six reasons, and it is stored"; "the entry is stored"
 unfoldable pub castAct : Body → Option Entry → Vote → Act
-castAct b o v = record { answer = Voted v; change = puts (record { body = b; vote = v; log = logIn o; decided = unsettled }) }
+castAct b o v = record { answer = Voted v; change = puts (record { body = b; vote = v; log = logIn o; view = viewIn o; decided = unsettled }) }
 
 -- "vote cast, the same vote again; waiting, the waiting rule; undecided with vote none .., the tests as if new, in its place"; A2: "A PR for it later,
 -- while it is undecided, runs the five tests as if new but takes no further room."
@@ -89,13 +90,19 @@ prRule told x b = prByEntry told x b (find (stampOf b) (x .table))
 
 -- ---- LG
 -- "else log it. The box's own vote does not matter."; A2: "stores the body with vote none and that log"
-unfoldable pub logAct : Body → Decision → Option Entry → Act
-logAct b d o = record { answer = Logged d; change = puts (record { body = b; vote = voteIn o; log = settled d; decided = unsettled }) }
+-- with the view of the log, and the current view that is left
+unfoldable pub logAct : Body → Decision → View → View → Option Entry → Act
+logAct b d v current o =
+    record { answer = Logged d v; change = puts (record { body = b; vote = voteIn o; log = logged d v; view = current; decided = unsettled }) }
 
--- "Already logged: that same log. Then 11"
-unfoldable pub lgByLog : Told → Body → Vl → Entry → Settled → Act
-lgByLog told b l e (settled d) = keep (Logged d)
-lgByLog told b l e unsettled = needing (forLogging (told .f) (decisionOf (l .decision))) l (logAct b (decisionOf (l .decision)) (some e))
+-- A5: "A log from an LG has view 0"
+abbrev pub firstLog : Body → Decision → Option Entry → Act
+firstLog b d o = logAct b d (viewAs 0) (viewIn o) o
+
+-- "Already logged: that same log. Then 11"; A5: it "is taken only if nothing is logged"
+unfoldable pub lgByLog : Told → Body → Vl → Entry → Log → Act
+lgByLog told b l e (logged d v) = keep (Logged d v)
+lgByLog told b l e unlogged = needing (forLogging (told .f) (decisionOf (l .decision))) l (firstLog b (decisionOf (l .decision)) (some e))
 
 -- "Decided: Decided."
 unfoldable pub lgByDecision : Told → Body → Vl → Entry → Settled → Act
@@ -105,7 +112,7 @@ lgByDecision told b l e unsettled = lgByLog told b l e (e .log)
 -- A2: "An LG for a stamp not held stores the body ..", "LG gives 11, then 13 for a new entry". "Other body: 9."
 unfoldable pub lgByEntry : Told → Box → Body → Vl → Option Entry → Act
 lgByEntry told x b l none =
-    needing (forLogging (told .f) (decisionOf (l .decision))) l (roomFor told x (logAct b (decisionOf (l .decision)) none))
+    needing (forLogging (told .f) (decisionOf (l .decision))) l (roomFor told x (firstLog b (decisionOf (l .decision)) none))
 lgByEntry told x b l (some e) = pick (sameBody (e .body) b) (lgByDecision told b l e (e .decided)) (refuse OtherBody)
 
 unfoldable pub lgRule : Told → Box → Body → Vl → Act
@@ -114,7 +121,8 @@ lgRule told x b l = lgByEntry told x b l (find (stampOf b) (x .table))
 -- ---- DC
 -- "a new entry with vote none and this decision"; "undecided takes it"; "Accepted answers Done."
 unfoldable pub decideAct : Body → Decision → Option Entry → Act
-decideAct b d o = record { answer = Done; change = puts (record { body = b; vote = voteIn o; log = logIn o; decided = settled d }) }
+decideAct b d o =
+    record { answer = Done; change = puts (record { body = b; vote = voteIn o; log = logIn o; view = viewIn o; decided = settled d }) }
 
 -- "Held, same body: undecided takes it; equal decision changes nothing; opposite, 12."
 unfoldable pub dcSame : Body → Decision → Entry → Settled → Act

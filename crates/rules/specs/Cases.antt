@@ -8,10 +8,12 @@ use Rattle.records.specs.declared.Write.{Write}
 use Rattle.records.specs.declared.Pair.{Pair}
 use Rattle.records.specs.Tx.{Tx}
 use Rattle.records.specs.Vl.{Vl}
+use Rattle.records.specs.declared.Ballot.{Ballot}
+use Rattle.records.specs.declared.ViewMark.the-variants.{VS, EL}
 use Rattle.records.specs.declared.Mark.the-variants.{LG as markedLG, DC as markedDC}
-use Rattle.records.specs.Writing.{prBytes, listedBytes, rdBytes}
+use Rattle.records.specs.Writing.{prBytes, listedBytes, viewedBytes, rdBytes}
 use Rattle.rules.specs.Answers.{Answer, Decision, Done, Found, Kind, Logged, Refused, Voted, abort, commit, logs, voteAbort, voteCommit, votes}
-use Rattle.rules.specs.Answers.{Reason, Ahead, Dependency, NoVersion, Overwritten, ReadMark, Undercuts, decisionNumber, kindNumber, waiting}
+use Rattle.rules.specs.Answers.{Reason, Ahead, Dependency, NoVersion, Overwritten, ReadMark, Undercuts, decisionNumber, kindNumber, viewAs, waiting}
 use Rattle.rules.specs.Table.{Box, Told, empty}
 use Rattle.rules.specs.Act.{act, after, receive}
 
@@ -64,6 +66,21 @@ pairs i (suc n) d = record { number = i; answer = decisionNumber d } ∷ pairs (
 unfoldable pub list : Kind → Decision → List Pair → Vl
 list k d ps = record { kind = kindNumber k; decision = decisionNumber d; view = 0; pairs = ps }
 
+-- a list of logs of one view
+unfoldable pub logsAt : ℕ → Decision → List Pair → Vl
+logsAt v d ps = record { kind = kindNumber logs; decision = decisionNumber d; view = v; pairs = ps }
+
+-- n boxes from i on that are at view v, with this answer; in an IV without one; n election answers
+unfoldable pub ballotsOf : ℕ → ℕ → ℕ → ℕ → List Ballot
+ballotsOf i zero a v = []
+ballotsOf i (suc n) a v = record { number = i; answer = a; view = viewAs v } ∷ ballotsOf (suc i) n a v
+
+unfoldable pub seen : ℕ → ℕ → ℕ → List Ballot
+seen i n v = ballotsOf i n 0 v
+
+unfoldable pub elections : ℕ → ℕ → Decision → ℕ → List Ballot
+elections i n d v = ballotsOf i n (decisionNumber d) v
+
 unfoldable pub PR : Tx → List ℕ
 PR t = prBytes t
 
@@ -72,6 +89,13 @@ lg t l = listedBytes markedLG t l
 
 unfoldable pub dc : Tx → Vl → List ℕ
 dc t l = listedBytes markedDC t l
+
+unfoldable pub iv : Tx → List Ballot → List ℕ
+iv t ps = viewedBytes VS t (record { leader = 0; decision = 0; view = 0; ballots = ps })
+
+-- of the leader of a view, with the decision that it carries
+unfoldable pub ld : Tx → ℕ → Decision → ℕ → List Ballot → List ℕ
+ld t leader d v ps = viewedBytes EL t (record { leader = leader; decision = decisionNumber d; view = v; ballots = ps })
 
 -- with n votes, or n logs, of the boxes 0 to n − 1
 unfoldable pub LG : Tx → Decision → ℕ → List ℕ
@@ -92,6 +116,10 @@ waits = Voted waiting
 
 unfoldable pub aborts : Reason → Answer
 aborts r = Voted (voteAbort r)
+
+-- the answer of an LG: a log of view 0
+unfoldable pub logs0 : Decision → Answer
+logs0 d = Logged d (viewAs 0)
 
 -- 11, and how many are lacking
 unfoldable pub few : ℕ → Answer
@@ -136,7 +164,7 @@ cases =
     (Refused Misbehaviour ∷ [])
     -- "11. Held 50: LG with four commit votes, logged commit; LG with two abort votes, logged commit again."
     ∷ case (PR (writes 50 3) ∷ LG (writes 50 3) commit 4 ∷ LG (writes 50 3) abort 2 ∷ [])
-    (commits ∷ Logged commit ∷ Logged commit ∷ [])
+    (commits ∷ logs0 commit ∷ logs0 commit ∷ [])
     -- "12. DC commit with five votes: 11; with five logs: done."
     ∷ case (DC (writes 50 3) votes commit 5 ∷ DC (writes 50 3) logs commit 5 ∷ [])
     (few 1 ∷ Done ∷ [])

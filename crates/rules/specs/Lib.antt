@@ -5,6 +5,7 @@ pub mod Lists
 pub mod Table
 pub mod Tests
 pub mod Calls
+pub mod Fallback
 pub mod Act
 pub mod Quorums
 pub mod System

@@ -11,18 +11,22 @@ use Rattle.records.specs.declared.Read.{Read}
 use Rattle.records.specs.declared.Pair.{Pair}
 use Rattle.records.specs.Tx.{readKey, readVersion}
 use Rattle.records.specs.Vl.{Vl}
+use Rattle.records.specs.declared.Ballot.{Ballot}
+use Rattle.records.specs.Views.{Views}
+use Rattle.records.specs.declared.ViewMark.the-variants.{EL}
 use Rattle.records.specs.Contents.{listWrong}
 use Rattle.records.specs.declared.Mark.{Mark}
-use Rattle.records.specs.declared.Mark.the-variants.{PR, LG, DC, RD}
+use Rattle.records.specs.declared.Mark.the-variants.{PR, LG, DC, RD, IV, LD}
 use Rattle.records.specs.declared.Marked.the-variants.{Is}
 use Rattle.records.specs.Cutting.{txPart}
-use Rattle.records.specs.Messages.{dueRefusal, listBehind}
-use Rattle.rules.specs.Answers.{Answer, Decided, Decision, Done, Found, Kind, Logged, Refused, Voted, abort, commit, logs, votes}
+use Rattle.records.specs.Messages.{dueRefusal, listBehind, viewsBehind}
+use Rattle.rules.specs.Answers.{Answer, Decided, Decision, Done, Elected, Found, Kind, Logged, Refused, Voted, abort, commit, logs, votes}
 use Rattle.rules.specs.Answers.{Settled, Vote, settled, unsettled, unvoted, voteAbort, voteCommit, waiting}
 use Rattle.rules.specs.Bodies.{Body, readsOf, sameBody, stampOf, writesKey}
 use Rattle.rules.specs.Lists.{bit, decisionOf, forProof, kindOf, meets}
 use Rattle.rules.specs.Table.{Box, Told, empty}
 use Rattle.rules.specs.Calls.{sameDecision}
+use Rattle.rules.specs.Fallback.{ballotView}
 use Rattle.rules.specs.Act.{EntryPoint, act, after, markBy}
 
 -- any bytes that reach a box, by any entry point: "their capacities, clocks and δ may differ", from one message to the next too
@@ -47,13 +51,14 @@ boxAt f i (e ∷ es) = pick (eqb (e .box) i) (after (e .entry) (toldAt f e) (box
 unfoldable pub answerTo : ℕ → Event → List Event → Answer
 answerTo f e es = act (e .entry) (toldAt f e) (boxAt f (e .box) es) (e .message) .answer
 
--- what a box can be held to
+-- what a box can be held to: a vote; "a log or election answer .. with the decision and the view it was given with"
 pub data Word : Type 0 where
-  vote log : Decision → Word
+  vote : Decision → Word
+  log elect : Decision → ℕ → Word
 
-unfoldable pub word : Kind → Decision → Word
-word votes d = vote d
-word logs d = log d
+unfoldable pub word : Kind → ℕ → Decision → Word
+word votes v d = vote d
+word logs v d = log d v
 
 -- "The answers Decided, wait and Done are neither votes nor logged decisions."
 unfoldable pub cast : Vote → Settled
@@ -68,7 +73,8 @@ voteWord (settled d) = some (vote d)
 
 unfoldable pub wordIn : Answer → Option Word
 wordIn (Voted v) = voteWord (cast v)
-wordIn (Logged d) = some (log d)
+wordIn (Logged d v) = some (log d (v .0))
+wordIn (Elected d v l) = some (elect d (v .0))
 wordIn (Decided d) = none
 wordIn Done = none
 wordIn (Found committed undecided) = none
@@ -76,9 +82,14 @@ wordIn (Refused r) = none
 
 unfoldable pub sameWord : Word → Word → Bool
 sameWord (vote a) (vote b) = sameDecision a b
-sameWord (vote a) (log b) = false
-sameWord (log a) (vote b) = false
-sameWord (log a) (log b) = sameDecision a b
+sameWord (vote a) (log b w) = false
+sameWord (vote a) (elect b w) = false
+sameWord (log a v) (vote b) = false
+sameWord (log a v) (log b w) = sameDecision a b && eqb v w
+sameWord (log a v) (elect b w) = false
+sameWord (elect a v) (vote b) = false
+sameWord (elect a v) (log b w) = false
+sameWord (elect a v) (elect b w) = sameDecision a b && eqb v w
 
 unfoldable pub isWord : Word → Option Word → Bool
 isWord w none = false
@@ -104,13 +115,6 @@ unfoldable pub howMany : (ℕ → Bool) → ℕ → ℕ
 howMany p zero = 0
 howMany p (suc n) = bit (p n) + howMany p n
 
--- the messages that carry a list
-unfoldable pub carriesList : Mark → Bool
-carriesList PR = false
-carriesList LG = true
-carriesList DC = true
-carriesList RD = false
-
 module _ (f : ℕ) (faulty : ℕ → Bool) where
   abbrev pub Sound : ℕ → Type 0
   Sound i = (i < boxes f) × T (not (faulty i))
@@ -118,15 +122,28 @@ module _ (f : ℕ) (faulty : ℕ → Bool) where
   -- a list "made of votes, or of logged decisions, that sound boxes have given for exactly this body, with anything under the faulty boxes' numbers"
   unfoldable pub BackedBy : Given → Body → Vl → Type 0
   BackedBy given b l =
-      (p : Pair) → In p (l .pairs) → Sound (p .number) → T (given (p .number) b (word (kindOf (l .kind)) (decisionOf (p .answer))))
+      (p : Pair) → In p (l .pairs) → Sound (p .number) → T (given (p .number) b (word (kindOf (l .kind)) (l .view) (decisionOf (p .answer))))
 
   abbrev pub Backed : List Event → Body → Vl → Type 0
   Backed es b l = BackedBy (givenIn f es) b l
 
-  -- asked of a message only if it is read without refusal and carries a list
+  -- A5: "with the same premise on election answers"
+  unfoldable pub ChosenBy : Given → Body → Views → Type 0
+  ChosenBy given b l =
+      (p : Ballot) → In p (l .ballots) → Sound (p .number) → T (given (p .number) b (elect (decisionOf (p .answer)) (ballotView p)))
+
+  -- the messages that carry a list; safety does not rest on the views of an IV
+  unfoldable pub Carries : Given → Mark → List ℕ → Type 0
+  Carries given PR m = Unit {0}
+  Carries given LG m = BackedBy given (txPart m) (listBehind m)
+  Carries given DC m = BackedBy given (txPart m) (listBehind m)
+  Carries given RD m = Unit {0}
+  Carries given IV m = Unit {0}
+  Carries given LD m = ChosenBy given (txPart m) (viewsBehind EL m)
+
+  -- asked of a message only if it is read without refusal
   unfoldable pub HonestBy : Given → EntryPoint → List ℕ → Type 0
-  HonestBy given p m =
-      (k : Mark) → markBy p m ≡ Is k → dueRefusal k f m ≡ 0 → T (carriesList k) → BackedBy given (txPart m) (listBehind m)
+  HonestBy given p m = (k : Mark) → markBy p m ≡ Is k → dueRefusal k f m ≡ 0 → Carries given k m
 
   abbrev pub Honest : List Event → EntryPoint → List ℕ → Type 0
   Honest es p m = HonestBy (givenIn f es) p m

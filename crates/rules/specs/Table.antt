@@ -7,14 +7,17 @@ use lib.Dec.{eqb}
 use lib.ListN.{replicate}
 use Rattle.terms.specs.Choice.{pick}
 pub use Rattle.rules.specs.declared.Told.{Told}
+use Rattle.rules.specs.Answers.{Log, View, logged, unlogged, viewAs}
 use Rattle.rules.specs.Answers.{Settled, Vote, abort, commit, settled, unsettled, unvoted, voteAbort, voteCommit, waiting}
 use Rattle.rules.specs.Bodies.{Body, stampOf}
 
--- "An entry holds body, vote (waiting, commit, abort with reason, or none), logged decision or none, decision or none"
+-- "An entry holds body, vote (waiting, commit, abort with reason, or none), logged decision or none, decision or none"; A5: "a current view and the
+-- view of its logged decision"
 pub record Entry : Type 0 where
   pub body : Body
   pub vote : Vote
-  pub log : Settled
+  pub log : Log
+  pub view : View
   pub decided : Settled
 
 -- a box: its entries in their places, and the read mark of each of the 512 keys
@@ -44,14 +47,18 @@ unfoldable pub put : Entry → List Entry → List Entry
 put e [] = e ∷ []
 put e (x ∷ xs) = pick (eqb (stampOf (x .body)) (stampOf (e .body))) (e ∷ xs) (x ∷ put e xs)
 
--- the vote and the log that are held; none where nothing is held
+-- the vote, the log and the current view that are held; none, and 0, where nothing is held
 abbrev pub voteIn : Option Entry → Vote
 voteIn none = unvoted
 voteIn (some e) = e .vote
 
-abbrev pub logIn : Option Entry → Settled
-logIn none = unsettled
+abbrev pub logIn : Option Entry → Log
+logIn none = unlogged
 logIn (some e) = e .log
+
+abbrev pub viewIn : Option Entry → View
+viewIn none = viewAs 0
+viewIn (some e) = e .view
 
 -- "An entry is live if it is decided commit, or undecided with vote commit or waiting"
 unfoldable pub liveBy : Settled → Vote → Bool

@@ -1,9 +1,13 @@
-// What a box answers: votes with their reasons, and the answer to each call. The rules of a box stand in specs/, their theorem in proofs/.
+// What a box answers: votes with their reasons, and the answer to each call; and the leader of a view. The rules of a box stand in specs/, their theorem in proofs/.
 ghost use mathlib.Core.Path.{_≡_};
-ghost use Rattle.rules.specs.Answers.{reasonNumber, voteNumber, voteReason, settledNumber};
+ghost use Prim.Native.Nat.{_≤_};
+ghost use Rattle.rules.specs.Answers.{reasonNumber, voteNumber, voteReason, settledNumber, logNumber, logView};
+ghost use Rattle.rules.specs.Fallback.{leaderOf};
 use terms::Decision;
+use terms::Group;
 use terms::Refusal;
 use terms::Stamp;
+use terms::View;
 
 // Why a box votes abort: a test's number, or 6 for the waiting rule.
 pub enum Reason {
@@ -83,6 +87,34 @@ impl Settled {
     }
 }
 
+// A decision that was logged and its view, or none.
+pub enum Log {
+    None,
+    Is(Decision, View),
+}
+
+impl Log {
+    // Its code in an entry: 0 none, 1 commit, 2 abort.
+    pub fn number(self) -> u8
+        ensures { λ r. ⌜ r ≡ logNumber self ⌝ }
+    {
+        match self {
+            Log::None => 0,
+            Log::Is(d, _) => d.number(),
+        }
+    }
+
+    // Its view: 0 where nothing is logged.
+    pub fn view(self) -> View
+        ensures { λ r. ⌜ r ≡ logView self ⌝ }
+    {
+        match self {
+            Log::None => View(0),
+            Log::Is(_, v) => v,
+        }
+    }
+}
+
 // What stands at a key: the stamp of its writer and the value written; 0 and 0 where there is none.
 pub struct Version {
     pub stamp: Stamp,
@@ -97,13 +129,24 @@ pub struct Told {
     pub delta: u64,
 }
 
-// What a box answers. PR: Voted or Decided; LG: Logged or Decided; DC: Done; RD: Found; every call: Refused.
+// What a box answers. PR: Voted or Decided; LG and LD: Logged or Decided; DC: Done; RD: Found; IV: Elected or Decided; every call: Refused.
 pub enum Answer {
     Voted(Vote),
     Decided(Decision),
-    Logged(Decision),
+    Logged(Decision, View),
     Done,
     // What is committed, then what is live and undecided.
     Found(Version, Version),
     Refused(Refusal),
+    // The decision that is logged, the view that the box has moved on to, and that view's leader.
+    Elected(Decision, View, u8),
+}
+
+// The leader of a view, box (v + stamp) mod n; a stamp's rest stands in its place, since the sum may be too large.
+pub fn leader_of(g: Group, view: View, stamp: Stamp) -> u8
+    requires { ⌜ g .f ≤ 5 ⌝ }
+    ensures { λ r. ⌜ r ≡ leaderOf (g .f) (view .0) (stamp .0) ⌝ }
+{
+    let n = g.n() as u64;
+    ((view.0 as u64 + stamp.0 % n) % n) as u8
 }

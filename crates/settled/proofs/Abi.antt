@@ -6,7 +6,7 @@ use Rattle.settled.specs.Settled.{Settled}
 use Rattle.settled.proofs.Lemma.{settled, one, _&_}
 use Rattle.abi.specs.Left.{Left}
 use Rattle.abi.specs.Register.{Lent}
-use Rattle.arrays.specs.Arrays.{Fields}
+use Rattle.arrays.specs.Arrays.{Fields, ViewFields}
 use Rattle.abi.proofs as abi
 
 module _ {M : Type 1} (𝓤 : URA M) (H : Heap 𝓤) where
@@ -69,3 +69,36 @@ module _ {M : Type 1} (𝓤 : URA M) (H : Heap 𝓤) where
 
   pub stobbarel-enter : Settled 𝓤 H abi.stobbarel_enter.ended (abi.stobbarel_enter.spec 𝓤 H) (abi.stobbarel_enter.clauses 𝓤 H)
   stobbarel-enter A mem run = (refl, λ k o o′. settled 𝓤 (λ p q. ap (λ (x : Lent). x .number) (one p q) & refl & refl & refl & refl & refl & ap (λ (x : Lent). x .tx .reads) (one p q) & ap (λ (x : Lent). x .tx .versions) (one p q) & ap (λ (x : Lent). x .tx .writes) (one p q) & ap (λ (x : Lent). x .tx .values) (one p q) & refl))
+
+  pub stobbarel-reading-vs : Settled 𝓤 H abi.stobbarel_reading_vs.ended (abi.stobbarel_reading_vs.spec 𝓤 H) (abi.stobbarel_reading_vs.clauses 𝓤 H)
+  stobbarel-reading-vs A mem run = (refl, λ k o o′. settled 𝓤 (λ p q. one p q & refl))
+
+  pub stobbarel-reading-el : Settled 𝓤 H abi.stobbarel_reading_el.ended (abi.stobbarel_reading_el.spec 𝓤 H) (abi.stobbarel_reading_el.clauses 𝓤 H)
+  stobbarel-reading-el A mem run = (refl, λ k o o′. settled 𝓤 (λ p q. one p q & refl))
+
+  pub stobbarel-views : Settled 𝓤 H abi.stobbarel_views.ended (abi.stobbarel_views.spec 𝓤 H) (abi.stobbarel_views.clauses 𝓤 H)
+  stobbarel-views A mem run = (refl, λ k o o′. settled 𝓤 (λ p q. one (p .0) (q .0) & refl & refl & one (p .1) (q .1) & one (p .2) (q .2) & one (p .3) (q .3) & one (p .4) (q .4) & refl))
+
+  pub stobbarel-write-vs : Settled 𝓤 H abi.stobbarel_write_vs.ended (abi.stobbarel_write_vs.spec 𝓤 H) (abi.stobbarel_write_vs.clauses 𝓤 H)
+  stobbarel-write-vs A mem run = (refl, λ k o o′. settled 𝓤 (λ p q. ap (λ (x : Left). x .number) (one p q) & refl & refl & refl & refl & ap (λ (x : Left). x .buffer) (one p q) & ap (λ (x : Left). x .length) (one p q) & refl))
+
+  pub stobbarel-write-el : Settled 𝓤 H abi.stobbarel_write_el.ended (abi.stobbarel_write_el.spec 𝓤 H) (abi.stobbarel_write_el.clauses 𝓤 H)
+  stobbarel-write-el A mem run = (refl, λ k o o′. settled 𝓤 (λ p q. ap (λ (x : Left). x .number) (one p q) & refl & refl & refl & refl & refl & refl & refl & refl & ap (λ (x : Left). x .buffer) (one p q) & ap (λ (x : Left). x .length) (one p q) & refl))
+
+  pub stobbarel-write-iv : Settled 𝓤 H abi.stobbarel_write_iv.ended (abi.stobbarel_write_iv.spec 𝓤 H) (abi.stobbarel_write_iv.clauses 𝓤 H)
+  stobbarel-write-iv A mem run = (refl, λ k o o′. settled 𝓤 (λ p q. ap (λ (x : Left). x .number) (one p q) & refl & refl & refl & refl & refl & refl & refl & refl & refl & refl & refl & ap (λ (x : Left). x .buffer) (one p q) & ap (λ (x : Left). x .length) (one p q) & refl))
+
+  pub stobbarel-write-ld : Settled 𝓤 H abi.stobbarel_write_ld.ended (abi.stobbarel_write_ld.spec 𝓤 H) (abi.stobbarel_write_ld.clauses 𝓤 H)
+  stobbarel-write-ld A mem run = (refl, λ k o o′. settled 𝓤 (λ p q. ap (λ (x : Left). x .number) (one p q) & refl & refl & refl & refl & refl & refl & refl & refl & refl & refl & refl & refl & refl & refl & refl & ap (λ (x : Left). x .buffer) (one p q) & ap (λ (x : Left). x .length) (one p q) & refl))
+
+  pub stobbarel-elect : Settled 𝓤 H abi.stobbarel_elect.ended (abi.stobbarel_elect.spec 𝓤 H) (abi.stobbarel_elect.clauses 𝓤 H)
+  stobbarel-elect A mem run = (refl, λ k o o′. settled 𝓤 (λ p q. refl & refl & one (p .1) (q .1) & one (p .2) (q .2) & refl & refl & refl & refl & one (p .0) (q .0) & refl))
+
+  pub stobbarel-election : Settled 𝓤 H abi.stobbarel_election.ended (abi.stobbarel_election.spec 𝓤 H) (abi.stobbarel_election.clauses 𝓤 H)
+  stobbarel-election A mem run = (refl, λ k o o′. settled 𝓤 (λ p q. one (p .0) (q .0) & refl & refl & refl & refl & refl & ap (λ (x : ViewFields). x .head) (one (p .1) (q .1)) & ap (λ (x : ViewFields). x .numbers) (one (p .1) (q .1)) & ap (λ (x : ViewFields). x .answers) (one (p .1) (q .1)) & ap (λ (x : ViewFields). x .views) (one (p .1) (q .1)) & refl))
+
+  pub stobbarel-tell : Settled 𝓤 H abi.stobbarel_tell.ended (abi.stobbarel_tell.spec 𝓤 H) (abi.stobbarel_tell.clauses 𝓤 H)
+  stobbarel-tell A mem run = (refl, λ k o o′. settled 𝓤 (λ p q. one (p .0) (q .0) & one (p .1) (q .1) & one (p .2) (q .2) & refl))
+
+  pub stobbarel-told : Settled 𝓤 H abi.stobbarel_told.ended (abi.stobbarel_told.spec 𝓤 H) (abi.stobbarel_told.clauses 𝓤 H)
+  stobbarel-told A mem run = (refl, λ k o o′. settled 𝓤 (λ p q. one (p .0) (q .0) & refl & refl & refl & one (p .1) (q .1) & one (p .2) (q .2) & one (p .3) (q .3) & refl))

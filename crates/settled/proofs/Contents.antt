@@ -24,3 +24,6 @@ module _ {M : Type 1} (𝓤 : URA M) (H : Heap 𝓤) where
 
   pub rd-wrong : Settled 𝓤 H contents.rd_wrong.ended (contents.rd_wrong.spec 𝓤 H) (contents.rd_wrong.clauses 𝓤 H)
   rd-wrong A mem run = (refl, λ k o o′. settled 𝓤 (λ p q. one p q & refl))
+
+  pub views-wrong : Settled 𝓤 H contents.views_wrong.ended (contents.views_wrong.spec 𝓤 H) (contents.views_wrong.clauses 𝓤 H)
+  views-wrong A mem run = (refl, λ k o o′. settled 𝓤 (λ p q. one p q & refl))

@@ -11,6 +11,7 @@ pub mod Scans
 pub mod Steps
 pub mod Engine
 pub mod Sheet
+pub mod Election
 pub mod Lines
 pub mod Replay
 pub mod Passage

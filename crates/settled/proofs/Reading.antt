@@ -29,8 +29,8 @@ module _ {M : Type 1} (𝓤 : URA M) (H : Heap 𝓤) where
   pub tx-part-of : SettledPart 𝓤 H reading.tx_part_of.ended (λ κs r. now r) (reading.tx_part_of.spec 𝓤 H) (reading.tx_part_of.clauses 𝓤 H)
   tx-part-of A mem run = (refl, λ k o o′. settled 𝓤 (λ p q. one (p .0) (q .0) & refl))
 
-  pub vl-part-of : SettledPart 𝓤 H reading.vl_part_of.ended (λ κs r. now r) (reading.vl_part_of.spec 𝓤 H) (reading.vl_part_of.clauses 𝓤 H)
-  vl-part-of A mem run = (refl, λ k o o′. settled 𝓤 (λ p q. one p q & refl))
+  pub list-part-of : SettledPart 𝓤 H reading.list_part_of.ended (λ κs r. now r) (reading.list_part_of.spec 𝓤 H) (reading.list_part_of.clauses 𝓤 H)
+  list-part-of A mem run = (refl, λ k o o′. settled 𝓤 (λ p q. one p q & refl))
 
   pub message-len : Settled 𝓤 H reading.message_len.ended (reading.message_len.spec 𝓤 H) (reading.message_len.clauses 𝓤 H)
   message-len A mem run = (refl, λ k o o′. settled 𝓤 (λ p q. one p q & refl))
@@ -61,3 +61,6 @@ module _ {M : Type 1} (𝓤 : URA M) (H : Heap 𝓤) where
 
   pub tx-part : SettledPart 𝓤 H reading.tx_part.ended (λ κs r. now r) (reading.tx_part.spec 𝓤 H) (reading.tx_part.clauses 𝓤 H)
   tx-part A mem run = (refl, λ k o o′. settled 𝓤 (λ p q. one p q & refl))
+
+  pub read-views : Settled 𝓤 H reading.read_views.ended (reading.read_views.spec 𝓤 H) (reading.read_views.clauses 𝓤 H)
+  read-views A mem run = (refl, λ k o o′. settled 𝓤 (λ p q. one p q & refl))

@@ -51,3 +51,21 @@ module _ {M : Type 1} (𝓤 : URA M) (H : Heap 𝓤) where
 
   pub list-of : Settled 𝓤 H records.list_of.ended (records.list_of.spec 𝓤 H) (records.list_of.clauses 𝓤 H)
   list-of A mem run = (refl, λ k o o′. settled 𝓤 (λ p q. one (p .0) (q .0) & refl))
+
+  pub viewmark-bytes : Settled 𝓤 H records.ViewMark.bytes.ended (records.ViewMark.bytes.spec 𝓤 H) (records.ViewMark.bytes.clauses 𝓤 H)
+  viewmark-bytes A mem run = (refl, λ k o o′. settled 𝓤 (λ p q. one p q & refl))
+
+  pub viewmark-carrier : Settled 𝓤 H records.ViewMark.carrier.ended (records.ViewMark.carrier.spec 𝓤 H) (records.ViewMark.carrier.clauses 𝓤 H)
+  viewmark-carrier A mem run = (refl, λ k o o′. settled 𝓤 (λ p q. one p q & refl))
+
+  pub viewmark-count-at : Settled 𝓤 H records.ViewMark.count_at.ended (records.ViewMark.count_at.spec 𝓤 H) (records.ViewMark.count_at.clauses 𝓤 H)
+  viewmark-count-at A mem run = (refl, λ k o o′. settled 𝓤 (λ p q. one (p .0) (q .0) & refl))
+
+  pub viewmark-ballot-len : Settled 𝓤 H records.ViewMark.ballot_len.ended (records.ViewMark.ballot_len.spec 𝓤 H) (records.ViewMark.ballot_len.clauses 𝓤 H)
+  viewmark-ballot-len A mem run = (refl, λ k o o′. settled 𝓤 (λ p q. one (p .0) (q .0) & refl))
+
+  pub views-len : Settled 𝓤 H records.views_len.ended (records.views_len.spec 𝓤 H) (records.views_len.clauses 𝓤 H)
+  views-len A mem run = (refl, λ k o o′. settled 𝓤 (λ p q. one p q & refl))
+
+  pub views-of : Settled 𝓤 H records.views_of.ended (records.views_of.spec 𝓤 H) (records.views_of.clauses 𝓤 H)
+  views-of A mem run = (refl, λ k o o′. settled 𝓤 (λ p q. one (p .0) (q .0) & refl))

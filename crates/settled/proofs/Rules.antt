@@ -18,3 +18,12 @@ module _ {M : Type 1} (𝓤 : URA M) (H : Heap 𝓤) where
 
   pub settled-number : Settled 𝓤 H rules.Settled.number.ended (rules.Settled.number.spec 𝓤 H) (rules.Settled.number.clauses 𝓤 H)
   settled-number A mem run = (refl, λ k o o′. settled 𝓤 (λ p q. one p q & refl))
+
+  pub log-number : Settled 𝓤 H rules.Log.number.ended (rules.Log.number.spec 𝓤 H) (rules.Log.number.clauses 𝓤 H)
+  log-number A mem run = (refl, λ k o o′. settled 𝓤 (λ p q. one p q & refl))
+
+  pub log-view : Settled 𝓤 H rules.Log.view.ended (rules.Log.view.spec 𝓤 H) (rules.Log.view.clauses 𝓤 H)
+  log-view A mem run = (refl, λ k o o′. settled 𝓤 (λ p q. one p q & refl))
+
+  pub leader-of : Settled 𝓤 H rules.leader_of.ended (rules.leader_of.spec 𝓤 H) (rules.leader_of.clauses 𝓤 H)
+  leader-of A mem run = (refl, λ k o o′. settled 𝓤 (λ p q. one p q & refl))

@@ -30,3 +30,24 @@ module _ {M : Type 1} (𝓤 : URA M) (H : Heap 𝓤) where
 
   pub list-from : Settled 𝓤 H sheet.list_from.ended (sheet.list_from.spec 𝓤 H) (sheet.list_from.clauses 𝓤 H)
   list-from A mem run = (refl, λ k o o′. settled 𝓤 (λ p q. one p q & refl))
+
+  pub has-box : Settled 𝓤 H sheet.has_box.ended (sheet.has_box.spec 𝓤 H) (sheet.has_box.clauses 𝓤 H)
+  has-box A mem run = (refl, λ k o o′. settled 𝓤 (λ p q. one p q & refl))
+
+  pub with-box : Settled 𝓤 H sheet.with_box.ended (sheet.with_box.spec 𝓤 H) (sheet.with_box.clauses 𝓤 H)
+  with-box A mem run = (refl, λ k o o′. settled 𝓤 (λ p q. one p q & refl))
+
+  pub counted : Settled 𝓤 H sheet.counted.ended (sheet.counted.spec 𝓤 H) (sheet.counted.clauses 𝓤 H)
+  counted A mem run = (refl, λ k o o′. settled 𝓤 (λ p q. one p q & refl))
+
+  pub mask-wide : Settled 𝓤 H sheet.mask_wide.ended (sheet.mask_wide.spec 𝓤 H) (sheet.mask_wide.clauses 𝓤 H)
+  mask-wide A mem run = (refl, λ k o o′. settled 𝓤 (λ p q. one p q & refl))
+
+  pub on-sheet : Settled 𝓤 H sheet.on_sheet.ended (sheet.on_sheet.spec 𝓤 H) (sheet.on_sheet.clauses 𝓤 H)
+  on-sheet A mem run = (refl, λ k o o′. settled 𝓤 (λ p q. one p q & refl))
+
+  pub join : Settled 𝓤 H sheet.join.ended (sheet.join.spec 𝓤 H) (sheet.join.clauses 𝓤 H)
+  join A mem run = (refl, λ k o o′. settled 𝓤 (λ p q. one p q & refl))
+
+  pub lacking : Settled 𝓤 H sheet.lacking.ended (sheet.lacking.spec 𝓤 H) (sheet.lacking.clauses 𝓤 H)
+  lacking A mem run = (refl, λ k o o′. settled 𝓤 (λ p q. one p q & refl))

@@ -21,3 +21,9 @@ module _ {M : Type 1} (𝓤 : URA M) (H : Heap 𝓤) where
 
   pub write-rd : Settled 𝓤 H writing.write_rd.ended (writing.write_rd.spec 𝓤 H) (writing.write_rd.clauses 𝓤 H)
   write-rd A mem run = (refl, λ k o o′. settled 𝓤 (λ p q. one (p .0) (q .0) & refl & refl & one (p .1) (q .1) & refl))
+
+  pub write-views : Settled 𝓤 H writing.write_views.ended (writing.write_views.spec 𝓤 H) (writing.write_views.clauses 𝓤 H)
+  write-views A mem run = (refl, λ k o o′. settled 𝓤 (λ p q. one (p .0) (q .0) & refl & refl & refl & one (p .1) (q .1) & refl))
+
+  pub write-viewed : Settled 𝓤 H writing.write_viewed.ended (writing.write_viewed.spec 𝓤 H) (writing.write_viewed.clauses 𝓤 H)
+  write-viewed A mem run = (refl, λ k o o′. settled 𝓤 (λ p q. one (p .0) (q .0) & refl & refl & refl & refl & one (p .1) (q .1) & refl))

@@ -1,5 +1,6 @@
 pub mod Masks
 pub mod Sheets
+pub mod Below
 pub mod Listed
 pub mod Sound
 pub mod Telling

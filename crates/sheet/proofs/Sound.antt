@@ -28,7 +28,7 @@ module _ (p : ℕ → Bool) where
       let e : p i ≡ false = h i (omega arith) (omega arith) in
       rw e (none-any (i + 1) n (λ b l m. h b (omega arith) (omega arith)))
 
-  any-none : (i n b : ℕ) → any p (tab (λ b. b) i n) ≡ false → i ≤ b → b < i + n → p b ≡ false
+  pub any-none : (i n b : ℕ) → any p (tab (λ b. b) i n) ≡ false → i ≤ b → b < i + n → p b ≡ false
   any-none i zero b e l m = absurd (omega arith)
   any-none i (suc n) b e l m = by (p i) refl (eqb i b) refl e (λ h k. any-none (i + 1) n b h k (omega arith))
     where

@@ -86,7 +86,7 @@ pub fn empty(kind: Kind, view: View) -> Sheet
     }
 }
 
-fn has_box(m: u32, b: usize) -> bool
+pub fn has_box(m: u32, b: usize) -> bool
     requires { ⌜ b < 32 ⌝ }
     ensures { λ r. ⌜ r ≡ has m b ⌝ }
 {
@@ -94,7 +94,7 @@ fn has_box(m: u32, b: usize) -> bool
 }
 
 // The mask with a box that is not on it.
-fn with_box(m: u32, b: usize) -> u32
+pub fn with_box(m: u32, b: usize) -> u32
     requires { ⌜ (b < 32) × (has m b ≡ false) ⌝ }
     ensures { λ r. ⌜ r ≡ withBox m b ⌝ }
 {
@@ -102,7 +102,7 @@ fn with_box(m: u32, b: usize) -> u32
 }
 
 // How many of the first n boxes are on a mask.
-fn counted(m: u32, n: usize) -> usize
+pub fn counted(m: u32, n: usize) -> usize
     requires { ⌜ n ≤ 32 ⌝ }
     ensures { λ r. ⌜ r ≡ howMany (has m) n ⌝ }
 {
@@ -145,7 +145,7 @@ fn both(s: Sheet, n: usize) -> bool
 }
 
 // Whether a box n or more is on a mask.
-fn mask_wide(m: u32, n: usize) -> bool
+pub fn mask_wide(m: u32, n: usize) -> bool
     requires { ⌜ n < 32 ⌝ }
     ensures { λ r. ⌜ r ≡ leb (2 ^ n) m ⌝ }
 {
@@ -202,7 +202,7 @@ pub fn answer_wrong(s: Sheet, f: u64, number: u64, answer: u64) -> u8
     )
 }
 
-fn on_sheet(s: Sheet, b: usize) -> bool
+pub fn on_sheet(s: Sheet, b: usize) -> bool
     requires { ⌜ b < 32 ⌝ }
     ensures { λ r. ⌜ r ≡ on s b ⌝ }
 {
@@ -213,7 +213,7 @@ fn on_sheet(s: Sheet, b: usize) -> bool
 }
 
 // The box joins under its answer, and nothing else changes.
-fn join(s: Sheet, b: usize, answer: u64) -> Sheet
+pub fn join(s: Sheet, b: usize, answer: u64) -> Sheet
     requires { ⌜ (b < 32) × (on s b ≡ false) ⌝ }
     ensures { λ r. ⌜ r ≡ joined s b answer ⌝ }
 {
@@ -236,7 +236,7 @@ fn join(s: Sheet, b: usize, answer: u64) -> Sheet
 }
 
 // How many answers are lacking of a threshold; 0 where it is reached.
-fn lacking(need: usize, count: usize) -> u8
+pub fn lacking(need: usize, count: usize) -> u8
     requires { ⌜ need ≤ 26 ⌝ }
     ensures { λ r. ⌜ r ≡ need - count ⌝ }
 {

@@ -12,15 +12,17 @@ use Rattle.terms.specs.declared.Refusal.the-variants.{Full, Contradiction}
 use Rattle.records.specs.Vl.{Vl}
 use Rattle.rules.specs.declared.Answer.the-variants.{Decided, Done, Logged, Refused, Voted}
 use Rattle.rules.specs.declared.Reason.{Reason}
+use Rattle.rules.specs.declared.Log.the-variants.{None as unlogged, Is as logged}
 use Rattle.rules.specs.declared.Settled.the-variants.{None as unsettled, Is as settled}
 use Rattle.rules.specs.declared.Told.{Told}
 use Rattle.rules.specs.declared.Vote.{Vote}
 use Rattle.rules.specs.declared.Vote.the-variants.{None as unvoted, Commit as voteCommit, Abort as voteAbort, Waiting as waiting}
+use Rattle.rules.specs.Answers.{View, viewAs}
 use Rattle.rules.specs.Bodies.{Body}
 use Rattle.rules.specs.Lists.{decisionOf, forLogging}
 use Rattle.rules.specs.Table.{Entry, Box, boxWith}
 use Rattle.rules.specs.Tests.{firstVote, waitingRule, status}
-use Rattle.rules.specs.Calls.{refuse, isFull, roomFor, needing, sameDecision, castAct, prByVote, prByDecision, prByEntry, logAct, lgByLog, lgByDecision, lgByEntry, decideAct, dcSame, dcByEntry}
+use Rattle.rules.specs.Calls.{refuse, isFull, roomFor, needing, sameDecision, castAct, prByVote, prByDecision, prByEntry, firstLog, lgByLog, lgByDecision, lgByEntry, decideAct, dcSame, dcByEntry}
 use Rattle.table.specs.declared.State.{State}
 use Rattle.table.specs.Table.{entryWith, stateIn}
 use Rattle.steps.specs.declared.Held.the-variants.{Not, Same}
@@ -34,7 +36,7 @@ module _ (i : ℕ) (told : Told) (es : List Entry) (marks : List ℕ) (b : Body)
     pr-full h = rw (l, h)
 
     pub pr-room : leb (told .capacity) n ≡ false → (v : Vote) → v ≡ firstVote told (boxWith es marks) b
-        → castStep i unsettled v ≡ prBy i told (boxWith es marks) b Not
+        → castStep i unlogged (viewAs 0) v ≡ prBy i told (boxWith es marks) b Not
     unfolding prBy prByEntry roomFor isFull castAct stepBy changeBy stateIn
     pr-room h v w = rw (l, h, w)
 
@@ -56,19 +58,19 @@ module _ (i : ℕ) (told : Told) (es : List Entry) (marks : List ℕ) (b : Body)
     pr-abort r h = rw h
 
     pub pr-waiting : (v : Vote) → e .vote ≡ waiting → v ≡ waitingRule (boxWith es []) b
-        → castStep i (e .log) v ≡ stepBy i (prByVote told (boxWith es marks) b (entryWith b e) (e .vote))
+        → castStep i (e .log) (e .view) v ≡ stepBy i (prByVote told (boxWith es marks) b (entryWith b e) (e .vote))
     unfolding prByVote castAct stepBy changeBy stateIn entryWith waitingRule status
     pr-waiting v h w = rw (h, w)
 
     pub pr-unvoted : (v : Vote) → e .vote ≡ unvoted → v ≡ firstVote told (boxWith es marks) b
-        → castStep i (e .log) v ≡ stepBy i (prByVote told (boxWith es marks) b (entryWith b e) (e .vote))
+        → castStep i (e .log) (e .view) v ≡ stepBy i (prByVote told (boxWith es marks) b (entryWith b e) (e .vote))
     unfolding prByVote castAct stepBy changeBy stateIn entryWith
     pr-unvoted v h w = rw (h, w)
 
 -- ---- LG
 module _ (i : ℕ) (told : Told) (x : Box) (b : Body) (l : Vl) where
   pub lg-new : (n : ℕ) (full : Bool) → length (x .table) ≡ n → full ≡ leb (told .capacity) n
-      → stepBy i (needing (forLogging (told .f) (decisionOf (l .decision))) l (pick full (refuse Full) (logAct b (decisionOf (l .decision)) none)))
+      → stepBy i (needing (forLogging (told .f) (decisionOf (l .decision))) l (pick full (refuse Full) (firstLog b (decisionOf (l .decision)) none)))
       ≡ lgBy i told x b l Not
   unfolding lgBy lgByEntry roomFor isFull
   lg-new n full k h = rw (h, k)
@@ -82,12 +84,12 @@ module _ (i : ℕ) (told : Told) (x : Box) (b : Body) (l : Vl) where
   lg-open e h = rw h
 
 module _ (i : ℕ) (told : Told) (b : Body) (l : Vl) (e : State) where
-  pub lg-logged : (d : Decision) → e .log ≡ settled d → kept (Logged d) ≡ stepBy i (lgByLog told b l (entryWith b e) (e .log))
+  pub lg-logged : (d : Decision) (v : View) → e .log ≡ logged d v → kept (Logged d v) ≡ stepBy i (lgByLog told b l (entryWith b e) (e .log))
   unfolding lgByLog stepBy changeBy
-  lg-logged d h = rw h
+  lg-logged d v h = rw h
 
-  pub lg-free : e .log ≡ unsettled
-      → stepBy i (needing (forLogging (told .f) (decisionOf (l .decision))) l (logAct b (decisionOf (l .decision)) (some (entryWith b e))))
+  pub lg-free : e .log ≡ unlogged
+      → stepBy i (needing (forLogging (told .f) (decisionOf (l .decision))) l (firstLog b (decisionOf (l .decision)) (some (entryWith b e))))
       ≡ stepBy i (lgByLog told b l (entryWith b e) (e .log))
   unfolding lgByLog
   lg-free h = rw h
@@ -103,7 +105,7 @@ module _ (i : ℕ) (told : Told) (x : Box) (b : Body) (d : Decision) (n : ℕ) (
   dc-room h = rw (k, h)
 
 module _ (i : ℕ) (b : Body) (d : Decision) (e : State) where
-  pub dc-takes : e .decided ≡ unsettled → put i (record { vote = e .vote; log = e .log; decided = settled d }) Done ≡ stepBy i (dcSame b d (entryWith b e) (e .decided))
+  pub dc-takes : e .decided ≡ unsettled → put i (record { vote = e .vote; log = e .log; view = e .view; decided = settled d }) Done ≡ stepBy i (dcSame b d (entryWith b e) (e .decided))
   unfolding dcSame decideAct stepBy changeBy stateIn entryWith
   dc-takes h = rw h
 

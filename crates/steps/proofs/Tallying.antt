@@ -1,13 +1,16 @@
--- The list's codes, and the loop that counts its pairs.
-use Prim.Native.Nat.{ℕ, suc, _+_, _-_, _<_, _≤_, zero-le}
+-- The list's codes, and the loops that count its pairs and its ballots.
+use Prim.Native.Nat.{ℕ, zero, suc, _+_, _-_, _<_, _≤_, zero-le}
 use native.Mathlib.Omega.{arith}
 use native.Mathlib.Nat.{sub-zero, zero-add}
-use mathlib.Core.Path.{_≡_}
+use mathlib.Core.Path.{_≡_, refl}
+use mathlib.Core.Bool.{Bool, true, false}
+use mathlib.Core.List.{map}
 use mathlib.Core.Logic.{_⊎_, inl, inr}
-use borrow.Author.Tests.{eq-eqb, ne-eqb}
-use lib.Dec.{eqb}
+use lib.Dec.{eqb, leb}
 use Rattle.terms.specs.Choice.{tab}
+use Rattle.records.specs.declared.Ballot.{Ballot}
 use Rattle.records.specs.declared.Pair.{Pair}
+use Rattle.records.specs.Views.{ballotPair}
 use Rattle.records.specs.Vl.{Vl}
 use Rattle.terms.specs.declared.Decision.{Decision}
 use Rattle.terms.specs.declared.Decision.the-variants.{Commit as commit, Abort as abort}
@@ -15,47 +18,67 @@ use Rattle.terms.specs.declared.Kind.{Kind}
 use Rattle.terms.specs.declared.Kind.the-variants.{Votes as votes, Logs as logs}
 use Rattle.terms.specs.Group.{logProof}
 use Rattle.rules.specs.Lists.{bit, tally, lacking, forLogging, forProof}
+use Rattle.rules.specs.Fallback.{ballotView, reach}
 
 -- after an `if`: by one branch or by the other
 pub by-branch : {A B C : Type 0} → A ⊎ B → (A → C) → (B → C) → C
 by-branch (inl a) f g = f a
 by-branch (inr b) f g = g b
 
+-- how many of the n places from j on pass a test
+abbrev pub passing : (ℕ → Bool) → ℕ → ℕ → ℕ
+passing g j zero = 0
+passing g j (suc n) = bit (g j) + passing g (j + 1) n
+
 -- what was found before j and what is found from j on are the whole, W
-pub record Counted (d : ℕ) (f : ℕ → Pair) (n W j found : ℕ) : Type 0 where
+pub record Counted (g : ℕ → Bool) (n W j found : ℕ) : Type 0 where
   pub within : j ≤ n
   pub small : found ≤ j
-  pub same : found + tally d (tab f j (n - j)) ≡ W
+  pub same : found + passing g j (n - j) ≡ W
 
-module _ {d : ℕ} {f : ℕ → Pair} {n : ℕ} where
-  pub count-begin : Counted d f n (tally d (tab f 0 n)) 0 0
+module _ {g : ℕ → Bool} {n : ℕ} where
+  pub count-begin : Counted g n (passing g 0 n) 0 0
   count-begin = record { within = zero-le; small = zero-le; same = rw (sub-zero, zero-add) }
 
-  module _ {W j found : ℕ} (r : Counted d f n W j found) where
-    step : j < n → tally d (tab f j (n - j)) ≡ bit (eqb (f j .answer) d) + tally d (tab f (j + 1) (n - (j + 1)))
-    unfolding tally
+  module _ {W j found : ℕ} (r : Counted g n W j found) where
+    step : j < n → passing g j (n - j) ≡ bit (g j) + passing g (j + 1) (n - (j + 1))
     step h = let e : n - j ≡ suc (n - (j + 1)) = omega arith in rw e
 
-    pub count-one : {x : ℕ} → j < n → f j .answer ≡ d → x ≡ found + 1 → Counted d f n W (j + 1) x
+    pub count-one : {x : ℕ} → j < n → g j ≡ true → x ≡ found + 1 → Counted g n W (j + 1) x
     unfolding bit
     count-one {x} h p a =
-        let q = rw (step h, eq-eqb _ _ p) at (r .same) in
+        let q = rw (step h, p) at (r .same) in
         let s = r .small in
         record { within = omega arith; small = omega arith; same = omega arith }
 
-    pub count-none : {x : ℕ} → j < n → (f j .answer ≡ d → ⊥) → x ≡ found → Counted d f n W (j + 1) x
+    pub count-none : {x : ℕ} → j < n → g j ≡ false → x ≡ found → Counted g n W (j + 1) x
     unfolding bit
     count-none {x} h p a =
-        let q = rw (step h, ne-eqb _ _ p) at (r .same) in
+        let q = rw (step h, p) at (r .same) in
         let s = r .small in
         record { within = omega arith; small = omega arith; same = omega arith }
 
     pub count-end : n ≤ j → found ≡ W
-    unfolding tally
     count-end h =
         let e : n - j ≡ 0 = omega arith in
         let q = rw e at (r .same) in
         omega arith
+
+-- the counts of the rules: of pairs by their answer, of ballots by theirs and by their view
+pub tally-passing : (d : ℕ) (f : ℕ → Pair) (j n : ℕ) → passing (λ i. eqb (f i .answer) d) j n ≡ tally d (tab f j n)
+unfolding tally
+tally-passing d f j zero = refl
+tally-passing d f j (suc n) = rw (tally-passing d f (j + 1) n)
+
+pub agree-passing : (d : ℕ) (f : ℕ → Ballot) (j n : ℕ) → passing (λ i. eqb (f i .answer) d) j n ≡ tally d (map ballotPair (tab f j n))
+unfolding tally
+agree-passing d f j zero = refl
+agree-passing d f j (suc n) = rw (agree-passing d f (j + 1) n)
+
+pub reach-passing : (v : ℕ) (f : ℕ → Ballot) (j n : ℕ) → passing (λ i. leb v (ballotView (f i))) j n ≡ reach v (tab f j n)
+unfolding reach
+reach-passing v f j zero = refl
+reach-passing v f j (suc n) = rw (reach-passing v f (j + 1) n)
 
 -- how many are lacking of need, x being counted
 module _ (l : Vl) (x need : ℕ) (e : x ≡ tally (l .decision) (l .pairs)) where

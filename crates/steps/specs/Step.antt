@@ -1,20 +1,27 @@
 -- The rules' act as one step by value: what a call does to the rows of a table.
-use Prim.Native.Nat.{ℕ}
+use Prim.Native.Nat.{ℕ, suc}
 use mathlib.Core.List.{List}
+use mathlib.Core.Path.{_≡_}
 use mathlib.Core.Option.{Option, some, none}
 use Rattle.terms.specs.Choice.{pick}
 use Rattle.terms.specs.declared.Decision.{Decision}
-use Rattle.terms.specs.declared.Refusal.the-variants.{OtherBody}
+use Rattle.terms.specs.declared.Refusal.the-variants.{NotLogged, OtherBody}
+use Rattle.terms.specs.declared.View.{View}
 use Rattle.records.specs.Vl.{Vl}
+use Rattle.records.specs.Views.{Views}
 use Rattle.rules.specs.declared.Answer.{Answer}
 use Rattle.rules.specs.declared.Answer.the-variants.{Voted, Refused}
-use Rattle.rules.specs.declared.Settled.{Settled}
+use Rattle.rules.specs.declared.Log.{Log}
+use Rattle.rules.specs.declared.Log.the-variants.{None as unlogged}
 use Rattle.rules.specs.declared.Settled.the-variants.{None as unsettled}
 use Rattle.rules.specs.declared.Told.{Told}
 use Rattle.rules.specs.declared.Vote.{Vote}
+use Rattle.rules.specs.declared.Vote.the-variants.{None as unvoted}
+use Rattle.rules.specs.Answers.{viewAs}
 use Rattle.rules.specs.Bodies.{Body, sameBody, stampOf}
-use Rattle.rules.specs.Table.{Entry, Box, boxWith, find}
+use Rattle.rules.specs.Table.{Entry, Box, boxWith, find, logIn, viewIn, voteIn}
 use Rattle.rules.specs.Calls.{Act, Change, nothing, puts, raises, prByEntry, prByDecision, lgByEntry, lgByDecision, dcSame, dcOther, dcByEntry}
+use Rattle.rules.specs.Fallback.{ivByDecision, ldByDecision, ldByEntry}
 use Rattle.table.specs.declared.State.{State}
 use Rattle.table.specs.Table.{entryWith, stateIn, place}
 use Rattle.steps.specs.declared.Change.{Change as Changed}
@@ -40,9 +47,9 @@ kept a = record { answer = a; change = Nothing }
 abbrev pub put : ℕ → State → Answer → Step
 put i e a = record { answer = a; change = Put i e }
 
--- a vote is cast and stored, the log stays
-abbrev pub castStep : ℕ → Settled → Vote → Step
-castStep i log v = put i (record { vote = v; log = log; decided = unsettled }) (Voted v)
+-- a vote is cast and stored, log and view stay
+abbrev pub castStep : ℕ → Log → View → Vote → Step
+castStep i log view v = put i (record { vote = v; log = log; view = view; decided = unsettled }) (Voted v)
 
 -- ---- look-up: what is held under the stamp of a body, and its place
 abbrev pub heldBy : Body → Option Entry → Held
@@ -71,3 +78,26 @@ dcBy i told x b d (Other e) = stepBy i (dcOther b d (e .decided))
 -- once the list meets its threshold
 unfoldable pub dcProved : Told → List Entry → List ℕ → Body → Decision → Step
 dcProved told es marks b d = stepBy (place (stampOf b) es) (dcByEntry told (boxWith es marks) b d (find (stampOf b) es))
+
+-- ---- views
+-- the view after one that was found; 0 where none was
+unfoldable pub above : Option ℕ → ℕ
+above none = 0
+above (some v) = suc v
+
+unfoldable pub ivBy : ℕ → Told → Body → Views → Held → Step
+ivBy i told b l Not = kept (Refused NotLogged)
+ivBy i told b l (Same e) = stepBy i (ivByDecision told b (l .ballots) (entryWith b e) (e .decided))
+ivBy i told b l (Other e) = kept (Refused OtherBody)
+
+unfoldable pub ldBy : ℕ → Told → Box → Body → Views → Held → Step
+ldBy i told x b l Not = stepBy i (ldByEntry told x b l none)
+ldBy i told x b l (Same e) = stepBy i (ldByDecision told b l (entryWith b e) (e .decided))
+ldBy i told x b l (Other e) = kept (Refused OtherBody)
+
+-- what stands beside a body that is not held, and beside one that is or is not
+abbrev pub blank : State
+blank = record { vote = unvoted; log = unlogged; view = viewAs 0; decided = unsettled }
+
+abbrev pub Beside : Option Entry → State → Type 0
+Beside o e = (voteIn o ≡ e .vote) × (logIn o ≡ e .log) × (viewIn o ≡ e .view)

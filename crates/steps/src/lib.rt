@@ -1,25 +1,34 @@
-// PR, LG, DC and RD over the rows of a table: what each does, as one step by value. One other function applies it.
+// PR, LG, DC, RD, IV and LD over the rows of a table: what each does, as one step by value. One other function applies it.
 ghost use mathlib.Core.Path.{_≡_};
 ghost use mathlib.Core.List.{List};
 ghost use mathlib.Core.Option.{Option, some, none};
-ghost use Prim.Native.Nat.{ℕ, _≤_};
-ghost use lib.Dec.{leb};
+ghost use mathlib.Core.Bool.{_&&_};
+ghost use mathlib.Core.List.{map};
+ghost use Prim.Native.Nat.{ℕ, max, _≤_};
+ghost use lib.Dec.{leb, ltb};
 ghost use lib.ListN.{length};
 ghost use Rattle.terms.specs.Choice.{pick};
 ghost use Rattle.terms.specs.declared.Refusal.the-variants.{Full};
 ghost use Rattle.records.specs.Tx.{TxThere};
 ghost use Rattle.records.specs.Vl.{listIn};
+ghost use Rattle.records.specs.Views.{ballotPair, viewsIn};
+ghost use Rattle.records.specs.declared.ViewMark.the-variants.{VS, EL};
 ghost use Rattle.rules.specs.declared.Answer.the-variants.{Refused};
+ghost use Rattle.rules.specs.declared.Log.the-variants.{Is as logged};
+ghost use Rattle.rules.specs.Answers.{View, logView};
 ghost use Rattle.rules.specs.Bodies.{Body, stampOf};
 ghost use Rattle.rules.specs.Lists.{decisionOf, kindOf, forLogging, forProof, tally, lacking};
-ghost use Rattle.rules.specs.Table.{Box, Entry, boxWith, voteIn};
-ghost use Rattle.rules.specs.Calls.{needing, refuse, sameDecision, prByVote, prRule, logAct, lgByLog, lgRule, decideAct, dcSame, dcOther, dcByEntry, dcRule, rdRule};
+ghost use Rattle.rules.specs.Table.{Box, Entry, boxWith, voteIn, viewIn};
+ghost use Rattle.rules.specs.Calls.{needing, refuse, sameDecision, prByVote, prRule, firstLog, lgByLog, lgRule, decideAct, dcSame, dcOther, dcByEntry, dcRule, rdRule};
+ghost use Rattle.rules.specs.Fallback.{reach, reached, nextView, ivByLog, ivRule, oneView, leads, takeAct, ledAct, ldRule};
 ghost use Rattle.terms.specs.declared.Decision.the-variants.{Commit as commit};
 ghost use Rattle.table.specs.Table.{Wf, WfRow, entryOf, entryWith, entries, place};
 ghost use Rattle.steps.specs.declared.Held.the-variants.{Not, Same};
-ghost use Rattle.steps.specs.Step.{stepBy, kept, put, castStep, heldBy, lookOf, prBy, lgBy, dcProved};
+ghost use Rattle.steps.specs.Step.{stepBy, kept, put, castStep, heldBy, lookOf, prBy, lgBy, dcProved, above, ivBy, ldBy, blank, Beside};
+use records::ViewList;
 use records::VoteList;
 use rules::Answer;
+use rules::Log;
 use rules::Settled;
 use rules::Told;
 use rules::Vote;
@@ -30,6 +39,9 @@ use terms::Key;
 use terms::Kind;
 use terms::Refusal;
 use terms::Stamp;
+use terms::View;
+
+const LARGEST_VIEW: usize = 65535;
 
 // What a call changes: nothing; row `i` becomes the message's body with this beside it; a key's read mark is raised to a stamp.
 pub enum Change {
@@ -222,13 +234,14 @@ fn is_full(n: usize, told: Told) -> bool
 
 // ---- PR
 
-// The vote is stored and answered; the log stays.
-fn cast(i: usize, log: Settled, v: Vote) -> Step
-    ensures { λ r. ⌜ r ≡ castStep i log v ⌝ }
+// The vote is stored and answered; log and view stay.
+fn cast(i: usize, log: Log, view: View, v: Vote) -> Step
+    ensures { λ r. ⌜ r ≡ castStep i log view v ⌝ }
 {
     let state = State {
         vote: v,
         log,
+        view,
         decided: Settled::None,
     };
     Step::put(i, state, Answer::Voted(v))
@@ -242,7 +255,12 @@ fn pr_new(t: &[u8], n: usize, marks: &[u64], told: Told, b: &[u8], i: usize) -> 
     if is_full(n, told) {
         return Step::refuse(Refusal::Full);
     }
-    cast(i, Settled::None, scans::first_vote(t, n, marks, b, told))
+    cast(
+        i,
+        Log::None,
+        View(0),
+        scans::first_vote(t, n, marks, b, told),
+    )
 }
 
 // Vote cast: the same vote again. Waiting: the waiting rule. None: the tests as if new, in its place.
@@ -251,12 +269,13 @@ fn pr_undecided(t: &[u8], n: usize, marks: &[u64], told: Told, b: &[u8], i: usiz
     ensures { λ r. ⌜ r ≡ stepBy i (prByVote told (boxWith (entries (now (t .entry)) n) (now (marks .entry))) (now (b .entry)) (entryWith (now (b .entry)) e) (e .vote)) ⌝ }
 {
     let log = e.log;
+    let view = e.view;
     let vote = e.vote;
     match vote {
         Vote::Commit => Step::keep(Answer::Voted(vote)),
         Vote::Abort(_) => Step::keep(Answer::Voted(vote)),
-        Vote::Waiting => cast(i, log, scans::waiting_rule(t, n, b)),
-        Vote::None => cast(i, log, scans::first_vote(t, n, marks, b, told)),
+        Vote::Waiting => cast(i, log, view, scans::waiting_rule(t, n, b)),
+        Vote::None => cast(i, log, view, scans::first_vote(t, n, marks, b, told)),
     }
 }
 
@@ -289,10 +308,10 @@ pub fn pr_step(t: &[u8], n: usize, marks: &[u64], told: Told, b: &[u8]) -> Step
 
 // ---- LG
 
-// Too few: 11. A new entry and no room: 13. Else it is logged beside this vote.
-fn lg_unlogged(i: usize, full: bool, vote: Vote, told: Told, l: VoteList) -> Step
+// Too few: 11. A new entry and no room: 13. Else it is logged with view 0, beside this vote and the current view.
+fn lg_unlogged(i: usize, full: bool, vote: Vote, view: View, told: Told, l: VoteList) -> Step
     requires { ⌜ (told .f ≤ 5) × (l .count ≤ 26) ⌝ }
-    ensures { λ r. ⌜ ((b : Body) (o : Option Entry) → voteIn o ≡ vote → r ≡ stepBy i (needing (forLogging (told .f) (decisionOf (listIn l .decision))) (listIn l) (pick full (refuse Full) (logAct b (decisionOf (listIn l .decision)) o)))) ⌝ }
+    ensures { λ r. ⌜ ((b : Body) (o : Option Entry) → voteIn o ≡ vote → viewIn o ≡ view → r ≡ stepBy i (needing (forLogging (told .f) (decisionOf (listIn l .decision))) (listIn l) (pick full (refuse Full) (firstLog b (decisionOf (listIn l .decision)) o)))) ⌝ }
 {
     let d = decision_of(l.decision);
     let lacks = lacking(l, log_need(group_of(told), d));
@@ -304,10 +323,11 @@ fn lg_unlogged(i: usize, full: bool, vote: Vote, told: Told, l: VoteList) -> Ste
     }
     let logged = State {
         vote,
-        log: Settled::Is(d),
+        log: Log::Is(d, View(0)),
+        view,
         decided: Settled::None,
     };
-    Step::put(i, logged, Answer::Logged(d))
+    Step::put(i, logged, Answer::Logged(d, View(0)))
 }
 
 // Already logged: that same log.
@@ -316,10 +336,11 @@ fn lg_undecided(i: usize, e: State, told: Told, l: VoteList) -> Step
     ensures { λ r. ⌜ ((b : Body) → r ≡ stepBy i (lgByLog told b (listIn l) (entryWith b e) (e .log))) ⌝ }
 {
     let vote = e.vote;
+    let view = e.view;
     let log = e.log;
     match log {
-        Settled::Is(d) => Step::keep(Answer::Logged(d)),
-        Settled::None => lg_unlogged(i, false, vote, told, l),
+        Log::Is(d, v) => Step::keep(Answer::Logged(d, v)),
+        Log::None => lg_unlogged(i, false, vote, view, told, l),
     }
 }
 
@@ -344,7 +365,7 @@ pub fn lg_step(t: &[u8], n: usize, told: Told, b: &[u8], l: VoteList) -> Step
     let i = look.place;
     let held = look.held;
     match held {
-        Held::Not => lg_unlogged(i, is_full(n, told), Vote::None, told, l),
+        Held::Not => lg_unlogged(i, is_full(n, told), Vote::None, View(0), told, l),
         Held::Same(e) => lg_held(i, e, told, l),
         Held::Other(_) => Step::refuse(Refusal::OtherBody),
     }
@@ -358,7 +379,8 @@ fn dc_new(i: usize, d: Decision) -> Step
 {
     let state = State {
         vote: Vote::None,
-        log: Settled::None,
+        log: Log::None,
+        view: View(0),
         decided: Settled::Is(d),
     };
     Step::put(i, state, Answer::Done)
@@ -380,6 +402,7 @@ fn dc_same(i: usize, e: State, d: Decision) -> Step
 {
     let vote = e.vote;
     let log = e.log;
+    let view = e.view;
     let decided = e.decided;
     match decided {
         Settled::None => Step::put(
@@ -387,6 +410,7 @@ fn dc_same(i: usize, e: State, d: Decision) -> Step
             State {
                 vote,
                 log,
+                view,
                 decided: Settled::Is(d),
             },
             Answer::Done,
@@ -468,5 +492,272 @@ pub fn rd_step(t: &[u8], n: usize, told: Told, k: Key, s: Stamp) -> Step
     Step {
         answer,
         change: Change::Raise(k, s),
+    }
+}
+
+// ---- views
+
+fn larger(a: usize, b: usize) -> usize
+    ensures { λ r. ⌜ r ≡ max a b ⌝ }
+{
+    if a < b {
+        return b;
+    }
+    a
+}
+
+// How many of the listed are at the view or above it.
+fn reach(l: ViewList, v: View) -> usize
+    requires { ⌜ l .count ≤ 26 ⌝ }
+    ensures { λ r. ⌜ (r ≡ reach (v .0) (viewsIn VS l .ballots)) × (r ≤ 26) ⌝ }
+{
+    let n = l.count;
+    let mut found = 0;
+    let mut j = 0;
+    while j < n {
+        let ballot = l.ballots[j];
+        if v.0 <= ballot.view.0 {
+            found += 1;
+        }
+        j += 1;
+    }
+    found
+}
+
+// The view after the largest listed one that so many of all are at or above; 0 where there is none.
+fn reached(l: ViewList, need: usize) -> usize
+    requires { ⌜ l .count ≤ 26 ⌝ }
+    ensures { λ r. ⌜ r ≡ above (reached need (viewsIn VS l .ballots) (viewsIn VS l .ballots)) ⌝ }
+{
+    let n = l.count;
+    let mut after = 0;
+    let mut j = 0;
+    while j < n {
+        let ballot = l.ballots[j];
+        if need <= reach(l, ballot.view) {
+            after = larger(after, ballot.view.0 as usize + 1);
+        }
+        j += 1;
+    }
+    after
+}
+
+// With 3f + 1 to the view after theirs, else with f + 1 up to theirs; never back.
+fn next_view(g: Group, current: View, l: ViewList) -> usize
+    requires { ⌜ l .count ≤ 26 ⌝ }
+    ensures { λ r. ⌜ r ≡ nextView (g .f) (current .0) (viewsIn VS l .ballots) ⌝ }
+{
+    let held = current.0 as usize;
+    let many = reached(l, g.commit_list());
+    if many != 0 {
+        return larger(held, many);
+    }
+    let few = reached(l, g.abort_list());
+    if few != 0 {
+        return larger(held, few - 1);
+    }
+    held
+}
+
+// ---- IV
+
+// Past 65,535: 24. Else the view that is moved on to is stored, and the log answered with it and its leader.
+fn iv_logged(i: usize, e: State, d: Decision, told: Told, b: &[u8], l: ViewList) -> Step
+    requires { ⌜ TxThere (now b) × (told .f ≤ 5) × (l .count ≤ 26) ⌝ }
+    ensures { λ r. ⌜ ((v : View) → r ≡ stepBy i (ivByLog told (now (b .entry)) (viewsIn VS l .ballots) (entryWith (now (b .entry)) e) (logged d v))) ⌝ }
+{
+    let g = group_of(told);
+    let next = next_view(g, e.view, l);
+    if LARGEST_VIEW < next {
+        return Step::refuse(Refusal::LastView);
+    }
+    let number = next as u16;
+    let view = View(number);
+    let leader = rules::leader_of(g, view, table::stamp_of(b));
+    let vote = e.vote;
+    let log = e.log;
+    let moved = State {
+        vote,
+        log,
+        view,
+        decided: Settled::None,
+    };
+    Step::put(i, moved, Answer::Elected(d, view, leader))
+}
+
+// Nothing logged: 22.
+fn iv_undecided(i: usize, e: State, told: Told, b: &[u8], l: ViewList) -> Step
+    requires { ⌜ TxThere (now b) × (told .f ≤ 5) × (l .count ≤ 26) ⌝ }
+    ensures { λ r. ⌜ r ≡ stepBy i (ivByLog told (now (b .entry)) (viewsIn VS l .ballots) (entryWith (now (b .entry)) e) (e .log)) ⌝ }
+{
+    let logged = e.log;
+    match logged {
+        Log::None => Step::refuse(Refusal::NotLogged),
+        Log::Is(d, _) => iv_logged(i, e, d, told, b, l),
+    }
+}
+
+// Held with this body. Decided: Decided.
+fn iv_held(i: usize, e: State, told: Told, b: &[u8], l: ViewList) -> Step
+    requires { ⌜ TxThere (now b) × (told .f ≤ 5) × (l .count ≤ 26) ⌝ }
+    ensures { λ r. ⌜ r ≡ ivBy i told (now (b .entry)) (viewsIn VS l) (Same e) ⌝ }
+{
+    let decided = e.decided;
+    match decided {
+        Settled::Is(d) => Step::keep(Answer::Decided(d)),
+        Settled::None => iv_undecided(i, e, told, b, l),
+    }
+}
+
+// IV. Not held: 22. Other body: 9.
+pub fn iv_step(t: &[u8], n: usize, told: Told, b: &[u8], l: ViewList) -> Step
+    requires { ⌜ Wf (now t) n × TxThere (now b) × (told .f ≤ 5) × (l .count ≤ 26) ⌝ }
+    ensures { λ r. ⌜ ((marks : List ℕ) → r ≡ stepBy (place (stampOf (now (b .entry))) (entries (now (t .entry)) n)) (ivRule told (boxWith (entries (now (t .entry)) n) marks) (now (b .entry)) (viewsIn VS l))) ⌝ }
+{
+    let look = look_up(t, n, b);
+    let i = look.place;
+    let held = look.held;
+    match held {
+        Held::Not => Step::refuse(Refusal::NotLogged),
+        Held::Same(e) => iv_held(i, e, told, b, l),
+        Held::Other(_) => Step::refuse(Refusal::OtherBody),
+    }
+}
+
+// ---- LD
+
+// Whether all ballots have the list's view.
+fn one_view(l: ViewList) -> bool
+    requires { ⌜ l .count ≤ 26 ⌝ }
+    ensures { λ r. ⌜ r ≡ oneView (l .view .0) (viewsIn EL l .ballots) ⌝ }
+{
+    let n = l.count;
+    let mut j = 0;
+    while j < n {
+        let ballot = l.ballots[j];
+        if ballot.view.0 != l.view.0 {
+            return false;
+        }
+        j += 1;
+    }
+    true
+}
+
+// How many ballots have the list's decision.
+fn agreeing(l: ViewList) -> usize
+    requires { ⌜ l .count ≤ 26 ⌝ }
+    ensures { λ r. ⌜ (r ≡ tally (l .decision) (map ballotPair (viewsIn EL l .ballots))) × (r ≤ 26) ⌝ }
+{
+    let n = l.count;
+    let mut found = 0;
+    let mut j = 0;
+    while j < n {
+        let ballot = l.ballots[j];
+        if ballot.answer == l.decision {
+            found += 1;
+        }
+        j += 1;
+    }
+    found
+}
+
+// Whether leader, number of answers, their view and their majority are right.
+fn leads(g: Group, b: &[u8], l: ViewList) -> bool
+    requires { ⌜ TxThere (now b) × (g .f ≤ 5) × (l .count ≤ 26) ⌝ }
+    ensures { λ r. ⌜ r ≡ leads (g .f) (now (b .entry)) (viewsIn EL l) ⌝ }
+{
+    if l.leader != rules::leader_of(g, l.view, table::stamp_of(b)) {
+        return false;
+    }
+    if l.count != g.log_proof() {
+        return false;
+    }
+    if one_view(l) {
+        return l.count < 2 * agreeing(l);
+    }
+    false
+}
+
+// Whether the current view is not above this one, and the logged view strictly below.
+fn may_take(e: State, v: View) -> bool
+    ensures { λ r. ⌜ r ≡ (leb (e .view .0) (v .0) && ltb (logView (e .log) .0) (v .0)) ⌝ }
+{
+    let log = e.log;
+    let logged = log.view();
+    if e.view.0 <= v.0 {
+        return logged.0 < v.0;
+    }
+    false
+}
+
+// What stands beside a body that is not held.
+fn blank() -> State
+    ensures { λ r. ⌜ r ≡ blank ⌝ }
+{
+    State {
+        vote: Vote::None,
+        log: Log::None,
+        view: View(0),
+        decided: Settled::None,
+    }
+}
+
+// The decision is logged with its view, which is the current one from then on.
+fn ld_taken(i: usize, vote: Vote, l: ViewList) -> Step
+    ensures { λ r. ⌜ ((b : Body) (o : Option Entry) → voteIn o ≡ vote → r ≡ stepBy i (ledAct b (viewsIn EL l) o)) ⌝ }
+{
+    let d = decision_of(l.decision);
+    let view = l.view;
+    let led = State {
+        vote,
+        log: Log::Is(d, view),
+        view,
+        decided: Settled::None,
+    };
+    Step::put(i, led, Answer::Logged(d, view))
+}
+
+// Not an election: 23. A view that forbids it: 21. A new entry and no room: 13. Else it is taken.
+fn ld_undecided(i: usize, full: bool, e: State, told: Told, b: &[u8], l: ViewList) -> Step
+    requires { ⌜ TxThere (now b) × (told .f ≤ 5) × (l .count ≤ 26) ⌝ }
+    ensures { λ r. ⌜ ((o : Option Entry) → Beside o e → r ≡ stepBy i (takeAct told (now (b .entry)) (viewsIn EL l) o (pick full (refuse Full) (ledAct (now (b .entry)) (viewsIn EL l) o)))) ⌝ }
+{
+    if leads(group_of(told), b, l) {
+        if may_take(e, l.view) {
+            if full {
+                return Step::refuse(Refusal::Full);
+            }
+            let vote = e.vote;
+            return ld_taken(i, vote, l);
+        }
+        return Step::refuse(Refusal::Passed);
+    }
+    Step::refuse(Refusal::Election)
+}
+
+// Held with this body. Decided: Decided.
+fn ld_held(i: usize, e: State, told: Told, b: &[u8], l: ViewList) -> Step
+    requires { ⌜ TxThere (now b) × (told .f ≤ 5) × (l .count ≤ 26) ⌝ }
+    ensures { λ r. ⌜ ((x : Box) → r ≡ ldBy i told x (now (b .entry)) (viewsIn EL l) (Same e)) ⌝ }
+{
+    let decided = e.decided;
+    match decided {
+        Settled::Is(d) => Step::keep(Answer::Decided(d)),
+        Settled::None => ld_undecided(i, false, e, told, b, l),
+    }
+}
+
+// LD. Not held: a new entry with vote none, if there is room. Other body: 9.
+pub fn ld_step(t: &[u8], n: usize, told: Told, b: &[u8], l: ViewList) -> Step
+    requires { ⌜ Wf (now t) n × TxThere (now b) × (told .f ≤ 5) × (l .count ≤ 26) ⌝ }
+    ensures { λ r. ⌜ ((marks : List ℕ) → r ≡ stepBy (place (stampOf (now (b .entry))) (entries (now (t .entry)) n)) (ldRule told (boxWith (entries (now (t .entry)) n) marks) (now (b .entry)) (viewsIn EL l))) ⌝ }
+{
+    let look = look_up(t, n, b);
+    let i = look.place;
+    let held = look.held;
+    match held {
+        Held::Not => ld_undecided(i, is_full(n, told), blank(), told, b, l),
+        Held::Same(e) => ld_held(i, e, told, b, l),
+        Held::Other(_) => Step::refuse(Refusal::OtherBody),
     }
 }

@@ -1,19 +1,22 @@
 -- What an entry holds beside the body: as a state, and as codes that are read back as they were put down.
-use Prim.Native.Nat.{ℕ, _≤_}
+use Prim.Native.Nat.{ℕ, _+_, _*_, _≤_}
 use native.Mathlib.Omega.{arith}
 use mathlib.Core.Path.{_≡_, refl, ap}
 use mathlib.Core.List.{List}
+use Rattle.terms.specs.declared.View.{View}
 use Rattle.terms.specs.declared.Decision.the-variants.{Commit as commit, Abort as abort}
 use Rattle.terms.specs.Checks.{orElse, ifLess, ifSame}
-use Rattle.rules.specs.Answers.{reasonNumber, voteNumber, voteReason, settledNumber}
+use Rattle.rules.specs.Answers.{reasonNumber, voteNumber, voteReason, settledNumber, logNumber, logView}
 use Rattle.rules.specs.declared.Reason.{Reason}
 use Rattle.rules.specs.declared.Reason.the-variants.{Ahead, NoVersion, Overwritten, Undercuts, ReadMark, Dependency}
 use Rattle.rules.specs.declared.Vote.{Vote}
 use Rattle.rules.specs.declared.Vote.the-variants.{None as unvoted, Waiting as waiting, Commit as voteCommit, Abort as voteAbort}
 use Rattle.rules.specs.declared.Settled.{Settled}
 use Rattle.rules.specs.declared.Settled.the-variants.{None as unsettled, Is as settled}
+use Rattle.rules.specs.declared.Log.{Log}
+use Rattle.rules.specs.declared.Log.the-variants.{None as unlogged, Is as logged}
 use Rattle.rules.specs.Table.{Entry}
-use Rattle.table.specs.Table.{voteOf, reasonOf, settledOf, reasonWrong, stateAt, stateIn, entryWith, entryOf}
+use Rattle.table.specs.Table.{voteOf, reasonOf, settledOf, logOf, lower, upper, reasonWrong, stateAt, stateIn, entryWith, entryOf}
 
 -- ---- codes
 reason-back : (r : Reason) → reasonOf (reasonNumber r) ≡ r
@@ -34,6 +37,15 @@ pub settled-back : (x : Settled) → settledOf (settledNumber x) ≡ x
 settled-back unsettled = refl
 settled-back (settled commit) = refl
 settled-back (settled abort) = refl
+
+-- the two bytes of a view as one number again, of any size
+pub view-back : (v : View) → lower v + 256 * (upper v + 256 * 0) ≡ v .0
+view-back v = omega arith
+
+pub log-back : (x : Log) (v : ℕ) → v ≡ logView x .0 → logOf (logNumber x) v ≡ x
+log-back unlogged v e = refl
+log-back (logged commit w) v e = rw e
+log-back (logged abort w) v e = rw e
 
 -- each is in its list
 pub vote-small : (v : Vote) → voteNumber v ≤ 3
@@ -59,6 +71,11 @@ settled-small unsettled = omega arith
 settled-small (settled commit) = omega arith
 settled-small (settled abort) = omega arith
 
+pub log-small : (x : Log) → logNumber x ≤ 2
+log-small unlogged = omega arith
+log-small (logged commit v) = omega arith
+log-small (logged abort v) = omega arith
+
 -- ---- the state of a row is its entry's
 module _ (r : List ℕ) where
   pub state-vote : stateAt r .vote ≡ entryOf r .vote
@@ -68,6 +85,10 @@ module _ (r : List ℕ) where
   pub state-log : stateAt r .log ≡ entryOf r .log
   unfolding entryOf entryWith
   state-log = refl
+
+  pub state-view : stateAt r .view ≡ entryOf r .view
+  unfolding entryOf entryWith
+  state-view = refl
 
   pub state-decided : stateAt r .decided ≡ entryOf r .decided
   unfolding entryOf entryWith

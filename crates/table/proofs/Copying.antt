@@ -5,9 +5,11 @@ use native.Mathlib.Numerals.{add-one}
 use mathlib.Core.Path.{_≡_, refl, ap, sym, _∙_}
 use mathlib.Core.List.{List, [], _∷_, _++_, append-assoc, append-nil}
 use borrow.Rule.Slice.PartMut.{midOf, putMid}
-use lib.ListN.{length, take, drop, getD, set, length-set, drop-of-length-le}
-use lib.Seq.{length-take-le, take-length, take-all, set-at, drop-cons, take-suc}
-use Rattle.table.specs.Table.{rowLen, voteAt, reasonAt, logAt, decidedAt, bodyAt, rowTx}
+use lib.ListN.{length, take, drop, getD, set, length-set, length-drop, drop-of-length-le}
+use lib.Seq.{length-take-le, take-length, take-all, set-at, drop-cons, drop-drop, take-suc}
+use Rattle.rules.specs.Answers.{logView}
+use Rattle.table.specs.declared.State.{State}
+use Rattle.table.specs.Table.{rowLen, voteAt, logViewAt, viewAt, bodyAt, rowTx, viewBytes, codesOf, newRow}
 
 -- the first i bytes of b over d
 abbrev copied : List ℕ → List ℕ → ℕ → List ℕ
@@ -39,17 +41,17 @@ copy-more {d} {b} {e} {i} c h =
 pub copy-all : {d b e : List ℕ} {i : ℕ} → Copied d b e i → length b ≤ i → e ≡ b ++ drop (length b) d
 copy-all {d} {b} {e} {i} c h = let z : i ≡ length b = omega arith in rw (z, take-length b) at (c .same)
 
--- the codes put down in a row, and the bytes behind them lent and given back
-abbrev coded : List ℕ → ℕ → ℕ → ℕ → ℕ → List ℕ
-coded d v r l x = set (set (set (set d voteAt v) reasonAt r) logAt l) decidedAt x
+-- codes and two views put down in a row, each in a part that is lent and given back
+abbrev headed : List ℕ → State → List ℕ
+headed d x =
+    putMid viewAt (bodyAt - viewAt)
+    (putMid logViewAt (viewAt - logViewAt) (putMid voteAt (logViewAt - voteAt) d (codesOf x)) (viewBytes (logView (x .log)))) (viewBytes (x .view))
 
-pub row-put : (d b : List ℕ) (v r l x : ℕ) → length d ≡ rowLen
-    → putMid bodyAt (rowLen - bodyAt) (coded d v r l x) (b ++ drop (length b) (midOf bodyAt (rowLen - bodyAt) (coded d v r l x)))
-    ≡ v ∷ r ∷ x ∷ l ∷ (b ++ drop (length b) (rowTx d))
-row-put [] b v r l x h = absurd (omega arith)
-row-put (p ∷ []) b v r l x h = absurd (omega arith)
-row-put (p ∷ q ∷ []) b v r l x h = absurd (omega arith)
-row-put (p ∷ q ∷ s ∷ []) b v r l x h = absurd (omega arith)
-row-put (p ∷ q ∷ s ∷ t ∷ d) b v r l x h =
-    let n : length d ≤ rowLen - bodyAt = omega arith in
-    rw (take-all (rowLen - bodyAt) d n, drop-of-length-le d n, append-nil)
+-- and a body behind them
+pub row-put : (d b : List ℕ) (x : State) → length d ≡ rowLen
+    → putMid bodyAt (rowLen - bodyAt) (headed d x) (b ++ drop (length b) (midOf bodyAt (rowLen - bodyAt) (headed d x))) ≡ newRow d b x
+unfolding newRow
+row-put d b x h =
+    let e : drop (bodyAt - viewAt) (drop (viewAt - logViewAt) (drop logViewAt d)) ≡ rowTx d = drop-drop 2 2 (drop 4 d) ∙ drop-drop 4 4 d in
+    let n : length (rowTx d) ≤ rowLen - bodyAt = simp length-drop (omega arith) in
+    rw (e, take-all (rowLen - bodyAt) (rowTx d) n, drop-of-length-le (rowTx d) n, append-nil)

@@ -13,14 +13,16 @@ use Rattle.terms.specs.Choice.{pick, tab, any}
 use Rattle.terms.specs.Checks.{ifLess, table}
 use Rattle.terms.proofs.Checks.{pass, less-no, when-no}
 use Rattle.terms.proofs.Scans.{tab-length}
+use Rattle.records.specs.Numbers.{numAt}
 use Rattle.records.specs.Tx.{txLen, rCount, wCount, TxThere}
+use Rattle.rules.specs.Answers.{logView}
 use Rattle.rules.specs.Bodies.{stampOf}
 use Rattle.rules.specs.Table.{put}
 use Rattle.table.specs.declared.State.{State}
-use Rattle.table.specs.Table.{rowLen, logAt, decidedAt, bodyAt, tableLen, rowAt, putRow, rowTx, rowBody, stateAt, entryOf, entryAt, entries, entriesOf, entryWith}
+use Rattle.table.specs.Table.{rowLen, logAt, logViewAt, viewAt, decidedAt, bodyAt, tableLen, rowAt, putRow, rowTx, rowBody, stateAt, entryOf, entryAt, entries, entriesOf, entryWith}
 use Rattle.table.specs.Table.{voteWrong, rowWrong, rowBad, tableWrong, place, newRow, newCount, stored}
 use Rattle.table.proofs.Checked.{any-false, row-long, table-room, table-count, row-right}
-use Rattle.table.proofs.Coding.{vote-back, settled-back, vote-small, reason-right, settled-small}
+use Rattle.table.proofs.Coding.{vote-back, settled-back, view-back, log-back, vote-small, reason-right, settled-small, log-small}
 use Rattle.table.proofs.Placing.{own, long, other, entries-put, entries-push, put-held, put-new, place-within}
 
 -- ---- the entry of a new row
@@ -48,9 +50,17 @@ module _ (d b : List ℕ) (x : State) (ld : length d ≡ rowLen) (lb : length b 
       let n : txLen (rowTx (newRow d b x)) ≡ length b = let p = reads-same in let q = writes-same in omega arith in
       rw (n, new-tx) (take-at b behind (length b) refl)
 
+  new-log-view : numAt 2 logViewAt (newRow d b x) ≡ logView (x .log) .0
+  unfolding numAt newRow
+  new-log-view = view-back (logView (x .log))
+
+  new-view : numAt 2 viewAt (newRow d b x) ≡ x .view .0
+  unfolding numAt newRow
+  new-view = view-back (x .view)
+
   new-state : stateAt (newRow d b x) ≡ x
   unfolding stateAt newRow
-  new-state = rw (vote-back (x .vote), settled-back (x .log), settled-back (x .decided))
+  new-state = rw (vote-back (x .vote), log-back (x .log) _ new-log-view, new-view, settled-back (x .decided))
 
   new-entry : entryOf (newRow d b x) ≡ entryWith b x
   unfolding entryOf
@@ -63,7 +73,7 @@ module _ (d b : List ℕ) (x : State) (ld : length d ≡ rowLen) (lb : length b 
 
   new-log : ifLess 2 (getD (newRow d b x) logAt 0) table ≡ 0
   unfolding newRow
-  new-log = less-no _ _ _ (settled-small (x .log))
+  new-log = less-no _ _ _ (log-small (x .log))
 
   new-decided : ifLess 2 (getD (newRow d b x) decidedAt 0) table ≡ 0
   unfolding newRow

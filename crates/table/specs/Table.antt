@@ -1,5 +1,6 @@
--- The lent table: a byte that counts its entries, then a row for each: the codes of vote, reason, decision and log, then the TX record's bytes.
-use Prim.Native.Nat.{ℕ, _+_, _*_, _≤_, _<_}
+-- The lent table: a byte that counts its entries, then a row for each: the codes of vote, reason, decision and log, the log's
+-- view and the current one, then the TX record's bytes.
+use Prim.Native.Nat.{ℕ, _+_, _*_, _/_, _%_, _≤_, _<_}
 use mathlib.Core.List.{List, [], _∷_, _++_}
 use mathlib.Core.Path.{_≡_}
 use mathlib.Core.Bool.{Bool}
@@ -7,7 +8,9 @@ use lib.ListN.{length, getD, take, drop, set}
 use lib.Dec.{ltb, eqb}
 use Rattle.terms.specs.Choice.{pick, tab, any}
 use Rattle.terms.specs.Checks.{orElse, when, ifLess, ifSame, table}
+use Rattle.terms.specs.declared.View.{View}
 use Rattle.terms.specs.declared.Decision.the-variants.{Commit as commit, Abort as abort}
+use Rattle.records.specs.Numbers.{numAt}
 use Rattle.records.specs.Tx.{txLen, rCount, wCount}
 use Rattle.rules.specs.declared.Reason.{Reason}
 use Rattle.rules.specs.declared.Reason.the-variants.{Ahead, NoVersion, Overwritten, Undercuts, ReadMark, Dependency}
@@ -15,7 +18,9 @@ use Rattle.rules.specs.declared.Vote.{Vote}
 use Rattle.rules.specs.declared.Vote.the-variants.{None as unvoted, Commit as voteCommit, Abort as voteAbort, Waiting as waiting}
 use Rattle.rules.specs.declared.Settled.{Settled}
 use Rattle.rules.specs.declared.Settled.the-variants.{None as unsettled, Is as settled}
-use Rattle.rules.specs.Answers.{voteNumber, voteReason, settledNumber}
+use Rattle.rules.specs.declared.Log.{Log}
+use Rattle.rules.specs.declared.Log.the-variants.{None as unlogged, Is as logged}
+use Rattle.rules.specs.Answers.{voteNumber, voteReason, settledNumber, logNumber, logView, viewAs}
 use Rattle.rules.specs.Bodies.{Body, stampOf}
 use Rattle.rules.specs.Table.{Entry}
 use Rattle.table.specs.declared.State.{State}
@@ -25,9 +30,9 @@ use Rattle.table.specs.declared.State.{State}
 abbrev pub headLen : ℕ
 headLen = 1
 
--- how many bytes a row has: a byte for each code, then room for the longest TX
+-- how many bytes a row has: a byte for each code, two for each view, then room for the longest TX
 abbrev pub rowLen : ℕ
-rowLen = 176
+rowLen = 180
 
 abbrev pub voteAt : ℕ
 voteAt = 0
@@ -41,8 +46,14 @@ decidedAt = 2
 abbrev pub logAt : ℕ
 logAt = 3
 
+abbrev pub logViewAt : ℕ
+logViewAt = 4
+
+abbrev pub viewAt : ℕ
+viewAt = 6
+
 abbrev pub bodyAt : ℕ
-bodyAt = 4
+bodyAt = 8
 
 -- how many bytes a table has
 abbrev pub tableLen : ℕ → ℕ
@@ -56,7 +67,7 @@ rowAt t i = take rowLen (drop (i * rowLen) t)
 abbrev pub putRow : List ℕ → ℕ → List ℕ → List ℕ
 putRow t i r = take (i * rowLen) t ++ (r ++ drop rowLen (drop (i * rowLen) t))
 
--- the bytes of a row behind the codes: those of its TX, then what is left
+-- the bytes of a row behind codes and views: those of its TX, then what is left
 abbrev pub rowTx : List ℕ → List ℕ
 rowTx r = drop bodyAt r
 
@@ -69,9 +80,23 @@ reasonOf x = pick (eqb x 1) Ahead (pick (eqb x 2) NoVersion (pick (eqb x 3) Over
 abbrev pub voteOf : ℕ → ℕ → Vote
 voteOf x y = pick (eqb x 1) voteCommit (pick (eqb x 2) (voteAbort (reasonOf y)) (pick (eqb x 3) waiting unvoted))
 
--- "logged decision or none, decision or none": what the code says
+-- "decision or none": what the code says
 abbrev pub settledOf : ℕ → Settled
 settledOf x = pick (eqb x 1) (settled commit) (pick (eqb x 2) (settled abort) unsettled)
+
+-- "logged decision or none": what the code says, and its view; any view is taken, and one beside no log is no part of it
+abbrev pub logOf : ℕ → ℕ → Log
+logOf x v = pick (eqb x 1) (logged commit (viewAs v)) (pick (eqb x 2) (logged abort (viewAs v)) unlogged)
+
+-- the two bytes of a view, the lower one first
+abbrev pub lower : View → ℕ
+lower v = v .0 % 256
+
+abbrev pub upper : View → ℕ
+upper v = v .0 / 256
+
+abbrev pub viewBytes : View → List ℕ
+viewBytes v = lower v ∷ upper v ∷ []
 
 -- ---- entries
 -- what an entry holds beside the body: in a row, and in the rules
@@ -79,22 +104,23 @@ unfoldable pub stateAt : List ℕ → State
 stateAt r =
     record {
       vote = voteOf (getD r voteAt 0) (getD r reasonAt 0);
-      log = settledOf (getD r logAt 0);
+      log = logOf (getD r logAt 0) (numAt 2 logViewAt r);
+      view = viewAs (numAt 2 viewAt r);
       decided = settledOf (getD r decidedAt 0);
     }
 
 unfoldable pub stateIn : Entry → State
-stateIn e = record { vote = e .vote; log = e .log; decided = e .decided }
+stateIn e = record { vote = e .vote; log = e .log; view = e .view; decided = e .decided }
 
 -- the entry of a body and of what is held beside it
 unfoldable pub entryWith : Body → State → Entry
-entryWith b x = record { body = b; vote = x .vote; log = x .log; decided = x .decided }
+entryWith b x = record { body = b; vote = x .vote; log = x .log; view = x .view; decided = x .decided }
 
 -- the body that a row holds: as many bytes as its counts give
 unfoldable pub rowBody : List ℕ → Body
 rowBody r = take (txLen (rowTx r)) (rowTx r)
 
--- "An entry holds body, vote (waiting, commit, abort with reason, or none), logged decision or none, decision or none"
+-- "An entry holds body, vote (waiting, commit, abort with reason, or none), logged decision or none, decision or none"; A5: its views
 unfoldable pub entryOf : List ℕ → Entry
 entryOf r = entryWith (rowBody r) (stateAt r)
 
@@ -159,10 +185,13 @@ place s [] = 0
 place s (e ∷ es) = pick (eqb (stampOf (e .body)) s) 0 (1 + place s es)
 
 -- ---- store
+-- the codes of what is held, each in its place
+abbrev pub codesOf : State → List ℕ
+codesOf x = voteNumber (x .vote) ∷ voteReason (x .vote) ∷ settledNumber (x .decided) ∷ logNumber (x .log) ∷ []
+
 -- a row of body b and of what is held beside it; between the body's end and the row's stands what stood there
 unfoldable pub newRow : List ℕ → Body → State → List ℕ
-newRow d b x =
-    voteNumber (x .vote) ∷ voteReason (x .vote) ∷ settledNumber (x .decided) ∷ settledNumber (x .log) ∷ (b ++ drop (length b) (rowTx d))
+newRow d b x = codesOf x ++ (viewBytes (logView (x .log)) ++ (viewBytes (x .view) ++ (b ++ drop (length b) (rowTx d))))
 
 -- the count once row i is stored: one more where i is behind the last
 unfoldable pub newCount : ℕ → ℕ → ℕ

@@ -10,22 +10,24 @@ ghost use Rattle.records.specs.Tx.{rCount, wCount, readAt, writeAt, writesFrom,
 ghost use Rattle.rules.specs.Bodies.{stampOf, writesKey, sameBody};
 ghost use Rattle.rules.specs.Table.{live};
 ghost use Rattle.table.specs.Table.{headLen, rowLen, bodyAt, tableLen, countOf, rowAt, rowTx, entryOf, entryAt, entries, WfRow, Wf, place};
-ghost use Rattle.table.specs.Table.{reasonWrong, voteWrong, settledWrong, rowWrong, rowBad, tableWrong, reasonOf, voteOf, settledOf, stateAt};
-ghost use Rattle.table.specs.Table.{newRow, newCount, stored};
+ghost use Rattle.table.specs.Table.{reasonWrong, voteWrong, settledWrong, rowWrong, rowBad, tableWrong, reasonOf, voteOf, settledOf, logOf, viewBytes, stateAt};
+ghost use Rattle.table.specs.Table.{logViewAt, codesOf, newRow, newCount, stored};
 use records::Read;
 use records::Write;
+use rules::Log;
 use rules::Reason;
 use rules::Settled;
 use rules::Vote;
 use terms::Decision;
 use terms::Key;
 use terms::Stamp;
+use terms::View;
 
 // How many bytes stand in front of the rows: the count of entries.
 pub const HEAD: usize = 1;
 
-// How many bytes a row has, and where in it the codes of vote, reason, decision and log stand, and the body.
-pub const ROW: usize = 176;
+// How many bytes a row has, and where in it the codes of vote, reason, decision and log stand, the log's view, the current view, and the body.
+pub const ROW: usize = 180;
 
 pub const VOTE_AT: usize = 0;
 
@@ -35,12 +37,17 @@ pub const DECIDED_AT: usize = 2;
 
 pub const LOG_AT: usize = 3;
 
-pub const BODY_AT: usize = 4;
+pub const LOG_VIEW_AT: usize = 4;
+
+pub const VIEW_AT: usize = 6;
+
+pub const BODY_AT: usize = 8;
 
 // What an entry holds beside the body.
 pub struct State {
     pub vote: Vote,
-    pub log: Settled,
+    pub log: Log,
+    pub view: View,
     pub decided: Settled,
 }
 
@@ -77,7 +84,7 @@ pub fn row(t: &[u8], i: usize) -> &[u8]
     &t[b..b + ROW]
 }
 
-// The bytes of a row behind the codes: those of its TX, then what is left.
+// The bytes of a row behind codes and views: those of its TX, then what is left.
 pub fn tx_of(e: &[u8]) -> &[u8]
     requires { ⌜ WfRow (now e) ⌝ }
     ensures { λ r. ⌜ (now r ≡ rowTx (now (e .entry))) × TxThere (now r) ⌝ }
@@ -390,15 +397,32 @@ fn settled_of(code: u8) -> Settled
     }
 }
 
+// The log that a code and its view say, or none.
+fn log_of(code: u8, view: View) -> Log
+    ensures { λ r. ⌜ r ≡ logOf code (view .0) ⌝ }
+{
+    match code {
+        1 => Log::Is(Decision::Commit, view),
+        2 => Log::Is(Decision::Abort, view),
+        _ => Log::None,
+    }
+}
+
 // What a row holds beside the body.
 pub fn state_of(e: &[u8]) -> State
     requires { ⌜ length (now e) ≡ rowLen ⌝ }
     ensures { λ x. ⌜ x ≡ stateAt (now (e .entry)) ⌝ }
 {
     let vote = vote_of(e[VOTE_AT], e[REASON_AT]);
-    let log = settled_of(e[LOG_AT]);
+    let log = log_of(e[LOG_AT], View(records::u16_at(e, LOG_VIEW_AT)));
+    let view = View(records::u16_at(e, VIEW_AT));
     let decided = settled_of(e[DECIDED_AT]);
-    State { vote, log, decided }
+    State {
+        vote,
+        log,
+        view,
+        decided,
+    }
 }
 
 // Whether all is the same, one byte more compared.
@@ -439,18 +463,38 @@ fn put_body(s: &mut [u8], body: &[u8])
     }
 }
 
+// A view in two bytes, the lower one first.
+fn put_view(s: &mut [u8], view: View)
+    requires { ⌜ length (now s) ≡ 2 ⌝ }
+    ensures { λ r. ⌜ now (s .exit) ≡ viewBytes view ⌝ }
+{
+    s[0] = (view.0 % 256) as u8;
+    s[1] = (view.0 / 256) as u8;
+}
+
+// The codes of vote, reason, decision and log.
+fn put_codes(s: &mut [u8], x: State)
+    requires { ⌜ length (now s) ≡ logViewAt ⌝ }
+    ensures { λ r. ⌜ now (s .exit) ≡ codesOf x ⌝ }
+{
+    let vote = x.vote;
+    let log = x.log;
+    let decided = x.decided;
+    s[VOTE_AT] = vote.number();
+    s[REASON_AT] = vote.reason();
+    s[DECIDED_AT] = decided.number();
+    s[LOG_AT] = log.number();
+}
+
 // A row of this body and of what is held beside it.
 fn put_row(e: &mut [u8], body: &[u8], x: State)
     requires { ⌜ (length (now e) ≡ rowLen) × (bodyAt + length (now body) ≤ rowLen) ⌝ }
     ensures { λ r. ⌜ now (e .exit) ≡ newRow (now (e .entry)) (now (body .entry)) x ⌝ }
 {
-    let vote = x.vote;
     let log = x.log;
-    let decided = x.decided;
-    e[VOTE_AT] = vote.number();
-    e[REASON_AT] = vote.reason();
-    e[LOG_AT] = log.number();
-    e[DECIDED_AT] = decided.number();
+    put_codes(&mut e[VOTE_AT..LOG_VIEW_AT], x);
+    put_view(&mut e[LOG_VIEW_AT..VIEW_AT], log.view());
+    put_view(&mut e[VIEW_AT..BODY_AT], x.view);
     put_body(&mut e[BODY_AT..ROW], body);
 }
 

@@ -6,7 +6,7 @@ use lib.Dec.{eqb}
 use lib.ListN.{getD}
 use Rattle.terms.specs.Choice.{pick}
 use Rattle.terms.specs.declared.Refusal.{Refusal}
-use Rattle.terms.specs.declared.Refusal.the-variants.{Short, Mark, Count, Trailing, Range, Order, Misbehaviour, Code, OtherBody, Unknown, TooFew, Contradiction, Full, Group, Ahead, Table, Buffer, Passage, Versions, Direction, AxleCount, HotAxle}
+use Rattle.terms.specs.declared.Refusal.the-variants.{Short, Mark, Count, Trailing, Range, Order, Misbehaviour, Code, OtherBody, Unknown, TooFew, Contradiction, Full, Group, Ahead, Table, Buffer, Passed, NotLogged, Election, LastView, Passage, Versions, Direction, AxleCount, HotAxle}
 use Rattle.terms.specs.Refusals.{refusalValues, numberOf, refusalOf}
 
 -- the refusal with these values
@@ -16,7 +16,11 @@ refusalIn v =
     (pick (eqb (getD v 0 0) 10) Unknown
     (pick (eqb (getD v 0 0) 11) (TooFew (getD v 1 0))
     (pick (eqb (getD v 0 0) 12) Contradiction
-    (pick (eqb (getD v 0 0) 13) Full (refusalOf (getD v 0 0))))))
+    (pick (eqb (getD v 0 0) 13) Full
+    (pick (eqb (getD v 0 0) 21) Passed
+    (pick (eqb (getD v 0 0) 22) NotLogged
+    (pick (eqb (getD v 0 0) 23) Election
+    (pick (eqb (getD v 0 0) 24) LastView (refusalOf (getD v 0 0))))))))))
 
 back : (r : Refusal) → refusalIn (refusalValues r) ≡ r
 unfolding refusalIn refusalOf
@@ -37,6 +41,10 @@ back Group = refl
 back Ahead = refl
 back Table = refl
 back Buffer = refl
+back Passed = refl
+back NotLogged = refl
+back Election = refl
+back LastView = refl
 back Passage = refl
 back Versions = refl
 back Direction = refl

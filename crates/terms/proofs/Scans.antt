@@ -4,7 +4,7 @@ use native.Mathlib.Omega.{arith}
 use native.Mathlib.Nat.{sub-zero, add-zero, zero-add}
 use native.Mathlib.Numerals.{add-one}
 use mathlib.Core.Path.{_≡_, refl, ap, sym, _∙_}
-use mathlib.Core.List.{List, [], _∷_, _++_, append-assoc}
+use mathlib.Core.List.{List, [], _∷_, _++_, map, append-assoc}
 use mathlib.Core.Bool.{Bool, true, false, _||_}
 use borrow.Author.Tests.{lt-ltb, le-ltb}
 use lib.Dec.{ltb}
@@ -107,6 +107,11 @@ front f n z rest =
     (λ j a b.
     let l : j < length (tab f 0 n) = rw (tab-length f 0 n) (omega arith) in
     List·getD-append (tab f 0 n) rest z j l ∙ tab-get f 0 n j z (omega arith) ∙ ap f (zero-add j))
+
+-- all of it turned into something else
+pub tab-map : {A B : Type 0} (g : A → B) (f : ℕ → A) (i n : ℕ) → map g (tab f i n) ≡ tab (λ j. g (f j)) i n
+tab-map g f i zero = refl
+tab-map g f i (suc n) = ap (λ (l : List _). g (f i) ∷ l) (tab-map g f (i + 1) n)
 
 pub tab-shift : {A : Type 0} (f g : ℕ → A) (i n : ℕ) → ((j : ℕ) → f (j + 1) ≡ g j) → tab f (i + 1) n ≡ tab g i n
 tab-shift f g i zero h = refl

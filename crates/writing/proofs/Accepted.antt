@@ -11,11 +11,11 @@ use borrow.Author.Tests.{leb-true}
 use Rattle.terms.specs.Choice.{pick}
 use Rattle.terms.specs.Checks.{orElse, when, ifLess, ifSame, ifOther}
 use Rattle.terms.specs.Group.{groupWrong}
-use Rattle.records.specs.Contents.{countsWrong, countWrong, txWrong, codeWrong, listWrong, logListWrong, rdWrong}
-use Rattle.records.specs.Cutting.{markWrong, txCut, vlCut, behindWrong, listedCut, restCut, messageCut, markPR, markLG, markDC, markRD}
+use Rattle.records.specs.Contents.{countsWrong, countWrong, txWrong, codeWrong, listWrong, logListWrong, viewsWrong, rdWrong}
+use Rattle.records.specs.Cutting.{markWrong, txCut, vlCut, viewsCut, behindWrong, listedCut, viewedCut, restCut, messageCut, markPR, markLG, markDC, markRD, markIV, markLD}
 use Rattle.records.specs.Messages.{contentsWrong, dueRefusal, readingBy, refusedReading, readDue, isMark, markOf, readMarked, readingAfter, readMessage}
 use Rattle.records.specs.declared.Mark.{Mark}
-use Rattle.records.specs.declared.Mark.the-variants.{PR, LG, DC, RD}
+use Rattle.records.specs.declared.Mark.the-variants.{PR, LG, DC, RD, IV, LD}
 use Rattle.records.specs.declared.Marked.{Marked}
 use Rattle.records.specs.declared.Marked.the-variants.{Is, Refused}
 use Rattle.records.specs.declared.Reading.{Reading}
@@ -55,11 +55,13 @@ test false n k = low refl
 ruleset checks = (or, less, same, other, test, group, low)
 
 due-known : (k : Mark) (f : ℕ) (m : List ℕ) → Known (dueRefusal k f m)
-unfolding dueRefusal messageCut restCut listedCut markWrong txCut vlCut countsWrong countWrong behindWrong contentsWrong txWrong codeWrong listWrong logListWrong rdWrong groupWrong
+unfolding dueRefusal messageCut restCut listedCut viewedCut markWrong txCut vlCut viewsCut countsWrong countWrong behindWrong contentsWrong txWrong codeWrong listWrong logListWrong viewsWrong rdWrong groupWrong
 due-known PR f m = search checks depth 40 fits 5000
 due-known LG f m = search checks depth 40 fits 5000
 due-known DC f m = search checks depth 40 fits 5000
 due-known RD f m = search checks depth 40 fits 5000
+due-known IV f m = search checks depth 40 fits 5000
+due-known LD f m = search checks depth 40 fits 5000
 
 group-known : (f : ℕ) → Known (groupWrong f)
 unfolding groupWrong
@@ -69,7 +71,7 @@ number : (n : ℕ) → Known (suc n) → ReaderNumber (suc n)
 number n (low e) = let l = leb-true (suc n) 8 e in inl (omega arith, omega arith)
 number n (group e) = inr e
 
--- a mark that is none of the four has a number too
+-- a mark that is none of the six has a number too
 abbrev Judged : Marked → Type 0
 Judged (Is k) = Unit {0}
 Judged (Refused n) = ReaderNumber n
@@ -81,7 +83,9 @@ mark-judged m =
     (choose Judged (isMark markPR m) tt
     (choose Judged (isMark markLG m) tt
     (choose Judged (isMark markDC m) tt
-    (choose Judged (isMark markRD m) tt (inl (omega arith, omega arith))))))
+    (choose Judged (isMark markRD m) tt
+    (choose Judged (isMark markIV m) tt
+    (choose Judged (isMark markLD m) tt (inl (omega arith, omega arith))))))))
 
 -- ---- so of the whole
 module _ (f : ℕ) (m : List ℕ) where

@@ -1,9 +1,9 @@
 -- Cutting: what was written is cut where it was joined, and what passed the cutting is made of its parts.
-use Prim.Native.Nat.{ℕ, suc, _+_, _*_, _-_, _<_, _≤_}
+use Prim.Native.Nat.{ℕ, suc, _+_, _*_, _-_, _^_, _<_, _≤_}
 use native.Mathlib.Omega.{arith}
 use mathlib.Core.Bool.{Bool, true, false}
 use mathlib.Core.Path.{_≡_, refl, ap, sym, _∙_}
-use mathlib.Core.List.{List, [], _∷_, _++_, append-nil}
+use mathlib.Core.List.{List, [], _∷_, _++_, map, append-nil}
 use borrow.Author.Tests.{eqb-true}
 use lib.Dec.{eqb}
 use lib.ListN.{length, getD, take, drop, length-append, length-drop, take-append-drop}
@@ -15,15 +15,18 @@ use Rattle.terms.proofs.Scans.{tab-length}
 use Rattle.records.specs.Numbers.{leBytes, numAt}
 use Rattle.records.specs.Tx.{Tx, txOf, txBytes, txLen, readAt, writeAt, flat, readKey, readVersion, writeKey, writeValue, markTX}
 use Rattle.records.specs.Vl.{Vl, viewLen, viewOf, viewBytes, vlOf, vlBytes, vlLen, flatPairs, pairAt, markVL}
+use Rattle.records.specs.Views.{Views, markVS, markEL, viewMarkBytes, ballotsFrom, ballotLen, viewsCount, viewsLen, ballotAt, viewsOf, ledBytes, flatBallots, viewsBytes, ownNumber, ownBallot}
 use Rattle.records.specs.Contents.{countsWrong, countWrong}
-use Rattle.records.specs.Cutting.{markWrong, txCut, vlCut, behindWrong, listedCut, listedLen, txPart, vlPart, markPR, markRD}
+use Rattle.records.specs.Cutting.{markWrong, txCut, vlCut, viewsCut, behindWrong, listedCut, listedLen, viewedCut, viewedLen, txPart, listPart, markPR, markRD}
 use Rattle.records.specs.Writing.{prBytes, rdBytes}
-use Rattle.records.specs.Messages.{rdKey, rdStamp, listBehind}
+use Rattle.records.specs.Messages.{rdKey, rdStamp, listBehind, viewsBehind}
 use Rattle.records.specs.declared.Read.{Read}
+use Rattle.records.specs.declared.ViewMark.{ViewMark}
+use Rattle.records.specs.declared.ViewMark.the-variants.{VS, EL}
 use Rattle.records.specs.declared.Write.{Write}
-use Rattle.writing.specs.OneForm.{Bytes, TxRight, ViewRight}
-use Rattle.writing.proofs.Lengths.{flat-long, tx-long, view-long, list-long}
-use Rattle.writing.proofs.Fields.{num-at, num-back, bytes-take, bytes-drop, items-read, items-written, view-read, view-written, pairs-read, pairs-written}
+use Rattle.writing.specs.OneForm.{Bytes, TxRight, ViewRight, ViewsRight}
+use Rattle.writing.proofs.Lengths.{flat-long, tx-long, view-long, list-long, views-long}
+use Rattle.writing.proofs.Fields.{num-at, num-back, bytes-take, bytes-drop, items-read, items-written, view-read, view-written, pairs-read, pairs-written, ballots-read, ballots-written}
 
 -- two checks that pass; two numbers that a check finds equal
 pub both : {a b : ℕ} → a ≡ 0 → b ≡ 0 → orElse a b ≡ 0
@@ -188,14 +191,96 @@ vl-again s i e h =
     let t = vl-there s e in
     vl-whole s i (mark-told markVL s (first-none _ _ e)) (t .0) (omega arith)
 
+-- ---- a VS or an EL: what stands before its ballots, of each
+views-marked : (k : ViewMark) (l : Views) → markWrong (viewMarkBytes k) (viewsBytes k l) ≡ 0
+unfolding viewsBytes
+views-marked VS l = mark-read markVS _
+views-marked EL l = mark-read markEL _
+
+views-marks : (k : ViewMark) (s : List ℕ) → markWrong (viewMarkBytes k) s ≡ 0 → viewMarkBytes k ++ drop 2 s ≡ s
+views-marks VS s e = mark-told markVS s e
+views-marks EL s e = mark-told markEL s e
+
+views-count : (k : ViewMark) (l : Views) → viewsCount k (viewsBytes k l) ≡ length (l .ballots)
+unfolding viewsBytes ledBytes
+views-count VS l = refl
+views-count EL l = refl
+
+views-behind : (k : ViewMark) (l : Views) → drop (ballotsFrom k) (viewsBytes k l) ≡ flatBallots k (l .ballots)
+unfolding viewsBytes ledBytes
+views-behind VS l = refl
+views-behind EL l = refl
+
+views-led : (k : ViewMark) (l : Views) → l .view < 256 ^ 2
+    → viewsOf k (viewsBytes k l) ≡ record { leader = ownNumber k (l .leader); decision = ownNumber k (l .decision); view = ownNumber k (l .view); ballots = tab (ballotAt k (viewsBytes k l)) 0 (viewsCount k (viewsBytes k l)) }
+unfolding viewsOf viewsBytes ledBytes
+views-led VS l h = refl
+views-led EL l h =
+    let v : numAt 2 4 (viewsBytes EL l) ≡ l .view = num-at 2 4 (l .view) (69 ∷ 76 ∷ l .leader ∷ l .decision ∷ []) (length (l .ballots) ∷ flatBallots EL (l .ballots)) refl h in
+    rw v
+
+views-ballots : (k : ViewMark) (s : List ℕ) → viewsOf k s .ballots ≡ tab (ballotAt k s) 0 (viewsCount k s)
+unfolding viewsOf
+views-ballots VS s = refl
+views-ballots EL s = refl
+
+views-head : (k : ViewMark) (s : List ℕ) → Bytes s → viewMarkBytes k ++ drop 2 s ≡ s → ballotsFrom k ≤ length s
+    → viewMarkBytes k ++ (ledBytes k (viewsOf k s .leader) (viewsOf k s .decision) (viewsOf k s .view) ++ (viewsCount k s ∷ drop (ballotsFrom k) s)) ≡ s
+unfolding viewsOf ledBytes
+views-head VS [] h p l = absurd (omega arith)
+views-head VS (a ∷ []) h p l = absurd (omega arith)
+views-head VS (a ∷ b ∷ []) h p l = absurd (omega arith)
+views-head VS (a ∷ b ∷ n ∷ q) h p l = p
+views-head EL [] h p l = absurd (omega arith)
+views-head EL (a ∷ []) h p l = absurd (omega arith)
+views-head EL (a ∷ b ∷ []) h p l = absurd (omega arith)
+views-head EL (a ∷ b ∷ c ∷ []) h p l = absurd (omega arith)
+views-head EL (a ∷ b ∷ c ∷ d ∷ []) h p l = absurd (omega arith)
+views-head EL (a ∷ b ∷ c ∷ d ∷ v ∷ []) h p l = absurd (omega arith)
+views-head EL (a ∷ b ∷ c ∷ d ∷ v ∷ w ∷ []) h p l = absurd (omega arith)
+views-head EL (a ∷ b ∷ c ∷ d ∷ v ∷ w ∷ n ∷ q) h p l =
+    let s : List ℕ = a ∷ b ∷ c ∷ d ∷ v ∷ w ∷ n ∷ q in
+    ap (λ (t : List ℕ). 69 ∷ 76 ∷ c ∷ d ∷ (t ++ (n ∷ q))) (num-back 2 4 s h (omega arith)) ∙ p
+
+-- and of both
+pub views-cut-read : (k : ViewMark) (l : Views) → countWrong (length (l .ballots)) ≡ 0 → viewsCut k (viewsBytes k l) ≡ 0
+unfolding viewsCut
+views-cut-read k l h =
+    let n : length (viewsBytes k l) ≡ ballotsFrom k + ballotLen k * length (l .ballots) = views-long k l in
+    both (views-marked k l) (both (less-no _ _ _ (omega arith)) (rw (views-count k l) (both h (less-no _ _ _ (omega arith)))))
+
+pub views-len-read : (k : ViewMark) (l : Views) → viewsLen k (viewsBytes k l) ≡ length (viewsBytes k l)
+views-len-read k l = rw (views-count k l) (sym (views-long k l))
+
+pub views-back : (k : ViewMark) (f : ℕ) (l : Views) → ViewsRight k f l → viewsOf k (viewsBytes k l) ≡ l
+views-back k f l r =
+    let b : tab (ballotAt k (viewsBytes k l)) 0 (length (l .ballots)) ≡ map (ownBallot k) (l .ballots) = ballots-read k (viewsBytes k l) (l .ballots) (r .ballots) (views-behind k l) in
+    views-led k l (r .view) ∙ (rw (views-count k l, b) (r .own))
+
+views-there : (k : ViewMark) (s : List ℕ) → viewsCut k s ≡ 0 → (ballotsFrom k ≤ length s) × (viewsLen k s ≤ length s)
+unfolding viewsCut
+views-there k s e = (not-less _ _ _ (first-none _ _ (rest-none _ _ e)), not-less _ _ _ (rest-none _ _ (rest-none _ _ (rest-none _ _ e))))
+
+views-whole : (k : ViewMark) (s : List ℕ) → Bytes s → viewMarkBytes k ++ drop 2 s ≡ s → ballotsFrom k ≤ length s → length s ≡ viewsLen k s → viewsBytes k (viewsOf k s) ≡ s
+unfolding viewsBytes
+views-whole k s h p l e =
+    let b : flatBallots k (tab (ballotAt k s) 0 (viewsCount k s)) ≡ drop (ballotsFrom k) s = ballots-written k s (viewsCount k s) h (sym e) in
+    rw (views-ballots k s, tab-length (ballotAt k s) 0 (viewsCount k s), b) (views-head k s h p l)
+
+pub views-again : (k : ViewMark) (s : List ℕ) → Bytes s → viewsCut k s ≡ 0 → length s ≤ viewsLen k s → viewsBytes k (viewsOf k s) ≡ s
+unfolding viewsCut
+views-again k s i e h =
+    let t = views-there k s e in
+    views-whole k s i (views-marks k s (first-none _ _ e)) (t .0) (omega arith)
+
 -- ---- a message: two bytes, a TX and what stands behind it
 module _ (a b : ℕ) (x : Tx) (post : List ℕ) where
   pub tx-part-read : txPart (a ∷ b ∷ (txBytes x ++ post)) ≡ txBytes x
   unfolding txPart
   tx-part-read = take-at (txBytes x) post _ (sym (tx-len-read x post))
 
-  pub vl-part-read : vlPart (a ∷ b ∷ (txBytes x ++ post)) ≡ post
-  unfolding vlPart
+  pub vl-part-read : listPart (a ∷ b ∷ (txBytes x ++ post)) ≡ post
+  unfolding listPart
   vl-part-read = drop-at (txBytes x) post _ (sym (tx-len-read x post))
 
 -- the TX of a message that was cut, written again
@@ -208,16 +293,16 @@ whole-part : (m : List ℕ) → length (drop 2 m) ≤ txLen (drop 2 m) → txPar
 unfolding txPart
 whole-part m h = take-all _ (drop 2 m) h
 
-parts-join : (m : List ℕ) → txPart m ++ vlPart m ≡ drop 2 m
-unfolding txPart vlPart
+parts-join : (m : List ℕ) → txPart m ++ listPart m ≡ drop 2 m
+unfolding txPart listPart
 parts-join m = take-append-drop (txLen (drop 2 m)) (drop 2 m)
 
-vl-part-bytes : (m : List ℕ) → Bytes m → Bytes (vlPart m)
-unfolding vlPart
+vl-part-bytes : (m : List ℕ) → Bytes m → Bytes (listPart m)
+unfolding listPart
 vl-part-bytes m h = bytes-drop (txLen (drop 2 m)) (drop 2 m) (bytes-drop 2 m h)
 
-vl-part-long : (m : List ℕ) → length (vlPart m) ≡ length (drop 2 m) - txLen (drop 2 m)
-unfolding vlPart
+vl-part-long : (m : List ℕ) → length (listPart m) ≡ length (drop 2 m) - txLen (drop 2 m)
+unfolding listPart
 vl-part-long m = length-drop (txLen (drop 2 m)) (drop 2 m)
 
 pub pr-again : (m : List ℕ) → Bytes m → markWrong markPR m ≡ 0 → txCut (drop 2 m) ≡ 0 → length m ≤ 2 + txLen (drop 2 m) → prBytes (txOf (txPart m)) ≡ m
@@ -226,13 +311,24 @@ pr-again m h w e k =
     let l : length (drop 2 m) ≤ txLen (drop 2 m) = rw (length-drop 2 m) (omega arith) in
     ap (λ (t : List ℕ). 80 ∷ 82 ∷ t) (part-again m h e ∙ whole-part m l) ∙ mark-told markPR m w
 
+-- a TX and what was written again behind it
+parts-again : (due m rest : List ℕ) → Bytes m → markWrong due m ≡ 0 → txCut (drop 2 m) ≡ 0 → rest ≡ listPart m → getD due 0 0 ∷ getD due 1 0 ∷ (txBytes (txOf (txPart m)) ++ rest) ≡ m
+parts-again due m rest h w e r =
+    let p : txBytes (txOf (txPart m)) ++ rest ≡ drop 2 m = rw (part-again m h e, r) (parts-join m) in
+    ap (λ (t : List ℕ). getD due 0 0 ∷ getD due 1 0 ∷ t) p ∙ mark-told due m w
+
+part-short : (m : List ℕ) (n : ℕ) → length m ≤ 2 + txLen (drop 2 m) + n → length (listPart m) ≤ n
+part-short m n k = rw (vl-part-long m, length-drop 2 m) (omega arith)
+
 pub listed-again : (due m : List ℕ) → Bytes m → markWrong due m ≡ 0 → listedCut m ≡ 0 → length m ≤ listedLen m
     → getD due 0 0 ∷ getD due 1 0 ∷ (txBytes (txOf (txPart m)) ++ vlBytes (listBehind m)) ≡ m
 unfolding listedCut listedLen listBehind
-listed-again due m h w e k =
-    let l : length (vlPart m) ≤ vlLen (vlPart m) = rw (vl-part-long m, length-drop 2 m) (omega arith) in
-    let p : txBytes (txOf (txPart m)) ++ vlBytes (vlOf (vlPart m)) ≡ drop 2 m = rw (part-again m h (first-none _ _ e), vl-again (vlPart m) (vl-part-bytes m h) (rest-none _ _ e) l) (parts-join m) in
-    ap (λ (t : List ℕ). getD due 0 0 ∷ getD due 1 0 ∷ t) p ∙ mark-told due m w
+listed-again due m h w e k = parts-again due m _ h w (first-none _ _ e) (vl-again (listPart m) (vl-part-bytes m h) (rest-none _ _ e) (part-short m _ k))
+
+pub viewed-again : (j : ViewMark) (due m : List ℕ) → Bytes m → markWrong due m ≡ 0 → viewedCut j m ≡ 0 → length m ≤ viewedLen j m
+    → getD due 0 0 ∷ getD due 1 0 ∷ (txBytes (txOf (txPart m)) ++ viewsBytes j (viewsBehind j m)) ≡ m
+unfolding viewedCut viewedLen viewsBehind
+viewed-again j due m h w e k = parts-again due m _ h w (first-none _ _ e) (views-again j (listPart m) (vl-part-bytes m h) (rest-none _ _ e) (part-short m _ k))
 
 pub rd-again : (m : List ℕ) → Bytes m → markWrong markRD m ≡ 0 → length m ≡ 12 → rdBytes (rdKey m) (rdStamp m) ≡ m
 unfolding rdBytes

@@ -1,21 +1,25 @@
--- Numbers, items, views and pairs: what was written is read, and what was read is written.
-use Prim.Native.Nat.{ℕ, zero, suc, _+_, _*_, _/_, _%_, _^_, _<_, _≤_}
+-- Numbers, items, views, pairs and ballots: what was written is read, and what was read is written.
+use Prim.Native.Nat.{ℕ, zero, suc, _+_, _*_, _-_, _/_, _%_, _^_, _<_, _≤_}
 use native.Mathlib.Omega.{arith}
 use native.Mathlib.Nat.{pow-succ'}
 use mathlib.Core.Bool.{Bool}
 use mathlib.Core.Path.{_≡_, refl, ap, sym, _∙_}
-use mathlib.Core.List.{List, [], _∷_, _++_, append-assoc}
+use mathlib.Core.List.{List, [], _∷_, _++_, map, append-assoc}
 use lib.Dec.{eqb}
-use lib.ListN.{length, getD, take, drop, length-append, length-take, length-drop}
+use lib.ListN.{length, getD, take, drop, length-append, length-take, length-drop, take-append-drop}
 use lib.Seq.{take-at, drop-at, getD-drop, take-add, drop-drop}
 use Rattle.terms.specs.Choice.{pick, tab}
 use Rattle.terms.proofs.Scans.{tab-shift, tab-same}
 use Rattle.records.specs.Numbers.{leVal, leBytes, numAt}
 use Rattle.records.specs.Tx.{flat}
 use Rattle.records.specs.Vl.{viewLen, viewOf, viewBytes, flatPairs, pairAt}
+use Rattle.records.specs.Views.{ballotsFrom, ballotLen, ballotFrom, ballotAt, ballotBytes, flatBallots, ledBytes, ownBallot, ownNumber}
+use Rattle.records.specs.declared.Ballot.{Ballot}
 use Rattle.records.specs.declared.Pair.{Pair}
-use Rattle.writing.specs.OneForm.{Bytes, Each, more, Fits}
-use Rattle.writing.proofs.Lengths.{either-way}
+use Rattle.records.specs.declared.ViewMark.{ViewMark}
+use Rattle.records.specs.declared.ViewMark.the-variants.{VS, EL}
+use Rattle.writing.specs.OneForm.{Bytes, Each, none, more, Fits, ViewFits}
+use Rattle.writing.proofs.Lengths.{either-way, ballot-long}
 
 -- ---- numbers
 pub bytes-long : (n x : ℕ) → length (leBytes n x) ≡ n
@@ -160,3 +164,93 @@ module _ (s : List ℕ) (p : ℕ) where
   pairs-written n h =
       let l : 2 * n ≡ length (drop p s) = rw (length-drop p s) (omega arith) in
       ap flatPairs (as-pairs n) ∙ pairs-out n (drop p s) l
+
+-- ---- ballots: one that begins behind p bytes; one at the front, as it was written, and as it was read
+num-later : (n p m : ℕ) (s : List ℕ) → numAt n (p + m) s ≡ numAt n m (drop p s)
+unfolding numAt
+num-later n p m s = rw (drop-drop m p s)
+
+ballot-later : (k : ViewMark) (s : List ℕ) (p m : ℕ) → ballotFrom k s (p + m) ≡ ballotFrom k (drop p s) m
+unfolding ballotFrom
+ballot-later VS s p m =
+    let e : p + m + 1 ≡ p + (m + 1) = omega arith in
+    rw (e, num-later 2 p (m + 1) s, getD-drop p s m 0)
+ballot-later EL s p m =
+    let d : p + m + 1 ≡ p + (m + 1) = omega arith in
+    let e : p + m + 2 ≡ p + (m + 2) = omega arith in
+    rw (d, e, num-later 2 p (m + 2) s, getD-drop p s m 0, getD-drop p s (m + 1) 0)
+
+ballot-read : (k : ViewMark) (b : Ballot) (post : List ℕ) → ViewFits b → ballotFrom k (ballotBytes k b ++ post) 0 ≡ ownBallot k b
+unfolding ballotFrom ballotBytes
+ballot-read VS b post h = rw (num-at 2 1 (b .view .0) (b .number ∷ []) post refl h)
+ballot-read EL b post h = rw (num-at 2 2 (b .view .0) (b .number ∷ b .answer ∷ []) post refl h)
+
+ballot-back : (k : ViewMark) (q : List ℕ) → Bytes q → ballotLen k ≤ length q → ballotBytes k (ballotFrom k q 0) ≡ take (ballotLen k) q
+unfolding ballotFrom ballotBytes
+ballot-back VS [] h l = absurd (omega arith)
+ballot-back VS (a ∷ q) h l = ap (λ (t : List ℕ). a ∷ t) (num-back 2 1 (a ∷ q) h l)
+ballot-back EL [] h l = absurd (omega arith)
+ballot-back EL (a ∷ []) h l = absurd (omega arith)
+ballot-back EL (a ∷ b ∷ q) h l = ap (λ (t : List ℕ). a ∷ b ∷ t) (num-back 2 2 (a ∷ b ∷ q) h l)
+
+module _ (k : ViewMark) where
+  -- the j-th of those that begin a list
+  abbrev ballotIn : List ℕ → ℕ → Ballot
+  ballotIn q j = ballotFrom k q (ballotLen k * j)
+
+  ballot-first : (q : List ℕ) → ballotIn q 0 ≡ ballotFrom k q 0
+  ballot-first q = let z : ballotLen k * 0 ≡ 0 = omega arith in rw z
+
+  ballot-next : (q : List ℕ) (j : ℕ) → ballotIn q (j + 1) ≡ ballotIn (drop (ballotLen k) q) j
+  ballot-next q j =
+      let e : ballotLen k * (j + 1) ≡ ballotLen k + ballotLen k * j = omega arith in
+      ap (ballotFrom k q) e ∙ ballot-later k q (ballotLen k) (ballotLen k * j)
+
+  ballots-in : (bs : List Ballot) → Each ViewFits bs → tab (ballotIn (flatBallots k bs)) 0 (length bs) ≡ map (ownBallot k) bs
+  ballots-in [] none = refl
+  ballots-in (b ∷ bs) (more f m) =
+      let q : List ℕ = flatBallots k (b ∷ bs) in
+      let d : drop (ballotLen k) q ≡ flatBallots k bs = drop-at (ballotBytes k b) (flatBallots k bs) (ballotLen k) (ballot-long k b) in
+      let e : ballotIn q 0 ≡ ownBallot k b = ballot-first q ∙ ballot-read k b (flatBallots k bs) f in
+      let t : tab (ballotIn q) 1 (length bs) ≡ map (ownBallot k) bs =
+      tab-shift (ballotIn q) (ballotIn (drop (ballotLen k) q)) 0 (length bs) (ballot-next q) ∙ ap (λ (p : List ℕ). tab (ballotIn p) 0 (length bs)) d ∙ ballots-in bs m in
+      cc
+
+  ballots-out : (n : ℕ) (q : List ℕ) → Bytes q → ballotLen k * n ≡ length q → flatBallots k (tab (ballotIn q) 0 n) ≡ q
+  ballots-out zero [] h l = refl
+  ballots-out zero (a ∷ q) h l = absurd (omega arith)
+  ballots-out (suc n) q h l =
+      let r : List ℕ = drop (ballotLen k) q in
+      let c : length r ≡ length q - ballotLen k = length-drop (ballotLen k) q in
+      let e : ballotBytes k (ballotIn q 0) ≡ take (ballotLen k) q = ap (ballotBytes k) (ballot-first q) ∙ ballot-back k q h (omega arith) in
+      let t : flatBallots k (tab (ballotIn q) 1 n) ≡ r = ap (flatBallots k) (tab-shift (ballotIn q) (ballotIn r) 0 n (ballot-next q)) ∙ ballots-out n r (bytes-drop (ballotLen k) q h) (omega arith) in
+      let j : take (ballotLen k) q ++ r ≡ q = take-append-drop (ballotLen k) q in
+      cc
+
+  module _ (s : List ℕ) where
+    as-ballots : (n : ℕ) → tab (ballotAt k s) 0 n ≡ tab (ballotIn (drop (ballotsFrom k) s)) 0 n
+    unfolding ballotAt
+    as-ballots n = tab-same (ballotIn (drop (ballotsFrom k) s)) (ballotAt k s) 0 n (λ j a b. ballot-later k s (ballotsFrom k) (ballotLen k * j))
+
+    pub ballots-read : (bs : List Ballot) → Each ViewFits bs → drop (ballotsFrom k) s ≡ flatBallots k bs → tab (ballotAt k s) 0 (length bs) ≡ map (ownBallot k) bs
+    ballots-read bs f e = as-ballots (length bs) ∙ ap (λ (q : List ℕ). tab (ballotIn q) 0 (length bs)) e ∙ ballots-in bs f
+
+    pub ballots-written : (n : ℕ) → Bytes s → ballotsFrom k + ballotLen k * n ≡ length s → flatBallots k (tab (ballotAt k s) 0 n) ≡ drop (ballotsFrom k) s
+    ballots-written n h l =
+        let c : length (drop (ballotsFrom k) s) ≡ length s - ballotsFrom k = length-drop (ballotsFrom k) s in
+        ap (flatBallots k) (as-ballots n) ∙ ballots-out n (drop (ballotsFrom k) s) (bytes-drop (ballotsFrom k) s h) (omega arith)
+
+-- what a VS has no place for is no part of the value
+pub led-same : (k : ViewMark) (a d v : ℕ) → ledBytes k (ownNumber k a) (ownNumber k d) (ownNumber k v) ≡ ledBytes k a d v
+unfolding ledBytes
+led-same VS a d v = refl
+led-same EL a d v = refl
+
+ballot-same : (k : ViewMark) (b : Ballot) → ballotBytes k (ownBallot k b) ≡ ballotBytes k b
+unfolding ballotBytes
+ballot-same VS b = refl
+ballot-same EL b = refl
+
+pub ballots-same : (k : ViewMark) (f : ℕ → Ballot) (i n : ℕ) → flatBallots k (tab (λ j. ownBallot k (f j)) i n) ≡ flatBallots k (tab f i n)
+ballots-same k f i zero = refl
+ballots-same k f i (suc n) = rw (ballot-same k (f i), ballots-same k f (i + 1) n)

@@ -10,13 +10,20 @@ use borrow.Rule.Slice.PartMut.{putMid}
 use Rattle.terms.specs.Choice.{tab}
 use Rattle.terms.proofs.Scans.{tab-length}
 use Rattle.records.specs.Numbers.{leBytes}
-use Rattle.records.specs.Tx.{flat, markTX, txIn, txBytes, readKey, readVersion, writeKey, writeValue, readsIn, writesIn}
+use Rattle.records.specs.Tx.{Tx, flat, markTX, txIn, txBytes, readKey, readVersion, writeKey, writeValue, readsIn, writesIn}
 use Rattle.records.specs.Vl.{flatPairs, markVL, viewBytes, listIn, vlBytes, pairsIn}
+use Rattle.records.specs.Cutting.{markBytes, carrier}
+use Rattle.records.specs.Writing.{viewedBytes}
+use Rattle.records.specs.Views.{Views, ballotBytes, flatBallots, ballotsIn, ownBallot, viewMarkBytes, ledBytes, viewsIn, viewsBytes}
+use Rattle.records.specs.declared.Mark.{Mark}
 use Rattle.records.specs.declared.Transaction.{Transaction}
 use Rattle.records.specs.declared.VoteList.{VoteList}
+use Rattle.records.specs.declared.ViewList.{ViewList}
+use Rattle.records.specs.declared.ViewMark.{ViewMark}
+use Rattle.records.specs.declared.Ballot.{Ballot}
 use Rattle.records.specs.declared.Pair.{Pair}
-use Rattle.writing.specs.Parts.{laid, Puts, headBytes, listHead}
-use Rattle.writing.proofs.Fields.{view-same}
+use Rattle.writing.specs.Parts.{laid, Puts, headBytes, listHead, viewsHead}
+use Rattle.writing.proofs.Fields.{view-same, led-same, ballots-same}
 
 -- a part behind the one at the front
 behind : (p q r : List ℕ) → laid (length p) q (p ++ r) ≡ p ++ (q ++ drop (length q) r)
@@ -139,7 +146,14 @@ each-two (p ∷ ps) = rw (each-two ps)
 pub pairs-all : {f : ℕ → Pair} {w n at b j : ℕ} {d e : List ℕ} → Filling two f w n at d e b j → n ≤ j → Puts d at (flatPairs (tab f 0 n)) e b
 pairs-all {f} {n = n} x h = puts-as (each-two (tab f 0 n)) (fill-all x h)
 
--- ---- a TX and a VL
+each-ballot : (k : ViewMark) (bs : List Ballot) → each (ballotBytes k) bs ≡ flatBallots k bs
+each-ballot k [] = refl
+each-ballot k (b ∷ bs) = rw (each-ballot k bs)
+
+pub ballots-all : (k : ViewMark) {f : ℕ → Ballot} {w n at b j : ℕ} {d e : List ℕ} → Filling (ballotBytes k) f w n at d e b j → n ≤ j → Puts d at (flatBallots k (tab f 0 n)) e b
+ballots-all k {f} {n = n} x h = puts-as (each-ballot k (tab f 0 n)) (fill-all x h)
+
+-- ---- a TX, a VL, a VS and an EL
 pub head-puts : (s : ℕ) {r w at a b n : ℕ} {d e₁ e₂ e : List ℕ} → Puts d at markTX e₁ a → Puts e₁ a (r ∷ w ∷ []) e₂ b → Puts e₂ b (leBytes 8 s) e n → Puts d at (headBytes r w s) e n
 head-puts s m c n = puts-both m (puts-both c n)
 
@@ -156,3 +170,16 @@ pub list-puts : (l : VoteList) {d e₁ e₂ e : List ℕ} {at a b n : ℕ} → P
     → Puts e₂ b (flatPairs (tab (pairsIn (l .pairs)) 0 (l .count))) e n → Puts d at (vlBytes (listIn l)) e n
 unfolding vlBytes listIn
 list-puts l h v p = rw (tab-length (pairsIn (l .pairs)) 0 (l .count), view-same (l .kind) (l .view .0)) (puts-both h (puts-both v p))
+
+pub views-puts : (k : ViewMark) (l : ViewList) {d e₁ e₂ e : List ℕ} {at a b n : ℕ} → Puts d at (viewsHead k l) e₁ a → Puts e₁ a (l .count ∷ []) e₂ b
+    → Puts e₂ b (flatBallots k (tab (ballotsIn (l .ballots)) 0 (l .count))) e n → Puts d at (viewsBytes k (viewsIn k l)) e n
+unfolding viewsBytes viewsIn
+views-puts k l h c p =
+    rw (tab-length (λ j. ownBallot k (ballotsIn (l .ballots) j)) 0 (l .count), led-same k (l .leader) (l .decision) (l .view .0), ballots-same k (ballotsIn (l .ballots)) 0 (l .count))
+    (puts-then h (puts-both c p) (append-assoc (viewMarkBytes k) (ledBytes k (l .leader) (l .decision) (l .view .0)) _))
+
+-- an IV or an LD
+pub viewed-puts : (k : ViewMark) (x : Tx) (l : Views) {c : Mark} {d e₁ e₂ e : List ℕ} {at a b n : ℕ} → c ≡ carrier k → Puts d at (markBytes c) e₁ a
+    → Puts e₁ a (txBytes x) e₂ b → Puts e₂ b (viewsBytes k l) e n → Puts d at (viewedBytes k x l) e n
+unfolding viewedBytes
+viewed-puts k x l h m t v = rw (← h) (puts-both m (puts-both t v))

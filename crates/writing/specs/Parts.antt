@@ -7,9 +7,12 @@ use Rattle.terms.specs.Checks.{orElse, ifLess, buffer}
 use Rattle.records.specs.Numbers.{leBytes}
 use Rattle.records.specs.Tx.{markTX, txIn}
 use Rattle.records.specs.Vl.{markVL, viewLen}
+use Rattle.records.specs.Views.{viewMarkBytes, ballotsFrom, ballotLen, ledBytes}
 use Rattle.records.specs.Contents.{countsWrong, txWrong}
 use Rattle.records.specs.declared.Transaction.{Transaction}
 use Rattle.records.specs.declared.VoteList.{VoteList}
+use Rattle.records.specs.declared.ViewList.{ViewList}
+use Rattle.records.specs.declared.ViewMark.{ViewMark}
 
 -- p from a place of d on, all else as it was
 unfoldable pub laid : ℕ → List ℕ → List ℕ → List ℕ
@@ -30,6 +33,10 @@ headBytes r w s = markTX ++ (r ∷ w ∷ leBytes 8 s)
 abbrev pub listHead : VoteList → List ℕ
 listHead l = markVL ++ (l .kind ∷ l .decision ∷ l .count ∷ [])
 
+-- a VS or an EL before its count
+abbrev pub viewsHead : ViewMark → ViewList → List ℕ
+viewsHead k l = viewMarkBytes k ++ ledBytes k (l .leader) (l .decision) (l .view .0)
+
 -- "Length 12 + 10(r + w)", "Length 5 + 2 × count", and a list's view
 abbrev pub txSize : Transaction → ℕ
 txSize x = 12 + 10 * (x .r + x .w)
@@ -37,21 +44,25 @@ txSize x = 12 + 10 * (x .r + x .w)
 abbrev pub listSize : VoteList → ℕ
 listSize l = 5 + viewLen (l .kind) + 2 * l .count
 
--- what passed all checks: there is room from `at` on; a message stands at the front
+-- that of a VS or an EL
+abbrev pub viewsSize : ViewMark → ViewList → ℕ
+viewsSize k l = ballotsFrom k + ballotLen k * l .count
+
+-- what passed all checks: there is room from `at` on; a message stands at the front. A list, a VS and an EL are told by count and size
 pub record TxFits (x : Transaction) (at : ℕ) (d : List ℕ) : Type 0 where
   pub reads : x .r ≤ 8
   pub writes : x .w ≤ 8
   pub room : at + txSize x ≤ length d
 
-pub record ListFits (l : VoteList) (at : ℕ) (d : List ℕ) : Type 0 where
-  pub count : l .count ≤ 26
-  pub room : at + listSize l ≤ length d
+pub record ListFits (count size at : ℕ) (d : List ℕ) : Type 0 where
+  pub few : count ≤ 26
+  pub room : at + size ≤ length d
 
-pub record ListedFits (x : Transaction) (l : VoteList) (d : List ℕ) : Type 0 where
+pub record ListedFits (x : Transaction) (count size : ℕ) (d : List ℕ) : Type 0 where
   pub reads : x .r ≤ 8
   pub writes : x .w ≤ 8
-  pub count : l .count ≤ 26
-  pub room : 2 + txSize x + listSize l ≤ length d
+  pub few : count ≤ 26
+  pub room : 2 + txSize x + size ≤ length d
 
 -- the refusal of a TX that has `at` bytes before it
 unfoldable pub txAfter : ℕ → Transaction → List ℕ → ℕ

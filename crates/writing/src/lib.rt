@@ -8,13 +8,17 @@ ghost use Rattle.terms.specs.Checks.{orElse, ifLess, buffer};
 ghost use Rattle.records.specs.Numbers.{leBytes};
 ghost use Rattle.records.specs.Tx.{txIn, txBytes, flat, readKey, readVersion, writeKey, writeValue, readsIn, writesIn};
 ghost use Rattle.records.specs.Vl.{listIn, vlBytes, viewLen, viewBytes, flatPairs, pairsIn};
+ghost use Rattle.records.specs.Views.{viewsIn, viewsBytes, ballotLen, ballotBytes, flatBallots, ballotsIn, countAt};
 ghost use Rattle.records.specs.Cutting.{markBytes};
-ghost use Rattle.records.specs.Writing.{prBytes, listedBytes, rdBytes, listedWrong, txUnwritten, vlUnwritten, prUnwritten, listedUnwritten, rdUnwritten, wroteBy, bufferBy};
-ghost use Rattle.writing.specs.Parts.{Puts, headBytes, listHead, txSize, listSize, TxFits, ListFits, ListedFits, txAfter};
+ghost use Rattle.records.specs.Writing.{prBytes, listedBytes, viewedBytes, rdBytes, listedWrong, txUnwritten, vlUnwritten, viewsUnwritten, prUnwritten, listedUnwritten, viewedUnwritten, rdUnwritten, wroteBy, bufferBy};
+ghost use Rattle.writing.specs.Parts.{Puts, headBytes, listHead, viewsHead, txSize, listSize, viewsSize, TxFits, ListFits, ListedFits, txAfter};
+use records::Ballot;
 use records::Mark;
 use records::Pair;
 use records::Read;
 use records::Transaction;
+use records::ViewList;
+use records::ViewMark;
 use records::VoteList;
 use records::Write;
 use records::Written;
@@ -59,6 +63,8 @@ fn put_mark(s: &mut [u8], mark: Mark) -> usize
         Mark::LG => put_string(s, 0, b"LG"),
         Mark::DC => put_string(s, 0, b"DC"),
         Mark::RD => put_string(s, 0, b"RD"),
+        Mark::IV => put_string(s, 0, b"IV"),
+        Mark::LD => put_string(s, 0, b"LD"),
     }
 }
 
@@ -176,13 +182,69 @@ fn put_list_head(s: &mut [u8], at: usize, l: VoteList) -> usize
 }
 
 fn put_list(s: &mut [u8], at: usize, l: VoteList) -> usize
-    requires { ⌜ ListFits l at (now s) ⌝ }
+    requires { ⌜ ListFits (l .count) (listSize l) at (now s) ⌝ }
     ensures { λ r. ⌜ Puts (now (s .entry)) at (vlBytes (listIn l)) (now (s .exit)) r ⌝ }
 {
     let pairs = l.pairs;
     let at = put_list_head(s, at, l);
     let at = put_view(s, at, l.kind, l.view);
     put_pairs(s, at, pairs, l.count)
+}
+
+// What one box told.
+fn put_ballot(k: ViewMark, s: &mut [u8], at: usize, b: Ballot) -> usize
+    requires { ⌜ at + ballotLen k ≤ length (now s) ⌝ }
+    ensures { λ r. ⌜ Puts (now (s .entry)) at (ballotBytes k b) (now (s .exit)) r ⌝ }
+{
+    match k {
+        ViewMark::VS => {
+            let at = put_byte(s, at, b.number);
+            put_short(s, at, b.view.0)
+        }
+        ViewMark::EL => {
+            let at = put_two(s, at, b.number, b.answer);
+            put_short(s, at, b.view.0)
+        }
+    }
+}
+
+fn put_ballots(k: ViewMark, s: &mut [u8], at: usize, a: [Ballot; 26], n: usize) -> usize
+    requires { ⌜ (n ≤ 26) × (at + ballotLen k * n ≤ length (now s)) ⌝ }
+    ensures { λ r. ⌜ Puts (now (s .entry)) at (flatBallots k (tab (ballotsIn a) 0 n)) (now (s .exit)) r ⌝ }
+{
+    let mut next = at;
+    let mut j = 0;
+    while j < n {
+        let b = a[j];
+        next = put_ballot(k, s, next, b);
+        j += 1;
+    }
+    next
+}
+
+// A VS or an EL before its count.
+fn put_led(k: ViewMark, s: &mut [u8], at: usize, l: ViewList) -> usize
+    requires { ⌜ at + countAt k ≤ length (now s) ⌝ }
+    ensures { λ r. ⌜ Puts (now (s .entry)) at (viewsHead k l) (now (s .exit)) r × (r ≡ at + countAt k) ⌝ }
+{
+    match k {
+        ViewMark::VS => put_string(s, at, b"VS"),
+        ViewMark::EL => {
+            let at = put_string(s, at, b"EL");
+            let at = put_two(s, at, l.leader, l.decision);
+            put_short(s, at, l.view.0)
+        }
+    }
+}
+
+fn put_views(k: ViewMark, s: &mut [u8], at: usize, l: ViewList) -> usize
+    requires { ⌜ ListFits (l .count) (viewsSize k l) at (now s) ⌝ }
+    ensures { λ r. ⌜ Puts (now (s .entry)) at (viewsBytes k (viewsIn k l)) (now (s .exit)) r ⌝ }
+{
+    let ballots = l.ballots;
+    let at = put_led(k, s, at, l);
+    let at = put_byte(s, at, l.count as u8);
+    put_ballots(k, s, at, ballots, l.count)
 }
 
 fn put_pr(s: &mut [u8], x: Transaction) -> usize
@@ -195,12 +257,22 @@ fn put_pr(s: &mut [u8], x: Transaction) -> usize
 
 // An LG or a DC.
 fn put_listed(s: &mut [u8], mark: Mark, x: Transaction, l: VoteList) -> usize
-    requires { ⌜ ListedFits x l (now s) ⌝ }
+    requires { ⌜ ListedFits x (l .count) (listSize l) (now s) ⌝ }
     ensures { λ r. ⌜ Puts (now (s .entry)) 0 (listedBytes mark (txIn x) (listIn l)) (now (s .exit)) r ⌝ }
 {
     let at = put_mark(s, mark);
     let at = put_tx(s, at, x);
     put_list(s, at, l)
+}
+
+// An IV or an LD.
+fn put_viewed(k: ViewMark, s: &mut [u8], x: Transaction, l: ViewList) -> usize
+    requires { ⌜ ListedFits x (l .count) (viewsSize k l) (now s) ⌝ }
+    ensures { λ r. ⌜ Puts (now (s .entry)) 0 (viewedBytes k (txIn x) (viewsIn k l)) (now (s .exit)) r ⌝ }
+{
+    let at = put_mark(s, k.carrier());
+    let at = put_tx(s, at, x);
+    put_views(k, s, at, l)
 }
 
 fn put_rd(s: &mut [u8], key: Key, stamp: Stamp) -> usize
@@ -225,6 +297,14 @@ fn list_size(l: VoteList) -> usize
     ensures { λ n. ⌜ (n ≡ listSize l) × (n ≤ 59) ⌝ }
 {
     5 + records::view_len(l.kind) + 2 * l.count
+}
+
+// The length of a VS or of an EL.
+fn views_size(k: ViewMark, l: ViewList) -> usize
+    requires { ⌜ l .count ≤ 26 ⌝ }
+    ensures { λ n. ⌜ (n ≡ viewsSize k l) × (n ≤ 111) ⌝ }
+{
+    1 + k.count_at() + k.ballot_len() * l.count
 }
 
 // The first refusal of two; 0 is none.
@@ -270,6 +350,17 @@ fn vl_unwritten(f: u64, l: VoteList, out: &[u8]) -> u8
     first(wrong, buffer_wrong(list_size(l), out))
 }
 
+fn views_unwritten(k: ViewMark, f: u64, l: ViewList, out: &[u8]) -> u8
+    ensures { λ r. ⌜ r ≡ viewsUnwritten k f l (now (out .entry)) ⌝ }
+{
+    let before = first(terms::group_wrong(f), contents::count_wrong(l.count));
+    if before != 0 {
+        return before;
+    }
+    let wrong = contents::views_wrong(k, Group { f: f as u8 }, l);
+    first(wrong, buffer_wrong(views_size(k, l), out))
+}
+
 // The list of an LG or a DC: a message with another mark carries none (2).
 fn listed_wrong(mark: Mark, f: u64, l: VoteList) -> u8
     requires { ⌜ (f ≤ 5) × (l .count ≤ 26) ⌝ }
@@ -280,6 +371,8 @@ fn listed_wrong(mark: Mark, f: u64, l: VoteList) -> u8
         Mark::LG => contents::log_list_wrong(Group { f: f as u8 }, l),
         Mark::DC => contents::list_wrong(Group { f: f as u8 }, l),
         Mark::RD => terms::MARK,
+        Mark::IV => terms::MARK,
+        Mark::LD => terms::MARK,
     }
 }
 
@@ -296,6 +389,22 @@ fn listed_unwritten(mark: Mark, f: u64, x: Transaction, l: VoteList, out: &[u8])
     }
     let room = buffer_wrong(2 + tx_size(x) + list_size(l), out);
     first(contents::tx_wrong(x), first(listed_wrong(mark, f, l), room))
+}
+
+fn viewed_unwritten(k: ViewMark, f: u64, x: Transaction, l: ViewList, out: &[u8]) -> u8
+    ensures { λ r. ⌜ r ≡ viewedUnwritten k f x l (now (out .entry)) ⌝ }
+{
+    let counts = first(
+        contents::counts_wrong(x.r, x.w),
+        contents::count_wrong(l.count),
+    );
+    let before = first(terms::group_wrong(f), counts);
+    if before != 0 {
+        return before;
+    }
+    let room = buffer_wrong(2 + tx_size(x) + views_size(k, l), out);
+    let wrong = contents::views_wrong(k, Group { f: f as u8 }, l);
+    first(contents::tx_wrong(x), first(wrong, room))
 }
 
 fn rd_unwritten(key: Key, stamp: Stamp, out: &[u8]) -> u8
@@ -326,6 +435,17 @@ pub fn write_vl(f: u64, l: VoteList, out: &mut [u8]) -> Written
     Written::Wrote(put_list(out, 0, l))
 }
 
+// A VS or an EL by itself, by its mark.
+pub fn write_views(k: ViewMark, f: u64, l: ViewList, out: &mut [u8]) -> Written
+    ensures { λ r. ⌜ (r ≡ wroteBy (viewsUnwritten k f l (now (out .entry))) (viewsBytes k (viewsIn k l))) × (now (out .exit) ≡ bufferBy (viewsUnwritten k f l (now (out .entry))) (viewsBytes k (viewsIn k l)) (now (out .entry))) ⌝ }
+{
+    let wrong = views_unwritten(k, f, l, out);
+    if wrong != 0 {
+        return Written::Refused(Refusal::of(wrong));
+    }
+    Written::Wrote(put_views(k, out, 0, l))
+}
+
 pub fn write_pr(x: Transaction, out: &mut [u8]) -> Written
     ensures { λ r. ⌜ (r ≡ wroteBy (prUnwritten x (now (out .entry))) (prBytes (txIn x))) × (now (out .exit) ≡ bufferBy (prUnwritten x (now (out .entry))) (prBytes (txIn x)) (now (out .entry))) ⌝ }
 {
@@ -345,6 +465,17 @@ pub fn write_listed(mark: Mark, f: u64, x: Transaction, l: VoteList, out: &mut [
         return Written::Refused(Refusal::of(wrong));
     }
     Written::Wrote(put_listed(out, mark, x, l))
+}
+
+// An IV or an LD, by the mark of what it carries.
+pub fn write_viewed(k: ViewMark, f: u64, x: Transaction, l: ViewList, out: &mut [u8]) -> Written
+    ensures { λ r. ⌜ (r ≡ wroteBy (viewedUnwritten k f x l (now (out .entry))) (viewedBytes k (txIn x) (viewsIn k l))) × (now (out .exit) ≡ bufferBy (viewedUnwritten k f x l (now (out .entry))) (viewedBytes k (txIn x) (viewsIn k l)) (now (out .entry))) ⌝ }
+{
+    let wrong = viewed_unwritten(k, f, x, l, out);
+    if wrong != 0 {
+        return Written::Refused(Refusal::of(wrong));
+    }
+    Written::Wrote(put_viewed(k, out, x, l))
 }
 
 pub fn write_rd(key: Key, stamp: Stamp, out: &mut [u8]) -> Written

@@ -44,6 +44,9 @@ number-requires-3 c κs = search needs
 widened-requires-4 : tie.Need-widened-requires-4
 widened-requires-4 c κs = search needs
 
+cast-t21 : tie.Need-cast-t21
+cast-t21 c = search needs
+
 enum-told : tie.Need-enum-told
 enum-told c = search needs
 
@@ -65,6 +68,21 @@ lacking-requires c κs = search needs
 widened-requires-6 : tie.Need-widened-requires-6
 widened-requires-6 c κs = search needs
 
+enum-known-a-6 : tie.Need-enum-known-a-6
+enum-known-a-6 c = search needs
+
+number-requires-5 : tie.Need-number-requires-5
+number-requires-5 c κs = search needs
+
+widened-requires-7 : tie.Need-widened-requires-7
+widened-requires-7 c κs = search needs
+
+cast-t28 : tie.Need-cast-t28
+cast-t28 c = search needs
+
+widened-requires-8 : tie.Need-widened-requires-8
+widened-requires-8 c κs = search needs
+
 returns : tie.Need-returns
 returns c = rw (c .before .before .before .before .before .a .given .1, c .before .before .widened .ensures .0, c .before .before .before .number .ensures, c .widened2 .ensures .0, c .before .reason .ensures)
 
@@ -72,7 +90,7 @@ returns-2 : tie.Need-returns-2
 returns-2 c = rw (c .before .before .before .a2 .given .1, c .widened3 .ensures .0, c .before .number2 .ensures)
 
 returns-3 : tie.Need-returns-3
-returns-3 c = rw (c .before .before .before .a3 .given .1, c .widened4 .ensures .0, c .before .number3 .ensures)
+returns-3 c = rw (c .before .before .before .before .a3 .given .1, c .before .widened4 .ensures .0, c .before .before .number3 .ensures)
 
 returns-4 : tie.Need-returns-4
 returns-4 c = rw (c .enum-told .given .1)
@@ -82,6 +100,9 @@ returns-5 c = rw (c .before .a4 .given .1)
 
 returns-6 : tie.Need-returns-6
 returns-6 c = rw (c .before .before .before .before .before .a5 .given .1, c .before .before .widened5 .ensures .0, c .before .before .before .number4 .ensures, c .widened6 .ensures .0, c .before .lacking .ensures)
+
+returns-7 : tie.Need-returns-7
+returns-7 c = rw (c .before .before .before .before .before .a6 .given .1, c .before .before .widened7 .ensures .0, c .before .before .before .number5 .ensures, c .widened8 .ensures .0)
 
 pub values-spec : {M : Type 1} → statement M
 values-spec =
@@ -98,6 +119,7 @@ values-spec =
     enum-known-a-3
     number-requires-3
     widened-requires-4
+    cast-t21
     enum-told
     enum-known-a-4
     enum-known-a-5
@@ -105,9 +127,15 @@ values-spec =
     widened-requires-5
     lacking-requires
     widened-requires-6
+    enum-known-a-6
+    number-requires-5
+    widened-requires-7
+    cast-t28
+    widened-requires-8
     returns
     returns-2
     returns-3
     returns-4
     returns-5
-    returns-6)
+    returns-6
+    returns-7)

@@ -18,24 +18,18 @@ first-requires c κs = search needs
 answers-odd-requires : tie.Need-answers-odd-requires
 answers-odd-requires c κs = search needs
 
-boxes-wide-requires : tie.Need-boxes-wide-requires
-boxes-wide-requires c κs = search needs
-
-boxes-fall-requires : tie.Need-boxes-fall-requires
-boxes-fall-requires c κs = search needs
-
 first-requires-2 : tie.Need-first-requires-2
 first-requires-2 c κs = search needs
+
+boxes-wrong-requires : tie.Need-boxes-wrong-requires
+boxes-wrong-requires c κs = search needs
 
 first-requires-3 : tie.Need-first-requires-3
 first-requires-3 c κs = search needs
 
-first-requires-4 : tie.Need-first-requires-4
-first-requires-4 c κs = search needs
-
 returns : tie.Need-returns
 unfolding listWrong listIn
-returns c = (cc) ∙ of-list _ _ _ _ _
+returns c = (cc) ∙ of-list _ _ _ _
 
 pub list-wrong-spec : {M : Type 1} → statement M
 list-wrong-spec =
@@ -45,9 +39,7 @@ list-wrong-spec =
     code-wrong-requires-2
     first-requires
     answers-odd-requires
-    boxes-wide-requires
-    boxes-fall-requires
     first-requires-2
+    boxes-wrong-requires
     first-requires-3
-    first-requires-4
     returns)

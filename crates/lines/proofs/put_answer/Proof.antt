@@ -1,5 +1,5 @@
 use Rattle.lines.proofs.Putting.{puts-text, puts-both, puts-within}
-use Rattle.lines.specs.Lines.{answerText, decidedBlank, loggedBlank}
+use Rattle.lines.specs.Lines.{answerText, decidedBlank}
 use native.Mathlib.Omega.{arith}
 use borrow.Author.Needs.{needs}
 use Rattle.lines.proofs.put_answer.Statement.{statement}
@@ -7,6 +7,8 @@ use Rattle.lines.proofs.put_answer.Tie as tie
 use Rattle.lines.proofs.put_answer.Reads as reads
 use Rattle.lines.proofs.put_answer.Lts as lts
 use Rattle.lines.proofs.put_decision.Reads as put-decision-reads
+use Rattle.lines.proofs.put_elected.Reads as put-elected-reads
+use Rattle.lines.proofs.put_logged.Reads as put-logged-reads
 use Rattle.lines.proofs.put_found.Reads as put-found-reads
 use Rattle.lines.proofs.put_refusal.Reads as put-refusal-reads
 use Rattle.lines.proofs.put_text.Reads as put-text-reads
@@ -33,23 +35,17 @@ put-decision-requires c κs = search needs
 enum-known-answer-3 : tie.Need-enum-known-answer-3
 enum-known-answer-3 c = search needs
 
+put-logged-requires : tie.Need-put-logged-requires
+put-logged-requires c κs = search needs
+
+enum-told : tie.Need-enum-told
+enum-told c = search needs
+
 slice-aggregate-put-text-2 : tie.Need-slice-aggregate-put-text-2
 slice-aggregate-put-text-2 c = search needs
 
 put-text-requires-2 : tie.Need-put-text-requires-2
 put-text-requires-2 c κs = search needs
-
-put-decision-requires-2 : tie.Need-put-decision-requires-2
-put-decision-requires-2 c κs = search needs
-
-enum-told : tie.Need-enum-told
-enum-told c = search needs
-
-slice-aggregate-put-text-3 : tie.Need-slice-aggregate-put-text-3
-slice-aggregate-put-text-3 c = search needs
-
-put-text-requires-3 : tie.Need-put-text-requires-3
-put-text-requires-3 c κs = search needs
 
 enum-known-answer-4 : tie.Need-enum-known-answer-4
 enum-known-answer-4 c = search needs
@@ -62,6 +58,12 @@ enum-known-answer-5 c = search needs
 
 put-refusal-requires : tie.Need-put-refusal-requires
 put-refusal-requires c κs = search needs
+
+enum-known-answer-6 : tie.Need-enum-known-answer-6
+enum-known-answer-6 c = search needs
+
+put-elected-requires : tie.Need-put-elected-requires
+put-elected-requires c κs = search needs
 
 same-length : tie.Need-same-length
 same-length c = search needs
@@ -86,18 +88,14 @@ same-length-3 c = search needs
 
 returns-3 : tie.Need-returns-3
 unfolding answerText
-returns-3 c =
-    let w = c .before .before .before .before .before .before in
-    let h = puts-text {t = loggedBlank} {n = 7} (w .put-text2 .ensures) (omega arith) in
-    rw (w .before .before .before .before .answer3 .given .1)
-    (puts-within (puts-both h (c .before .before .put-decision2 .ensures) (omega arith)) (omega arith))
+returns-3 c = rw (c .before .before .before .before .before .answer3 .given .1) (puts-within (c .before .before .put-logged .ensures) (omega arith))
 
 same-length-4 : tie.Need-same-length-4
 same-length-4 c = search needs
 
 returns-4 : tie.Need-returns-4
 unfolding answerText
-returns-4 c = rw (c .before .before .before .before .before .enum-told .given .1) (puts-text (c .before .before .put-text3 .ensures) (omega arith))
+returns-4 c = rw (c .before .before .before .before .before .enum-told .given .1) (puts-text (c .before .before .put-text2 .ensures) (omega arith))
 
 same-length-5 : tie.Need-same-length-5
 same-length-5 c = search needs
@@ -113,6 +111,13 @@ returns-6 : tie.Need-returns-6
 unfolding answerText
 returns-6 c = rw (c .before .before .before .before .before .answer5 .given .1) (puts-within (c .before .before .put-refusal .ensures) (omega arith))
 
+same-length-7 : tie.Need-same-length-7
+same-length-7 c = search needs
+
+returns-7 : tie.Need-returns-7
+unfolding answerText
+returns-7 c = rw (c .before .before .before .before .before .answer6 .given .1) (puts-within (c .before .before .put-elected .ensures) (omega arith))
+
 pub put-answer-spec : {M : Type 1} → statement M
 put-answer-spec =
     tie.close
@@ -124,16 +129,16 @@ put-answer-spec =
     put-text-requires
     put-decision-requires
     enum-known-answer-3
+    put-logged-requires
+    enum-told
     slice-aggregate-put-text-2
     put-text-requires-2
-    put-decision-requires-2
-    enum-told
-    slice-aggregate-put-text-3
-    put-text-requires-3
     enum-known-answer-4
     put-found-requires
     enum-known-answer-5
     put-refusal-requires
+    enum-known-answer-6
+    put-elected-requires
     same-length
     returns
     same-length-2
@@ -145,4 +150,6 @@ put-answer-spec =
     same-length-5
     returns-5
     same-length-6
-    returns-6)
+    returns-6
+    same-length-7
+    returns-7)

@@ -20,6 +20,9 @@ enum-known-a c = search needs
 enum-told-5 : tie.Need-enum-told-5
 enum-told-5 c = search needs
 
+enum-told-6 : tie.Need-enum-told-6
+enum-told-6 c = search needs
+
 returns : tie.Need-returns
 returns c = rw (c .enum-told .given .1)
 
@@ -38,6 +41,9 @@ returns-5 c = search needs
 returns-6 : tie.Need-returns-6
 returns-6 c = rw (c .enum-told5 .given .1)
 
+returns-7 : tie.Need-returns-7
+returns-7 c = rw (c .enum-told6 .given .1)
+
 pub half-spec : {M : Type 1} → statement M
 half-spec =
     tie.close
@@ -48,9 +54,11 @@ half-spec =
     enum-told-4
     enum-known-a
     enum-told-5
+    enum-told-6
     returns
     returns-2
     returns-3
     returns-4
     returns-5
-    returns-6)
+    returns-6
+    returns-7)

@@ -23,6 +23,9 @@ enum-known-a c = search needs
 number-requires : tie.Need-number-requires
 number-requires c κs = search needs
 
+enum-told-6 : tie.Need-enum-told-6
+enum-told-6 c = search needs
+
 returns : tie.Need-returns
 returns c = search needs
 
@@ -41,6 +44,9 @@ returns-5 c = search needs
 returns-6 : tie.Need-returns-6
 returns-6 c = rw (c .before .before .a .given .1, c .number .ensures)
 
+returns-7 : tie.Need-returns-7
+returns-7 c = search needs
+
 pub unfound-spec : {M : Type 1} → statement M
 unfound-spec =
     tie.close
@@ -52,9 +58,11 @@ unfound-spec =
     enum-told-5
     enum-known-a
     number-requires
+    enum-told-6
     returns
     returns-2
     returns-3
     returns-4
     returns-5
-    returns-6)
+    returns-6
+    returns-7)

@@ -18,8 +18,14 @@ marked-or-requires-3 c κs = search needs
 marked-or-requires-4 : tie.Need-marked-or-requires-4
 marked-or-requires-4 c κs = search needs
 
+marked-or-requires-5 : tie.Need-marked-or-requires-5
+marked-or-requires-5 c κs = search needs
+
+marked-or-requires-6 : tie.Need-marked-or-requires-6
+marked-or-requires-6 c κs = search needs
+
 returns-2 : tie.Need-returns-2
-returns-2 c = rw (c .marked-or4 .ensures, c .before .marked-or3 .ensures, c .before .before .marked-or2 .ensures, c .before .before .before .marked-or .ensures) (mark-is _ (c .before .before .before .before .if1 .left))
+returns-2 c = rw (c .marked-or6 .ensures, c .before .marked-or5 .ensures, c .before .before .marked-or4 .ensures, c .before .before .before .marked-or3 .ensures, c .before .before .before .before .marked-or2 .ensures, c .before .before .before .before .before .marked-or .ensures) (mark-is _ (c .before .before .before .before .before .before .if1 .left))
 
 pub mark-of-spec : {M : Type 1} → statement M
 mark-of-spec =
@@ -30,4 +36,6 @@ mark-of-spec =
     marked-or-requires-2
     marked-or-requires-3
     marked-or-requires-4
+    marked-or-requires-5
+    marked-or-requires-6
     returns-2)

@@ -1,6 +1,7 @@
 use mathlib.Core.Path.{_∙_}
+use Rattle.records.specs.declared.ViewMark.the-variants.{VS, EL}
 use Rattle.records.specs.Cutting.{messageLen}
-use Rattle.reading.proofs.Cuts.{long, pr-cuts, listed-cuts, listed-long}
+use Rattle.reading.proofs.Cuts.{long, pr-cuts, listed-cuts, listed-long, viewed-cuts, viewed-long}
 use borrow.Author.Needs.{needs}
 use Rattle.reading.proofs.message_len.Statement.{statement}
 use Rattle.reading.proofs.message_len.Tie as tie
@@ -23,6 +24,18 @@ listed-len-requires c κs = listed-cuts _ (c .before .before .args .mark) (c .ma
 enum-told-2 : tie.Need-enum-told-2
 enum-told-2 c = search needs
 
+enum-told-3 : tie.Need-enum-told-3
+enum-told-3 c = search needs
+
+viewed-len-requires : tie.Need-viewed-len-requires
+viewed-len-requires c κs = viewed-cuts VS _ (rw (c .enum-told3 .given .1) at (c .before .before .before .pre))
+
+enum-told-4 : tie.Need-enum-told-4
+enum-told-4 c = search needs
+
+viewed-len-requires-2 : tie.Need-viewed-len-requires-2
+viewed-len-requires-2 c κs = viewed-cuts EL _ (rw (c .enum-told4 .given .1) at (c .before .before .before .pre))
+
 returns : tie.Need-returns
 unfolding messageLen
 returns c = rw (c .before .before .enum-told .given .1, c .tx-len .ensures, c .before .behind .ensures)
@@ -34,6 +47,12 @@ returns-3 : tie.Need-returns-3
 unfolding messageLen
 returns-3 c = rw (c .enum-told2 .given .1)
 
+returns-4 : tie.Need-returns-4
+returns-4 c = rw (c .before .enum-told3 .given .1) (c .viewed-len .ensures ∙ viewed-long VS _)
+
+returns-5 : tie.Need-returns-5
+returns-5 c = rw (c .before .enum-told4 .given .1) (c .viewed-len2 .ensures ∙ viewed-long EL _)
+
 pub message-len-spec : {M : Type 1} → statement M
 message-len-spec =
     tie.close
@@ -44,6 +63,12 @@ message-len-spec =
     add-result
     listed-len-requires
     enum-told-2
+    enum-told-3
+    viewed-len-requires
+    enum-told-4
+    viewed-len-requires-2
     returns
     returns-2
-    returns-3)
+    returns-3
+    returns-4
+    returns-5)

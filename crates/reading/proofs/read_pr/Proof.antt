@@ -1,7 +1,8 @@
 use mathlib.Core.Path.{refl, _∙_}
 use Rattle.records.specs.declared.Mark.the-variants.{PR}
-use Rattle.records.specs.Messages.{messageTx, messageList, messageKey, messageStamp}
+use Rattle.records.specs.Messages.{messageTx, messageList, messageViews, messageKey, messageStamp}
 use Rattle.reading.proofs.Answers.{reading-by, wrong-tx, tx-at}
+use Rattle.reading.specs.Judging.{noLists}
 use borrow.Author.Needs.{needs}
 use Rattle.reading.proofs.read_pr.Statement.{statement}
 use Rattle.reading.proofs.read_pr.Tie as tie
@@ -15,16 +16,16 @@ transaction-of-requires c κs = c .tx-part-of .ensures .1
 tx-wrong-requires : tie.Need-tx-wrong-requires
 tx-wrong-requires c κs = search needs
 
-no-list-requires : tie.Need-no-list-requires
-no-list-requires c κs = search needs
+no-lists-requires : tie.Need-no-lists-requires
+no-lists-requires c κs = search needs
 
 reading-of-requires : tie.Need-reading-of-requires
 reading-of-requires c κs = search needs
 
 returns : tie.Need-returns
-unfolding messageTx messageList messageKey messageStamp
+unfolding noLists messageTx messageList messageViews messageKey messageStamp
 returns c = let t = tx-at (c .before .before .before .before .tx-part-of .ensures .0) (c .before .before .before .transaction-of .ensures .0) in
-    c .reading-of .ensures ∙ reading-by PR _ _ _ _ _ _ _ (wrong-tx _ _ _ t (c .before .before .tx-wrong .ensures)) t (c .before .no-list .ensures) refl refl
+    c .reading-of .ensures ∙ reading-by PR _ _ _ _ _ _ _ (wrong-tx _ _ _ t (c .before .before .tx-wrong .ensures)) t (c .before .no-lists .ensures) refl refl
 
 pub read-pr-spec : {M : Type 1} → statement M
 read-pr-spec =
@@ -33,6 +34,6 @@ read-pr-spec =
     tx-part-of-requires
     transaction-of-requires
     tx-wrong-requires
-    no-list-requires
+    no-lists-requires
     reading-of-requires
     returns)

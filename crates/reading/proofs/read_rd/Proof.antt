@@ -1,7 +1,8 @@
 use mathlib.Core.Path.{_∙_}
 use Rattle.records.specs.declared.Mark.the-variants.{RD}
-use Rattle.records.specs.Messages.{messageTx, messageList, messageKey, messageStamp}
+use Rattle.records.specs.Messages.{messageTx, messageList, messageViews, messageKey, messageStamp}
 use Rattle.reading.proofs.Answers.{reading-by, rd-same}
+use Rattle.reading.specs.Judging.{noLists}
 use borrow.Author.Needs.{needs}
 use Rattle.reading.proofs.read_rd.Statement.{statement}
 use Rattle.reading.proofs.read_rd.Tie as tie
@@ -18,15 +19,15 @@ rd-wrong-requires c κs = search needs
 no-tx-requires : tie.Need-no-tx-requires
 no-tx-requires c κs = search needs
 
-no-list-requires : tie.Need-no-list-requires
-no-list-requires c κs = search needs
+no-lists-requires : tie.Need-no-lists-requires
+no-lists-requires c κs = search needs
 
 reading-of-requires : tie.Need-reading-of-requires
 reading-of-requires c κs = search needs
 
 returns : tie.Need-returns
-unfolding messageTx messageList messageKey messageStamp
-returns c = c .reading-of .ensures ∙ reading-by RD _ _ _ _ _ _ _ (c .before .before .before .rd-wrong .ensures ∙ rd-same (c .before .before .before .before .before .u16-at .ensures) (c .before .before .before .before .u64-at .ensures)) (c .before .before .no-tx .ensures) (c .before .no-list .ensures) (rw (c .before .before .before .before .before .u16-at .ensures)) (rw (c .before .before .before .before .u64-at .ensures))
+unfolding noLists messageTx messageList messageViews messageKey messageStamp
+returns c = c .reading-of .ensures ∙ reading-by RD _ _ _ _ _ _ _ (c .before .before .before .rd-wrong .ensures ∙ rd-same (c .before .before .before .before .before .u16-at .ensures) (c .before .before .before .before .u64-at .ensures)) (c .before .before .no-tx .ensures) (c .before .no-lists .ensures) (rw (c .before .before .before .before .before .u16-at .ensures)) (rw (c .before .before .before .before .u64-at .ensures))
 
 pub read-rd-spec : {M : Type 1} → statement M
 read-rd-spec =
@@ -36,6 +37,6 @@ read-rd-spec =
     u64-at-requires
     rd-wrong-requires
     no-tx-requires
-    no-list-requires
+    no-lists-requires
     reading-of-requires
     returns)

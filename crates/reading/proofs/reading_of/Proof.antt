@@ -13,7 +13,7 @@ returns c = c .refused .ensures ∙ reading-refused _ _ _ _ _ _ (c .before .if1 
 
 returns-2 : tie.Need-returns-2
 unfolding readingOf
-returns-2 c = rw (c .if1 .left)
+returns-2 c = rw (c .before .before .if1 .left)
 
 pub reading-of-spec : {M : Type 1} → statement M
 reading-of-spec = tie.close (tie.spec refused-requires returns returns-2)

@@ -32,6 +32,9 @@ number-requires c κs = search needs
 stops-at-requires : tie.Need-stops-at-requires
 stops-at-requires c κs = search needs
 
+enum-told-6 : tie.Need-enum-told-6
+enum-told-6 c = search needs
+
 returns : tie.Need-returns
 returns c = search needs
 
@@ -50,6 +53,9 @@ returns-5 c = search needs
 returns-6 : tie.Need-returns-6
 returns-6 c = rw (c .before .before .before .a .given .1, ← c .before .number .ensures) (c .stops-at .ensures)
 
+returns-7 : tie.Need-returns-7
+returns-7 c = search needs
+
 pub answer-stops-spec : {M : Type 1} → statement M
 answer-stops-spec =
     tie.close
@@ -62,9 +68,11 @@ answer-stops-spec =
     enum-known-a
     number-requires
     stops-at-requires
+    enum-told-6
     returns
     returns-2
     returns-3
     returns-4
     returns-5
-    returns-6)
+    returns-6
+    returns-7)

@@ -1,6 +1,9 @@
 use Rattle.sheet.specs.Masks.{has}
-use Rattle.sheet.proofs.Listed.{Noted, noted-none, noted-yes, noted-no, noted-list}
-use mathlib.Core.Path.{_≡_, refl}
+use Rattle.sheet.specs.Listing.{listed}
+use Rattle.sheet.proofs.Below.{Noted, noted-none, noted-yes, noted-no}
+use Rattle.sheet.proofs.Listed.{listed-none, listed-yes, listed-no, noted-list}
+use Rattle.records.specs.Vl.{zeroPair}
+use mathlib.Core.Path.{_≡_}
 use Prim.Native.Nat.{_-_, _≤_}
 use native.Mathlib.Omega.{arith}
 use borrow.Author.Needs.{needs}
@@ -8,13 +11,13 @@ use Rattle.sheet.proofs.list_of_mask.Statement.{statement}
 use Rattle.sheet.proofs.list_of_mask.Tie as tie
 
 abbrev Inv-loop : tie.InvT-loop
-Inv-loop kind view answer m n pairs₀ count₀ b₀ pairs count b = Noted (has m) answer pairs count b × (b ≤ n)
+Inv-loop kind view answer m n pairs₀ count₀ b₀ pairs count b = Noted (listed (has m) answer) zeroPair 26 pairs count b × (b ≤ n)
 
 abbrev μ-loop : tie.MeasureT-loop
 μ-loop kind view answer m n pairs₀ count₀ b₀ pairs count b = n - b
 
 loop-holds : tie.Need-loop-holds Inv-loop μ-loop
-loop-holds c = (noted-none, search needs)
+loop-holds c = (noted-none (listed-none _ _), search needs)
 
 has-box-requires : tie.Need-has-box-requires Inv-loop μ-loop
 has-box-requires c κs = search needs
@@ -38,7 +41,7 @@ loop-less : tie.Need-loop-less Inv-loop μ-loop
 loop-less c = search needs
 
 loop-again : tie.Need-loop-again Inv-loop μ-loop
-loop-again c = (noted-yes (c .before .before .before .loop .inv .0) _ (omega arith) (cc) refl, omega arith)
+loop-again c = (noted-yes (c .before .before .before .loop .inv .0) _ (omega arith) (listed-yes _ _ _ (cc)), omega arith)
 
 add-b-2 : tie.Need-add-b-2 Inv-loop μ-loop
 add-b-2 c = search needs
@@ -47,7 +50,7 @@ loop-less-2 : tie.Need-loop-less-2 Inv-loop μ-loop
 loop-less-2 c = search needs
 
 loop-again-2 : tie.Need-loop-again-2 Inv-loop μ-loop
-loop-again-2 c = (noted-no (c .before .before .before .loop .inv .0) (cc), omega arith)
+loop-again-2 c = (noted-no (c .before .before .before .loop .inv .0) (listed-no _ _ _ (cc)), omega arith)
 
 own-view-requires : tie.Need-own-view-requires Inv-loop μ-loop
 own-view-requires c κs = search needs

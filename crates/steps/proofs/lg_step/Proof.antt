@@ -42,7 +42,7 @@ refuse-requires : tie.Need-refuse-requires
 refuse-requires c κs = search needs
 
 returns : tie.Need-returns
-returns c marks = c .lg-unlogged .ensures _ none refl ∙ (lg-new _ _ (boxWith _ marks) _ _ _ _ (tab-length _ _ _) (c .before .is-full .ensures) ∙ lg-looked _ _ _ (c .before .before .before .before .look-up .ensures .0) _ (c .before .before .enum-told .given .1) _ marks _)
+returns c marks = c .lg-unlogged .ensures _ none refl refl ∙ (lg-new _ _ (boxWith _ marks) _ _ _ _ (tab-length _ _ _) (c .before .is-full .ensures) ∙ lg-looked _ _ _ (c .before .before .before .before .look-up .ensures .0) _ (c .before .before .enum-told .given .1) _ marks _)
 
 returns-2 : tie.Need-returns-2
 returns-2 c marks = c .lg-held .ensures (boxWith _ marks) _ ∙ lg-looked _ _ _ (c .before .before .before .before .look-up .ensures .0) _ (c .before .before .held .given .1) _ marks _

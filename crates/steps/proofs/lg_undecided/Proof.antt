@@ -25,11 +25,11 @@ lg-unlogged-requires : tie.Need-lg-unlogged-requires
 lg-unlogged-requires c κs = search needs
 
 returns : tie.Need-returns
-returns c b = c .keep .ensures ∙ lg-logged _ _ _ _ _ _ (c .before .before .log .given .1)
+returns c b = c .keep .ensures ∙ lg-logged _ _ _ _ _ _ _ (c .before .before .log .given .1)
 
 returns-2 : tie.Need-returns-2
 unfolding entryWith
-returns-2 c b = c .lg-unlogged .ensures b (some _) refl ∙ lg-free _ _ _ _ _ (c .before .enum-told .given .1)
+returns-2 c b = c .lg-unlogged .ensures b (some _) refl refl ∙ lg-free _ _ _ _ _ (c .before .enum-told .given .1)
 
 pub lg-undecided-spec : {M : Type 1} → statement M
 lg-undecided-spec =

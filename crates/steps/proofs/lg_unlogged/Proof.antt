@@ -30,19 +30,19 @@ refuse-requires : tie.Need-refuse-requires
 refuse-requires c κs = search needs
 
 returns : tie.Need-returns
-returns c b o w = c .refuse .ensures ∙ lg-few _ _ _ (c .before .before .lacking .ensures) _ _ (c .before .before .before .before .before .decision-of .ensures) (c .before .before .before .log-need .ensures ∙ (rw (c .before .before .before .before .group-of .ensures))) _ (c .before .if1 .taken) _
+returns c b o w s = c .refuse .ensures ∙ lg-few _ _ _ (c .before .before .lacking .ensures) _ _ (c .before .before .before .before .before .decision-of .ensures) (c .before .before .before .log-need .ensures ∙ (rw (c .before .before .before .before .group-of .ensures))) _ (c .before .if1 .taken) _
 
 refuse-requires-2 : tie.Need-refuse-requires-2
 refuse-requires-2 c κs = search needs
 
 returns-2 : tie.Need-returns-2
-returns-2 c b o w = c .refuse2 .ensures ∙ lg-full _ _ _ (c .before .before .before .lacking .ensures) _ _ (c .before .before .before .before .before .before .decision-of .ensures) (c .before .before .before .before .log-need .ensures ∙ (rw (c .before .before .before .before .before .group-of .ensures))) _ (c .before .before .if1 .left) _ (c .before .if2 .taken) _
+returns-2 c b o w s = c .refuse2 .ensures ∙ lg-full _ _ _ (c .before .before .before .lacking .ensures) _ _ (c .before .before .before .before .before .before .decision-of .ensures) (c .before .before .before .before .log-need .ensures ∙ (rw (c .before .before .before .before .before .group-of .ensures))) _ (c .before .before .if1 .left) _ (c .before .if2 .taken) _
 
 put-requires : tie.Need-put-requires
 put-requires c κs = search needs
 
 returns-3 : tie.Need-returns-3
-returns-3 c b o w = c .put .ensures ∙ lg-logs _ _ _ (c .before .before .before .lacking .ensures) _ _ (c .before .before .before .before .before .before .decision-of .ensures) (c .before .before .before .before .log-need .ensures ∙ (rw (c .before .before .before .before .before .group-of .ensures))) _ (c .before .before .if1 .left) _ (c .before .if2 .left) _ b o w
+returns-3 c b o w s = c .put .ensures ∙ lg-logs _ _ _ (c .before .before .before .lacking .ensures) _ _ (c .before .before .before .before .before .before .decision-of .ensures) (c .before .before .before .before .log-need .ensures ∙ (rw (c .before .before .before .before .before .group-of .ensures))) _ (c .before .before .if1 .left) _ (c .before .if2 .left) _ _ b o w s
 
 pub lg-unlogged-spec : {M : Type 1} → statement M
 lg-unlogged-spec =

@@ -1,8 +1,8 @@
 use mathlib.Core.Path.{_∙_}
 use Rattle.reading.proofs.Cuts.{long, there, rest-is}
 use borrow.Author.Needs.{needs}
-use Rattle.reading.proofs.vl_part_of.Statement.{statement}
-use Rattle.reading.proofs.vl_part_of.Tie as tie
+use Rattle.reading.proofs.list_part_of.Statement.{statement}
+use Rattle.reading.proofs.list_part_of.Tie as tie
 
 behind-requires : tie.Need-behind-requires
 behind-requires c κs = search needs
@@ -16,5 +16,5 @@ behind-requires-2 c κs = rw (c .tx-len .ensures, c .before .behind .ensures) (t
 returns : tie.Need-returns
 returns c = c .behind2 .ensures ∙ rest-is _ _ _ (c .before .before .behind .ensures) (c .before .tx-len .ensures)
 
-pub vl-part-of-spec : {M : Type 1} → statement M
-vl-part-of-spec = tie.close (tie.spec behind-requires tx-len-requires behind-requires-2 returns)
+pub list-part-of-spec : {M : Type 1} → statement M
+list-part-of-spec = tie.close (tie.spec behind-requires tx-len-requires behind-requires-2 returns)

@@ -1,0 +1,4 @@
+pub mod Hearing
+pub mod Gathering
+pub mod Given
+pub mod Heights
