@@ -10,11 +10,12 @@
  * An answer is five numbers:
  *   1 voted    vote (1 commit, 2 abort, 3 waiting), reason (1 to 6 beside an abort, else 0), 0, 0
  *   2 decided  decision (1 commit, 2 abort), 0, 0, 0
- *   3 logged   decision (1 commit, 2 abort), 0, 0, 0
+ *   3 logged   decision (1 commit, 2 abort), the view that it was logged in (0 to 65535), 0, 0
  *   4 done     0, 0, 0, 0
  *   5 found    committed version, its value, undecided version, its value (0, 0 where there is none)
- *   6 refused  number (1 to 16), beside 11 how many counted answers the list lacks (1 to its threshold), else 0, 0, 0; table and
- *              read marks are unchanged
+ *   6 refused  number (1 to 16, 21 to 24), beside 11 how many counted answers the list lacks (1 to its threshold), else 0, 0, 0;
+ *              table and read marks are unchanged
+ *   7 elected  the logged decision (1 commit, 2 abort), the current view (0 to 65535), the box that leads it, 0
  */
 #ifndef STOBBAREL_H
 #define STOBBAREL_H
@@ -29,27 +30,31 @@ extern "C" {
 /* A table: the head, then a row for each entry. What stands in a row behind the transaction's bytes, and in the table behind the
  * last entry's row, is not looked at. The package in rust/ takes its numbers from these lines; tests/layout holds them against
  * the engine's. */
-#define STOBBAREL_HEAD 1       /* Bytes in front of the rows: the count of entries. */
-#define STOBBAREL_ROW 176      /* Bytes of a row. */
-#define STOBBAREL_VOTE_AT 0    /* Where in a row the vote stands: 0 none, 1 commit, 2 abort, 3 waiting. */
-#define STOBBAREL_REASON_AT 1  /* Where in a row the reason stands: 1 to 6 beside an abort, else 0. */
-#define STOBBAREL_DECIDED_AT 2 /* Where in a row the decision stands: 0 none, 1 commit, 2 abort. */
-#define STOBBAREL_LOG_AT 3     /* Where in a row the logged decision stands: 0 none, 1 commit, 2 abort. */
-#define STOBBAREL_BODY_AT 4    /* Where in a row the transaction's bytes (TX) begin. */
+#define STOBBAREL_HEAD 1        /* Bytes in front of the rows: the count of entries. */
+#define STOBBAREL_ROW 180       /* Bytes of a row. */
+#define STOBBAREL_VOTE_AT 0     /* Where in a row the vote stands: 0 none, 1 commit, 2 abort, 3 waiting. */
+#define STOBBAREL_REASON_AT 1   /* Where in a row the reason stands: 1 to 6 beside an abort, else 0. */
+#define STOBBAREL_DECIDED_AT 2  /* Where in a row the decision stands: 0 none, 1 commit, 2 abort. */
+#define STOBBAREL_LOG_AT 3      /* Where in a row the logged decision stands: 0 none, 1 commit, 2 abort. */
+#define STOBBAREL_LOG_VIEW_AT 4 /* Where in a row the logged decision's view stands, two bytes, the lower first; not looked at where nothing is logged. */
+#define STOBBAREL_VIEW_AT 6     /* Where in a row the current view stands, two bytes, the lower first. */
+#define STOBBAREL_BODY_AT 8     /* Where in a row the transaction's bytes (TX) begin. */
 #define STOBBAREL_TABLE_LEN(capacity) (STOBBAREL_HEAD + STOBBAREL_ROW * (capacity)) /* Bytes of a table with room for so many entries. */
 
 #define STOBBAREL_KEYS 512    /* Keys of a register, and read marks of a box. */
-#define STOBBAREL_LONGEST 233 /* Bytes of the longest record: a DC of logs with eight reads, eight writes and 26 pairs. */
+#define STOBBAREL_LONGEST 285 /* Bytes of the longest record: an LD with eight reads, eight writes and 26 election answers. */
 
-/* The marks of the four messages, wherever one is named by a number. */
+/* The marks of the six messages, wherever one is named by a number. */
 enum stobbarel_mark {
     STOBBAREL_PR = 1,
     STOBBAREL_LG = 2,
     STOBBAREL_DC = 3,
-    STOBBAREL_RD = 4
+    STOBBAREL_RD = 4,
+    STOBBAREL_IV = 5,
+    STOBBAREL_LD = 6
 };
 
-/* Votes, logged decisions, decisions, and what a tally takes, which is not a wait; 0 is none. */
+/* Votes, logged decisions, election answers, decisions, and what a tally takes, which is not a wait; 0 is none. */
 enum stobbarel_code {
     STOBBAREL_COMMIT = 1,
     STOBBAREL_ABORT = 2,
@@ -62,13 +67,14 @@ enum stobbarel_answer {
     STOBBAREL_LOGGED = 3,
     STOBBAREL_DONE = 4,
     STOBBAREL_FOUND = 5,
-    STOBBAREL_REFUSED = 6
+    STOBBAREL_REFUSED = 6,
+    STOBBAREL_ELECTED = 7
 };
 
 /* The numbers of the refusals, wherever one is told; 0 is none. */
 enum stobbarel_refusal {
     STOBBAREL_SHORT = 1,         /* bytes end inside a record */
-    STOBBAREL_MARK = 2,          /* the mark is not the one due, or not PR, LG, DC, RD */
+    STOBBAREL_MARK = 2,          /* the mark is not the one due, or not PR, LG, DC, RD, IV, LD */
     STOBBAREL_COUNT = 3,         /* r or w above 8, r + w = 0, list count 0 or above 26 */
     STOBBAREL_TRAILING = 4,      /* bytes after the message */
     STOBBAREL_RANGE = 5,         /* stamp 0, key above 511, box number n or more */
@@ -84,6 +90,10 @@ enum stobbarel_refusal {
     STOBBAREL_AHEAD = 15,        /* RD stamp above clock + delta */
     STOBBAREL_TABLE = 16,        /* a lent table or tally sheet that is not in order */
     STOBBAREL_BUFFER = 17,       /* output buffer shorter than the record */
+    STOBBAREL_PASSED = 21,       /* LD: the box's current view is above the decision's, or its logged view is not below */
+    STOBBAREL_NOT_LOGGED = 22,   /* IV: the box holds no log for this body */
+    STOBBAREL_ELECTION = 23,     /* LD: leader, number of answers, their view or their majority is wrong; too few on a leader's sheet */
+    STOBBAREL_LAST_VIEW = 24,    /* IV: the new view would pass 65535 */
     STOBBAREL_PASSAGE = 26,      /* passage above 127 */
     STOBBAREL_VERSIONS = 27,     /* the four committed versions of a passage are not all equal */
     STOBBAREL_DIRECTION = 28,    /* direction not 0 or 1 */
@@ -93,13 +103,13 @@ enum stobbarel_refusal {
 
 /* ---- a box */
 
-/* Any of the four messages, by its mark. */
+/* Any of the six messages, by its mark. */
 void stobbarel_receive(uint8_t *table, size_t table_len, uint64_t marks[512], uint64_t f, uint64_t capacity, uint64_t clock,
                        uint64_t delta, const uint8_t *message, size_t message_len, uint64_t answer[5]);
 
-/* The message of one mark: PR, LG, DC or RD by its number above. A number that is none of them is refused with 2 after 14 and 16,
- * before the message is looked at; a message with another mark is refused with 2 in its order. PR, LG and DC leave the read
- * marks as they are, RD the table. */
+/* The message of one mark: PR, LG, DC, RD, IV or LD by its number above. A number that is none of them is refused with 2 after 14
+ * and 16, before the message is looked at; a message with another mark is refused with 2 in its order. RD leaves the table as it
+ * is, all others the read marks. */
 void stobbarel_due(uint64_t mark, uint8_t *table, size_t table_len, uint64_t marks[512], uint64_t f, uint64_t capacity,
                    uint64_t clock, uint64_t delta, const uint8_t *message, size_t message_len, uint64_t answer[5]);
 
@@ -109,7 +119,8 @@ static inline void stobbarel_prepare(uint8_t *table, size_t table_len, uint64_t 
     stobbarel_due(STOBBAREL_PR, table, table_len, marks, f, capacity, clock, delta, message, message_len, answer);
 }
 
-/* LG: log a decision. A transaction that is not held takes an entry with this log and no vote; a PR for it later is voted on there. */
+/* LG: log a decision, in view 0. A transaction that is not held takes an entry with this log and no vote; a PR for it later is voted
+ * on there. Where something is logged already, that log is answered with its view. */
 static inline void stobbarel_log(uint8_t *table, size_t table_len, uint64_t marks[512], uint64_t f, uint64_t capacity,
                                  uint64_t clock, uint64_t delta, const uint8_t *message, size_t message_len, uint64_t answer[5]) {
     stobbarel_due(STOBBAREL_LG, table, table_len, marks, f, capacity, clock, delta, message, message_len, answer);
@@ -127,9 +138,24 @@ static inline void stobbarel_read(uint8_t *table, size_t table_len, uint64_t mar
     stobbarel_due(STOBBAREL_RD, table, table_len, marks, f, capacity, clock, delta, message, message_len, answer);
 }
 
+/* IV: what a gateway sends where logs differ and no proof can be made of them. A box that has logged the transaction moves on to the
+ * view that the listed views call for, never back, and gives its election answer: what it has logged, that view, and its leader,
+ * to whom the answer is to be carried. */
+static inline void stobbarel_invoke(uint8_t *table, size_t table_len, uint64_t marks[512], uint64_t f, uint64_t capacity,
+                                    uint64_t clock, uint64_t delta, const uint8_t *message, size_t message_len, uint64_t answer[5]) {
+    stobbarel_due(STOBBAREL_IV, table, table_len, marks, f, capacity, clock, delta, message, message_len, answer);
+}
+
+/* LD: what the leader of a view sends, the majority of 4f + 1 election answers of that view. A box logs it in that view, if its
+ * current view is not above and its logged view is below, and answers as to an LG. It needs no log and no entry before. */
+static inline void stobbarel_lead(uint8_t *table, size_t table_len, uint64_t marks[512], uint64_t f, uint64_t capacity,
+                                  uint64_t clock, uint64_t delta, const uint8_t *message, size_t message_len, uint64_t answer[5]) {
+    stobbarel_due(STOBBAREL_LD, table, table_len, marks, f, capacity, clock, delta, message, message_len, answer);
+}
+
 /* ---- records read */
 
-/* Any of the four messages, read alone: 0, or the refusal's number (14, 1 to 8). Without a clock, so never 15. */
+/* Any of the six messages, read alone: 0, or the refusal's number (14, 1 to 8). Without a clock, so never 15. */
 uint8_t stobbarel_reading(uint64_t f, const uint8_t *message, size_t message_len);
 
 /* A TX by itself: 0, or the refusal's number (1 to 7). */
@@ -138,8 +164,14 @@ uint8_t stobbarel_reading_tx(const uint8_t *bytes, size_t bytes_len);
 /* A VL by itself, of either kind: 0, or the refusal's number (14, 1 to 6, 8). */
 uint8_t stobbarel_reading_vl(uint64_t f, const uint8_t *bytes, size_t bytes_len);
 
+/* A VS by itself, the views of an IV: 0, or the refusal's number (14, 1 to 6). */
+uint8_t stobbarel_reading_vs(uint64_t f, const uint8_t *bytes, size_t bytes_len);
+
+/* An EL by itself, the election answers of an LD: 0, or the refusal's number (14, 1 to 6, 8). */
+uint8_t stobbarel_reading_el(uint64_t f, const uint8_t *bytes, size_t bytes_len);
+
 /* A message read alone, and its values: 0, or the refusal's number, as stobbarel_reading. The head's nine numbers:
- *   mark       1 PR, 2 LG, 3 DC, 4 RD; 0 refused
+ *   mark       1 PR, 2 LG, 3 DC, 4 RD, 5 IV, 6 LD; 0 refused
  *   stamp      of the transaction, or of an RD
  *   r, w       how many reads and writes there are
  *   key        of an RD
@@ -148,10 +180,22 @@ uint8_t stobbarel_reading_vl(uint64_t f, const uint8_t *bytes, size_t bytes_len)
  *   view       of a list of logs, 0 to 65535; votes have none
  *   count      how many pairs the list has
  * then the keys and versions read, the keys and values written, the boxes and their answers, in the places' order. What a
- * message does not have, every place that is not used, and all of them where the message is refused, are 0. */
+ * message does not have, every place that is not used, and all of them where the message is refused, are 0. An IV and an LD have
+ * no such list: theirs is told by stobbarel_views. */
 uint8_t stobbarel_fields(uint64_t f, const uint8_t *message, size_t message_len, uint64_t head[9], uint16_t reads[8],
                          uint64_t versions[8], uint16_t writes[8], uint64_t values[8], uint8_t numbers[26],
                          uint8_t answers[26]);
+
+/* The views of an IV and the election answers of an LD: 0, or the refusal's number, as stobbarel_reading. The head's five numbers:
+ *   mark       1 PR, 2 LG, 3 DC, 4 RD, 5 IV, 6 LD; 0 refused
+ *   leader     of an LD
+ *   decision   of an LD, 1 commit, 2 abort
+ *   view       of an LD, 0 to 65535
+ *   count      how many boxes are listed
+ * then the boxes, their answers (of an LD; 1 commit, 2 abort) and their views. All but the mark is 0 for any other message, and all of
+ * it where the message is refused; every place that is not used is 0. */
+uint8_t stobbarel_views(uint64_t f, const uint8_t *message, size_t message_len, uint64_t head[5], uint8_t numbers[26],
+                        uint8_t answers[26], uint16_t views[26]);
 
 /* The length of the transaction's bytes inside a message, where they stand from byte 2 on; 0 for a refused message or an RD. */
 size_t stobbarel_part(uint64_t f, const uint8_t *message, size_t message_len);
@@ -160,8 +204,9 @@ size_t stobbarel_part(uint64_t f, const uint8_t *message, size_t message_len);
  *
  * A transaction is lent as its stamp, r and w, and four arrays of eight: the keys and versions read, the keys and values
  * written. A list is lent as its kind (1 votes, 2 logs), decision (1 commit, 2 abort), view and count, and two arrays of 26: the
- * boxes and their answers (1 commit, 2 abort). The first r, w and count places are written; the others may be anything. The view
- * of a list of logs may be any number and is written behind the count; beside votes it is not looked at, and none is written.
+ * boxes and their answers (1 commit, 2 abort). The first r, w and count places are written; the others may be anything. Lists of
+ * logs carry views: that of the list may be any number and is written behind the count; beside votes it is not looked at, and none
+ * is written. What a VS and an EL list is lent with a third array of 26, the view that each box told.
  *
  * Each answers 0, and the record stands at the front of out, `length` bytes of it, the bytes behind it being as they were; or
  * the refusal's number, with length 0 and out unchanged. Any numbers may be lent: what is wrong with them is told by 14 (f,
@@ -203,6 +248,26 @@ static inline uint8_t stobbarel_write_dc(uint64_t f, uint64_t stamp, size_t r, s
                                   answers, out, out_len, length);
 }
 
+/* A VS by itself: the views that boxes told. Its contents are judged for 5, 6. */
+uint8_t stobbarel_write_vs(uint64_t f, size_t count, const uint8_t numbers[26], const uint16_t views[26], uint8_t *out,
+                           size_t out_len, size_t *length);
+
+/* An EL by itself: leader, decision and view of a leader's decision, and the election answers for it. Its contents are judged for 8
+ * (decision, answers), 5 (leader, boxes), 6; whether a box would take it is told by the box (23). */
+uint8_t stobbarel_write_el(uint64_t f, uint8_t leader, uint8_t decision, uint16_t view, size_t count, const uint8_t numbers[26],
+                           const uint8_t answers[26], const uint16_t views[26], uint8_t *out, size_t out_len, size_t *length);
+
+/* IV: a transaction and a VS. */
+uint8_t stobbarel_write_iv(uint64_t f, uint64_t stamp, size_t r, size_t w, const uint16_t reads[8], const uint64_t versions[8],
+                           const uint16_t writes[8], const uint64_t values[8], size_t count, const uint8_t numbers[26],
+                           const uint16_t views[26], uint8_t *out, size_t out_len, size_t *length);
+
+/* LD: a transaction and an EL. */
+uint8_t stobbarel_write_ld(uint64_t f, uint64_t stamp, size_t r, size_t w, const uint16_t reads[8], const uint64_t versions[8],
+                           const uint16_t writes[8], const uint64_t values[8], uint8_t leader, uint8_t decision, uint16_t view,
+                           size_t count, const uint8_t numbers[26], const uint8_t answers[26], const uint16_t views[26],
+                           uint8_t *out, size_t out_len, size_t *length);
+
 /* RD: 12 bytes; 5 or 17. */
 uint8_t stobbarel_write_rd(uint16_t key, uint64_t stamp, uint8_t *out, size_t out_len, size_t *length);
 
@@ -214,9 +279,9 @@ uint8_t stobbarel_thresholds(uint64_t f, uint64_t out[6]);
 
 /* The gateway's tally: a sheet of one kind (1 votes, 2 logs) takes a box's answer (1 commit, 2 abort), the number of the vote or
  * the decision that the box answered; a wait, 3, is refused with 8. Bit b of a mask says that box b gave this answer; a new
- * sheet's masks are 0. A sheet of logs is for one view, that of the list made from it. The gateway keeps the view beside the
- * masks, and which answers belong to that view is its business: the call takes the box and its answer only, and counts what it
- * is given. The reply is five numbers:
+ * sheet's masks are 0. A sheet of logs is for one view, that of the list made from it: a box's log answer tells its view, and logs
+ * of two views are no proof together. The gateway keeps the view beside the masks, and which answers belong to that view is its
+ * business: the call takes the box and its answer only, and counts what it is given. The reply is five numbers:
  *   1 votes    what is lacking, 0 where it is reached: commit list, abort list, commit proof, abort proof
  *   2 logs     what is lacking, 0 where it is reached: commit proof, abort proof, 0, 0
  *   3 repeat   0, 0, 0, 0; the sheet is unchanged
@@ -224,6 +289,34 @@ uint8_t stobbarel_thresholds(uint64_t f, uint64_t out[6]);
  * What is lacking is what a box tells beside 11 of the list made from the sheet. The function's name is new because the numbers have turned
  * round: stobbarel_tally, which it replaces, said 1 for reached and 0 for not. */
 void stobbarel_take(uint8_t kind, uint32_t *commits, uint32_t *aborts, uint64_t f, uint64_t number, uint64_t answer, uint8_t reply[5]);
+
+/* ---- a transaction that a dead gateway left
+ *
+ * A gateway that finds logs of both decisions, or of several views, asks each box what its current view is, by an IV with what it
+ * knows, and sends what it is told in the next IV; box numbers and views go to stobbarel_tell and come back from stobbarel_told. Each
+ * election answer is carried to the leader that it names. That one takes them on a sheet for its transaction and view by
+ * stobbarel_elect, makes the EL of it by stobbarel_election, and sends the LD; what boxes then log is of that view. */
+
+/* A box told its view: for each box on the mask the highest one is kept. 0; or 14, 16 (a box n or more is on the mask), 5 (this
+ * box is n or more, or its view is above 65535), nothing being changed. A new mask is 0. */
+uint8_t stobbarel_tell(uint32_t *told, uint16_t views[26], uint64_t f, uint64_t number, uint64_t view);
+
+/* The boxes on the mask, rising, and their views, as an IV takes them; places that are not used are 0. 0; or 14, 16, all being 0. */
+uint8_t stobbarel_told(uint32_t told, const uint16_t views[26], uint64_t f, size_t *count, uint8_t numbers[26], uint16_t listed[26]);
+
+/* The leader's sheet, for one transaction and one view: it takes a box's election answer, decision (1 commit, 2 abort) and view. Masks
+ * as for stobbarel_take. The reply is two numbers:
+ *   1 taken       how many answers are lacking of the 4f + 1 that an LD needs, 0 where they are reached
+ *   2 other view  0; the answer is for another view, and the sheet is unchanged
+ *   3 repeat      0; the box is on the sheet already, which is unchanged
+ *   4 refused     number (14, 16, 5 or 8); the sheet is unchanged */
+void stobbarel_elect(uint16_t view, uint32_t *commits, uint32_t *aborts, uint64_t f, uint64_t number, uint64_t answer,
+                     uint64_t answer_view, uint8_t reply[2]);
+
+/* The EL of a sheet for the transaction of that stamp: the head is leader, decision, view and count. It lists 4f + 1 answers, those of
+ * the lowest boxes on the sheet, and decides for their majority. 0; or 14, 16, 23 (fewer than 4f + 1 are on the sheet), all being 0. */
+uint8_t stobbarel_election(uint16_t view, uint32_t commits, uint32_t aborts, uint64_t f, uint64_t stamp, uint64_t head[4],
+                           uint8_t numbers[26], uint8_t answers[26], uint16_t views[26]);
 
 /* ---- the passage register
  *

@@ -1,6 +1,7 @@
 /* The paper's bench example by way of the C interface: 50 writes key 3, 60 reads it, an RD shows it. Then a gateway: votes go to
  * its tally as they were answered, a list is logged; the logs of five boxes, on a sheet for view 0, prove the decision. Of the
- * messages two are bytes, the others are written by the engine. */
+ * messages two are bytes, the others are written by the engine. Then a rescue: 70 was left by a gateway that died, and a leader of
+ * view 1 finishes it. */
 #include <stdio.h>
 
 #include "../include/stobbarel.h"
@@ -10,7 +11,7 @@ enum { F = 1, CAPACITY = 8, CLOCK = 100, DELTA = 10 };
 static uint8_t table[STOBBAREL_TABLE_LEN(CAPACITY)];
 static uint64_t marks[STOBBAREL_KEYS], answer[5];
 
-/* Any of the five ways in. */
+/* Any of the seven ways in. */
 typedef void entrance(uint8_t *, size_t, uint64_t *, uint64_t, uint64_t, uint64_t, uint64_t, const uint8_t *, size_t, uint64_t *);
 
 /* Sends a message and shows the answer: the vote, where it is one. */
@@ -31,6 +32,35 @@ static int passage(void) {
     if (stobbarel_report(5, after, values, report) != 0) return 1;
     printf("corrected: hot axle %d\n", (int)report[3]);
     return stobbarel_report(128, before, seen, report) != STOBBAREL_PASSAGE;
+}
+
+/* 70 writes key 4. This box has logged commit of it, boxes 3 and 4 abort: no proof can be made. Told that four boxes are in view 0,
+ * it moves on to view 1 and gives its election answer; the leader has five, three for commit, and the box logs what they say. */
+static int rescue(void) {
+    const uint16_t none[8] = {0}, written[8] = {4};
+    const uint64_t never[8] = {0}, values[8] = {9};
+    const uint8_t boxes[26] = {0, 1, 2, 3}, votes[26] = {1, 1, 1, 1};
+    uint8_t message[STOBBAREL_LONGEST], numbers[26], answers[26], reply[2] = {0};
+    uint32_t told = 0, commits = 0, aborts = 0;
+    uint16_t views[26] = {0}, listed[26];
+    uint64_t head[4];
+    size_t length, count;
+    if (stobbarel_write_lg(F, 70, 0, 1, none, never, written, values, 1, STOBBAREL_COMMIT, 0, 4, boxes, votes, message, sizeof message, &length) != 0) return 1;
+    send(stobbarel_log, message, length);
+    for (uint64_t b = 0; b < 4; b++)
+        if (stobbarel_tell(&told, views, F, b, 0) != 0) return 1;
+    if (stobbarel_told(told, views, F, &count, numbers, listed) != 0) return 1;
+    if (stobbarel_write_iv(F, 70, 0, 1, none, never, written, values, count, numbers, listed, message, sizeof message, &length) != 0) return 1;
+    send(stobbarel_invoke, message, length);
+    uint16_t view = (uint16_t)answer[2]; /* and answer[3] leads it */
+    for (uint64_t b = 0; b < 5; b++) stobbarel_elect(view, &commits, &aborts, F, b, b < 3 ? answer[1] : STOBBAREL_ABORT, view, reply);
+    printf("%d %d\n", reply[0], reply[1]); /* five are enough */
+    if (stobbarel_election(view, commits, aborts, F, 70, head, numbers, answers, listed) != 0) return 1;
+    printf("box %d leads view %d to %d by %d answers\n", (int)head[0], (int)head[2], (int)head[1], (int)head[3]);
+    if (stobbarel_write_ld(F, 70, 0, 1, none, never, written, values, (uint8_t)head[0], (uint8_t)head[1], (uint16_t)head[2], (size_t)head[3], numbers, answers,
+                           listed, message, sizeof message, &length) != 0) return 1;
+    send(stobbarel_lead, message, length);
+    return 0;
 }
 
 int main(void) {
@@ -72,5 +102,6 @@ int main(void) {
     printf("%d %d\n", stobbarel_reading(F, write, length), (int)stobbarel_part(F, write, length));
     if (stobbarel_thresholds(F, needed) != 0) return 1;
     printf("%d boxes: %d %d %d %d %d\n", (int)needed[0], (int)needed[1], (int)needed[2], (int)needed[3], (int)needed[4], (int)needed[5]);
+    if (rescue() != 0) return 1;
     return passage();
 }

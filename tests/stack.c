@@ -1,6 +1,6 @@
 /* How much stack a call takes, all its callees with it: the call is made on a stack of its own, filled with a pattern beforehand, and
  * the bytes that no longer hold the pattern are counted. Prints a line for each call, made by receive and by due; fails where one
- * takes more than half of what the smallest box has (8 KiB). */
+ * takes more than 7 KiB; the smallest box has 8 KiB (docs/STACK.md). */
 #define _GNU_SOURCE
 #include "../include/stobbarel.h"
 #include <stdio.h>
@@ -8,7 +8,7 @@
 #include <string.h>
 #include <ucontext.h>
 
-enum { STACK = 1 << 18, LIMIT = 8192 / 2, CAPACITY = 255, PATTERN = 0xA5 };
+enum { STACK = 1 << 18, LIMIT = 7 * 1024, CAPACITY = 255, PATTERN = 0xA5 };
 
 static uint8_t stack[STACK], table[STOBBAREL_TABLE_LEN(CAPACITY)], message[STOBBAREL_LONGEST];
 static uint64_t marks[STOBBAREL_KEYS], answer[5];
@@ -56,6 +56,31 @@ static size_t transaction(uint8_t *at, uint64_t stamp) {
 }
 
 static uint8_t *list, *pairs;
+
+/* A message with what 26 boxes told: the views of an IV, or the answers of an LD, by the leader of this view. */
+static void tell(const char *letters, uint64_t number, uint64_t stamp, int answers, uint64_t view) {
+    mark = number;
+    memcpy(message, letters, 2);
+    message_len = 2 + transaction(message + 2, stamp);
+    list = message + message_len;
+    memcpy(list, answers == 0 ? "VS" : "EL", 2);
+    uint8_t *at = list + 2;
+    if (answers > 0) {
+        *at++ = (uint8_t)((view + stamp) % 26);
+        *at++ = STOBBAREL_COMMIT;
+        put(at, view, 2);
+        at += 2;
+    }
+    int boxes = answers == 0 ? 26 : answers;
+    *at++ = (uint8_t)boxes;
+    for (int i = 0; i < boxes; i++) {
+        *at++ = (uint8_t)i;
+        if (answers > 0) *at++ = STOBBAREL_COMMIT;
+        put(at, view, 2);
+        at += 2;
+    }
+    message_len = (size_t)(at - message);
+}
 
 /* The message with a list, for a decision. */
 static void say(int decision) {
@@ -141,8 +166,20 @@ int main(void) {
     say(STOBBAREL_ABORT);
     show("DC abort, another body", STOBBAREL_REFUSED, STOBBAREL_OTHER_BODY);
     make("DC", STOBBAREL_DC, 2 * 254, 2);
+    show("DC, a list of 26 logs", STOBBAREL_DONE, 0);
+    make("LG", STOBBAREL_LG, 2 * 254, 1);
+    receive(); /* logged */
+    tell("IV", STOBBAREL_IV, 2 * 254, 0, 6);
+    show("IV, 26 views", STOBBAREL_ELECTED, STOBBAREL_COMMIT);
+    other_body();
+    show("IV, another body", STOBBAREL_REFUSED, STOBBAREL_OTHER_BODY);
+    tell("LD", STOBBAREL_LD, 2 * 254, 21, 6);
+    show("LD, 21 answers", STOBBAREL_LOGGED, STOBBAREL_COMMIT);
+    tell("LD", STOBBAREL_LD, 900, 21, 6);
+    show("LD, 21 answers, the body not held", STOBBAREL_LOGGED, STOBBAREL_COMMIT);
+    tell("LD", STOBBAREL_LD, 900, 26, 6);
     if (message_len != STOBBAREL_LONGEST) return 1;
-    show("DC, a list of 26 logs, the longest message", STOBBAREL_DONE, 0);
+    show("LD, 26 answers, the longest message", STOBBAREL_REFUSED, STOBBAREL_ELECTION);
     mark = STOBBAREL_RD;
     memcpy(message, "RD", 2);
     put(message + 2, 110, 2);

@@ -53,7 +53,7 @@ impl Line {
         let length = write_lg(self.group, tx, &list, &mut buffer)?;
         let mut logs = Sheet::logs(self.group, View(0));
         for (number, answer) in self.send_all(&buffer[..length]).into_iter().enumerate() {
-            let Answer::Logged(decision) = answer else { panic!("an LG was answered {answer:?}") };
+            let Answer::Logged(decision, View(0)) = answer else { panic!("an LG was answered {answer:?}") };
             logs.take(number as u64, decision);
         }
         let length = write_dc(self.group, tx, &self::list(&logs), &mut buffer)?;

@@ -1,7 +1,7 @@
 //! One box of a register, its records, and the gateway's tally: the proved engine behind safe functions.
 //!
 //! ```
-//! use stobbarel::{write_lg, write_pr, write_rd, Answer, Decision, Group, Key, Reply, Sheet, Stamp, Table, Transaction, Version, Vote, LONGEST};
+//! use stobbarel::{write_lg, write_pr, write_rd, Answer, Decision, Group, Key, Reply, Sheet, Stamp, Table, Transaction, Version, View, Vote, LONGEST};
 //!
 //! let group = Group::of(1)?;
 //! let mut table = Table::new(group, 8)?;
@@ -29,12 +29,13 @@
 //!
 //! // The box logs it. What boxes log goes on a sheet of its own, which is for one view: Sheet::logs(group, View(0)).
 //! let length = write_lg(group, &tx, &sheet.list(Decision::Commit), &mut buffer)?;
-//! assert_eq!(table.receive(100, 10, &buffer[..length]), Answer::Logged(Decision::Commit));
+//! assert_eq!(table.receive(100, 10, &buffer[..length]), Answer::Logged(Decision::Commit, View(0)));
 //! # Ok::<(), stobbarel::Refusal>(())
 //! ```
 #![deny(missing_docs)]
 
 mod c;
+mod election;
 /// How a table is laid out, as `include/stobbarel.h` has it.
 #[allow(unused_parens)] // a macro in C needs them
 pub mod layout {
@@ -46,9 +47,11 @@ mod sheet;
 mod table;
 mod terms;
 
+pub use election::{ElectionReply, ElectionSheet, ViewSheet};
 pub use layout::LONGEST;
 pub use passage::{Asks, Passage, Report, Seen, Values};
-pub use records::{check_tx, check_vl, read_message, tx_part, write_dc, write_lg, write_pr, write_rd, write_tx, write_vl, Message, Transaction, VoteList};
+pub use records::{check_el, check_tx, check_vl, check_vs, read_message, tx_part, Election, Message, Transaction, VoteList};
+pub use records::{write_dc, write_el, write_iv, write_ld, write_lg, write_pr, write_rd, write_tx, write_vl, write_vs};
 pub use sheet::{Reply, Sheet};
 pub use table::{Answer, Table, Version, Vote};
 pub use terms::{Decision, Group, Key, Kind, Mark, Reason, Refusal, Stamp, View};

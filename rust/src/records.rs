@@ -39,6 +39,20 @@ impl VoteList {
     }
 }
 
+/// What a view's leader decides, and the election answers that it rests on; a box takes it with exactly 4f + 1 of them, all of its view, by the majority of these. A
+/// leader's sheet makes one ([`ElectionSheet::election`](crate::ElectionSheet::election)).
+#[derive(Clone, Debug, PartialEq, Eq, Hash)]
+pub struct Election {
+    /// The box that leads the view.
+    pub leader: u8,
+    /// What more than half of the answers say.
+    pub decision: Decision,
+    /// The view that it is for.
+    pub view: View,
+    /// Box numbers, strictly rising, what each has logged, and the view that it answered for.
+    pub answers: Vec<(u8, Decision, View)>,
+}
+
 /// A message that was read.
 #[derive(Clone, Debug, PartialEq, Eq, Hash)]
 pub enum Message {
@@ -50,6 +64,10 @@ pub enum Message {
     Decide(Transaction, VoteList),
     /// RD: what stands at a key, below a stamp.
     Read(Key, Stamp),
+    /// IV: a transaction to be finished, and the views that boxes told, their numbers strictly rising.
+    Invoke(Transaction, Vec<(u8, View)>),
+    /// LD: what a view's leader decided.
+    Lead(Transaction, Election),
 }
 
 /// A transaction as it is lent; a count above eight is lent as it is, and refused.
@@ -93,6 +111,32 @@ impl LentList {
             (lent.numbers[i], lent.answers[i]) = (*number, *answer as u8);
         }
         lent
+    }
+}
+
+/// The views of an IV, or the election answers of an LD.
+struct LentViews {
+    count: usize,
+    numbers: [u8; 26],
+    answers: [u8; 26],
+    views: [u16; 26],
+}
+
+impl LentViews {
+    fn of(listed: impl ExactSizeIterator<Item = (u8, u8, View)>) -> LentViews {
+        let mut lent = LentViews { count: listed.len(), numbers: [0; 26], answers: [0; 26], views: [0; 26] };
+        for (i, (number, answer, view)) in listed.take(26).enumerate() {
+            (lent.numbers[i], lent.answers[i], lent.views[i]) = (number, answer, view.0);
+        }
+        lent
+    }
+
+    fn told(views: &[(u8, View)]) -> LentViews {
+        LentViews::of(views.iter().map(|(number, view)| (*number, 0, *view)))
+    }
+
+    fn elected(election: &Election) -> LentViews {
+        LentViews::of(election.answers.iter().map(|(number, answer, view)| (*number, *answer as u8, *view)))
     }
 }
 
@@ -149,6 +193,45 @@ pub fn write_dc(group: Group, tx: &Transaction, list: &VoteList, out: &mut [u8])
     write_listed(Mark::Dc, group, tx, list, out)
 }
 
+/// A VS by itself: the views that boxes told.
+pub fn write_vs(group: Group, views: &[(u8, View)], out: &mut [u8]) -> Result<usize, Refusal> {
+    let l = LentViews::told(views);
+    told(|length| unsafe { c::stobbarel_write_vs(group.f(), l.count, l.numbers.as_ptr(), l.views.as_ptr(), out.as_mut_ptr(), out.len(), length) })
+}
+
+/// An EL by itself: election answers, and what their leader decides.
+pub fn write_el(group: Group, election: &Election, out: &mut [u8]) -> Result<usize, Refusal> {
+    let l = LentViews::elected(election);
+    told(|length| unsafe {
+        c::stobbarel_write_el(
+            group.f(), election.leader, election.decision as u8, election.view.0, l.count, l.numbers.as_ptr(), l.answers.as_ptr(), l.views.as_ptr(),
+            out.as_mut_ptr(), out.len(), length,
+        )
+    })
+}
+
+/// IV.
+pub fn write_iv(group: Group, tx: &Transaction, views: &[(u8, View)], out: &mut [u8]) -> Result<usize, Refusal> {
+    let (x, l) = (LentTx::of(tx), LentViews::told(views));
+    told(|length| unsafe {
+        c::stobbarel_write_iv(
+            group.f(), x.stamp, x.r, x.w, x.reads.as_ptr(), x.versions.as_ptr(), x.writes.as_ptr(), x.values.as_ptr(),
+            l.count, l.numbers.as_ptr(), l.views.as_ptr(), out.as_mut_ptr(), out.len(), length,
+        )
+    })
+}
+
+/// LD.
+pub fn write_ld(group: Group, tx: &Transaction, election: &Election, out: &mut [u8]) -> Result<usize, Refusal> {
+    let (x, l) = (LentTx::of(tx), LentViews::elected(election));
+    told(|length| unsafe {
+        c::stobbarel_write_ld(
+            group.f(), x.stamp, x.r, x.w, x.reads.as_ptr(), x.versions.as_ptr(), x.writes.as_ptr(), x.values.as_ptr(), election.leader,
+            election.decision as u8, election.view.0, l.count, l.numbers.as_ptr(), l.answers.as_ptr(), l.views.as_ptr(), out.as_mut_ptr(), out.len(), length,
+        )
+    })
+}
+
 /// RD.
 pub fn write_rd(key: Key, stamp: Stamp, out: &mut [u8]) -> Result<usize, Refusal> {
     told(|length| unsafe { c::stobbarel_write_rd(key.0, stamp.0, out.as_mut_ptr(), out.len(), length) })
@@ -162,6 +245,44 @@ pub fn check_tx(bytes: &[u8]) -> Result<(), Refusal> {
 /// Whether these bytes are a VL in order.
 pub fn check_vl(group: Group, bytes: &[u8]) -> Result<(), Refusal> {
     Refusal::or_done(unsafe { c::stobbarel_reading_vl(group.f(), bytes.as_ptr(), bytes.len()) })
+}
+
+/// Whether these bytes are a VS in order.
+pub fn check_vs(group: Group, bytes: &[u8]) -> Result<(), Refusal> {
+    Refusal::or_done(unsafe { c::stobbarel_reading_vs(group.f(), bytes.as_ptr(), bytes.len()) })
+}
+
+/// Whether these bytes are an EL in order. Whether a box would take it depends on the transaction too.
+pub fn check_el(group: Group, bytes: &[u8]) -> Result<(), Refusal> {
+    Refusal::or_done(unsafe { c::stobbarel_reading_el(group.f(), bytes.as_ptr(), bytes.len()) })
+}
+
+/// What an answer that was read says.
+fn answered(code: u8) -> Decision {
+    Decision::of(code.into()).expect("what was read has an answer")
+}
+
+/// The election of a message that was read: an IV's has no leader, decision and answers.
+fn read_views(group: Group, message: &[u8]) -> (u8, u8, View, Vec<(u8, u8, View)>) {
+    let (mut head, mut numbers, mut answers, mut views) = ([0; 5], [0; 26], [0; 26], [0; 26]);
+    // Each pointer is to as many numbers as the function takes, and they do not overlap.
+    unsafe { c::stobbarel_views(group.f(), message.as_ptr(), message.len(), head.as_mut_ptr(), numbers.as_mut_ptr(), answers.as_mut_ptr(), views.as_mut_ptr()) };
+    let [_, leader, decision, view, count] = head;
+    let listed = (0..count as usize).map(|i| (numbers[i], answers[i], View(views[i]))).collect();
+    (leader as u8, decision as u8, View(view as u16), listed)
+}
+
+/// The views of an IV.
+fn read_told(group: Group, message: &[u8]) -> Vec<(u8, View)> {
+    let (_, _, _, listed) = read_views(group, message);
+    listed.into_iter().map(|(number, _, view)| (number, view)).collect()
+}
+
+/// The election of an LD.
+fn read_election(group: Group, message: &[u8]) -> Election {
+    let (leader, decision, view, listed) = read_views(group, message);
+    let answers = listed.into_iter().map(|(number, answer, view)| (number, answered(answer), view)).collect();
+    Election { leader, decision: answered(decision), view, answers }
 }
 
 /// A message's values. Without a clock, so never [`Refusal::Ahead`].
@@ -184,15 +305,17 @@ pub fn read_message(group: Group, message: &[u8]) -> Result<Message, Refusal> {
     };
     let list = || VoteList {
         kind: if kind == 1 { Kind::Votes } else { Kind::Logs },
-        decision: Decision::of(decision).expect("a list that was read names a decision"),
+        decision: answered(decision as u8),
         view: View(view as u16),
-        pairs: (0..count as usize).map(|i| (numbers[i], Decision::of(answers[i].into()).expect("a pair that was read has an answer"))).collect(),
+        pairs: (0..count as usize).map(|i| (numbers[i], answered(answers[i]))).collect(),
     };
     Ok(match Mark::of(mark).expect("a message that was read has a mark") {
         Mark::Pr => Message::Prepare(tx),
         Mark::Lg => Message::Log(tx, list()),
         Mark::Dc => Message::Decide(tx, list()),
         Mark::Rd => Message::Read(Key(key as u16), Stamp(stamp)),
+        Mark::Iv => Message::Invoke(tx, read_told(group, message)),
+        Mark::Ld => Message::Lead(tx, read_election(group, message)),
     })
 }
 

@@ -2,7 +2,7 @@
 
 use crate::c;
 use crate::layout::{table_len, KEYS};
-use crate::terms::{Decision, Group, Mark, Reason, Refusal, Stamp};
+use crate::terms::{Decision, Group, Mark, Reason, Refusal, Stamp, View};
 
 /// What a box votes.
 #[derive(Clone, Copy, Debug, PartialEq, Eq, Hash)]
@@ -46,16 +46,25 @@ pub struct Version {
 pub enum Answer {
     /// To a PR.
     Voted(Vote),
-    /// To a PR or an LG: the transaction is decided.
+    /// To a PR, an LG, an IV or an LD: the transaction is decided.
     Decided(Decision),
-    /// To an LG.
-    Logged(Decision),
+    /// To an LG or an LD: what is logged, and the view that it was logged in.
+    Logged(Decision, View),
     /// To a DC.
     Done,
     /// To an RD: the newest writer below that is committed, and the newest that is live and undecided.
     Found(Version, Version),
     /// Nothing was changed.
     Refused(Refusal),
+    /// To an IV: the box's election answer, to be carried to the leader.
+    Elected {
+        /// What the box has logged.
+        decision: Decision,
+        /// The view that it is in now.
+        view: View,
+        /// The box that leads this view.
+        leader: u8,
+    },
 }
 
 impl Answer {
@@ -66,11 +75,14 @@ impl Answer {
             [1, 2, reason, 0, 0] => Answer::Voted(Vote::Abort(Reason::of(reason)?)),
             [1, 3, 0, 0, 0] => Answer::Voted(Vote::Waiting),
             [2, decision, 0, 0, 0] => Answer::Decided(Decision::of(decision)?),
-            [3, decision, 0, 0, 0] => Answer::Logged(Decision::of(decision)?),
+            [3, decision, view, 0, 0] => Answer::Logged(Decision::of(decision)?, View(view.try_into().ok()?)),
             [4, 0, 0, 0, 0] => Answer::Done,
             [5, committed, value, undecided, its] => Answer::Found(version(committed, value), version(undecided, its)),
             [6, 11, lacking @ 1..=26, 0, 0] => Answer::Refused(Refusal::TooFew(lacking as u8)),
             [6, number, 0, 0, 0] => Answer::Refused(Refusal::of(number)?),
+            [7, decision, view, leader, 0] => {
+                Answer::Elected { decision: Decision::of(decision)?, view: View(view.try_into().ok()?), leader: leader.try_into().ok()? }
+            }
             _ => return None,
         })
     }
@@ -119,7 +131,7 @@ impl Table {
 
     // In the two calls below a pointer is to as many numbers as the function takes, and what is lent for writing is this table's own.
 
-    /// Any of the four messages, by its mark.
+    /// Any of the six messages, by its mark.
     pub fn receive(&mut self, clock: u64, delta: u64, message: &[u8]) -> Answer {
         let (f, capacity) = (self.group.f(), self.capacity);
         self.answer(|t, n, k, row| unsafe { c::stobbarel_receive(t, n, k, f, capacity, clock, delta, message.as_ptr(), message.len(), row) })
@@ -136,7 +148,7 @@ impl Table {
         self.due(Mark::Pr, clock, delta, message)
     }
 
-    /// LG: log a decision. A transaction that is not held takes an entry with this log and no vote; a PR for it later is voted on there.
+    /// LG: log a decision, in view 0. A transaction that is not held takes an entry with this log and no vote; a PR for it later is voted on there.
     pub fn log(&mut self, clock: u64, delta: u64, message: &[u8]) -> Answer {
         self.due(Mark::Lg, clock, delta, message)
     }
@@ -149,5 +161,15 @@ impl Table {
     /// RD: what stands at a key; its read mark is raised.
     pub fn read(&mut self, clock: u64, delta: u64, message: &[u8]) -> Answer {
         self.due(Mark::Rd, clock, delta, message)
+    }
+
+    /// IV: move on to the view that the listed views call for, and give an election answer.
+    pub fn invoke(&mut self, clock: u64, delta: u64, message: &[u8]) -> Answer {
+        self.due(Mark::Iv, clock, delta, message)
+    }
+
+    /// LD: log what a view's leader decided, in that view.
+    pub fn lead(&mut self, clock: u64, delta: u64, message: &[u8]) -> Answer {
+        self.due(Mark::Ld, clock, delta, message)
     }
 }

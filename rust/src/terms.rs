@@ -10,7 +10,8 @@ pub struct Stamp(pub u64);
 #[derive(Clone, Copy, Debug, Default, PartialEq, Eq, PartialOrd, Ord, Hash)]
 pub struct Key(pub u16);
 
-/// In which round a decision was logged: any number, 0 for what an LG had logged. A proof from logs is of one view.
+/// A round of the fallback: the one that a decision was logged in, 0 for what an LG had logged, or the one that a box is in for a transaction. A proof from logs is
+/// of one view.
 #[derive(Clone, Copy, Debug, Default, PartialEq, Eq, PartialOrd, Ord, Hash)]
 pub struct View(pub u16);
 
@@ -25,11 +26,15 @@ pub enum Mark {
     Dc = 3,
     /// 4: what stands at a key.
     Rd = 4,
+    /// 5: move on to a view, and give an election answer.
+    Iv = 5,
+    /// 6: log what a view's leader decided.
+    Ld = 6,
 }
 
 impl Mark {
     pub(crate) fn of(number: u64) -> Option<Mark> {
-        [Mark::Pr, Mark::Lg, Mark::Dc, Mark::Rd].into_iter().find(|one| *one as u64 == number)
+        [Mark::Pr, Mark::Lg, Mark::Dc, Mark::Rd, Mark::Iv, Mark::Ld].into_iter().find(|one| *one as u64 == number)
     }
 }
 
@@ -118,6 +123,14 @@ pub enum Refusal {
     Table,
     /// 17: the output buffer is shorter than the record.
     Buffer,
+    /// 21: the box's current view is above that of a leader's decision, or its logged view is not below.
+    Passed,
+    /// 22: the box holds no log for this body, so that it has no election answer to give.
+    NotLogged,
+    /// 23: a leader's decision with a wrong leader, number of answers, view or majority; a leader's sheet with fewer than 4f + 1 answers.
+    Election,
+    /// 24: the new view would pass 65,535.
+    LastView,
     /// 26: a passage above 127.
     Passage,
     /// 27: the committed versions at a passage's four keys are not all equal.
@@ -152,6 +165,10 @@ impl Refusal {
             Ahead => 15,
             Table => 16,
             Buffer => 17,
+            Passed => 21,
+            NotLogged => 22,
+            Election => 23,
+            LastView => 24,
             Passage => 26,
             Versions => 27,
             Direction => 28,
@@ -172,7 +189,7 @@ impl Refusal {
     pub(crate) fn of(number: u64) -> Option<Refusal> {
         use Refusal::*;
         let box_and_gateway = [Short, Mark, Count, Trailing, Range, Order, Misbehaviour, Code, OtherBody, Unknown, Contradiction, Full, Group, Ahead, Table, Buffer];
-        let all = box_and_gateway.into_iter().chain([Passage, Versions, Direction, AxleCount, HotAxle]);
+        let all = box_and_gateway.into_iter().chain([Passed, NotLogged, Election, LastView]).chain([Passage, Versions, Direction, AxleCount, HotAxle]);
         all.into_iter().find(|one| u64::from(one.number()) == number)
     }
 

@@ -18,6 +18,16 @@ fn logs(view: u16, decision: Decision, count: u8) -> VoteList {
     VoteList::logs(View(view), decision, (0..count).map(|number| (number, decision)).collect())
 }
 
+/// So many boxes in this view.
+fn views(view: u16, count: u8) -> Vec<(u8, View)> {
+    (0..count).map(|number| (number, View(view))).collect()
+}
+
+/// So many boxes with one answer for this view.
+fn election(leader: u8, view: u16, decision: Decision, count: u8) -> Election {
+    Election { leader, decision, view: View(view), answers: (0..count).map(|number| (number, decision, View(view))).collect() }
+}
+
 fn bytes(write: impl FnOnce(&mut [u8]) -> Result<usize, Refusal>) -> Vec<u8> {
     let mut buffer = [0; LONGEST];
     let length = write(&mut buffer).unwrap();
@@ -33,7 +43,7 @@ fn a_reader_waits_and_commits() {
     assert_eq!(table.prepare(100, 10, &bytes(|out| write_pr(&writer, out))), Answer::Voted(Vote::Commit));
     assert_eq!(table.prepare(100, 10, &ask), Answer::Voted(Vote::Waiting));
     let logged = bytes(|out| write_lg(group, &writer, &votes(Decision::Commit, 4), out));
-    assert_eq!(table.log(100, 10, &logged), Answer::Logged(Decision::Commit));
+    assert_eq!(table.log(100, 10, &logged), Answer::Logged(Decision::Commit, View(0)));
     let decided = bytes(|out| write_dc(group, &writer, &votes(Decision::Commit, 6), out));
     assert_eq!(table.decide(100, 10, &decided), Answer::Done);
     assert_eq!(table.prepare(100, 10, &ask), Answer::Voted(Vote::Commit));
@@ -63,7 +73,9 @@ fn only_the_message_that_is_due() {
     let x = tx(50, &[], &[(3, 7)]);
     let messages = [
         (Mark::Pr, bytes(|out| write_pr(&x, out)), Answer::Voted(Vote::Commit)),
-        (Mark::Lg, bytes(|out| write_lg(group, &x, &votes(Decision::Commit, 4), out)), Answer::Logged(Decision::Commit)),
+        (Mark::Lg, bytes(|out| write_lg(group, &x, &votes(Decision::Commit, 4), out)), Answer::Logged(Decision::Commit, View(0))),
+        (Mark::Iv, bytes(|out| write_iv(group, &x, &views(0, 4), out)), Answer::Elected { decision: Decision::Commit, view: View(1), leader: 3 }),
+        (Mark::Ld, bytes(|out| write_ld(group, &x, &election(3, 1, Decision::Abort, 5), out)), Answer::Logged(Decision::Abort, View(1))),
         (Mark::Dc, bytes(|out| write_dc(group, &x, &votes(Decision::Commit, 6), out)), Answer::Done),
         (Mark::Rd, bytes(|out| write_rd(Key(3), Stamp(60), out)), Answer::Found(Version { stamp: Stamp(50), value: 7 }, Version { stamp: Stamp(0), value: 0 })),
     ];
@@ -85,12 +97,18 @@ fn a_table_is_laid_out_as_the_header_says() {
     let (mut table, asked) = three_votes(group);
     assert_eq!((table.bytes().len(), table.bytes()[0]), (table_len(3), 3));
     let logged = bytes(|out| write_lg(group, &tx(50, &[], &[(3, 7)]), &votes(Decision::Commit, 4), out));
-    assert_eq!(table.log(100, 10, &logged), Answer::Logged(Decision::Commit));
+    assert_eq!(table.log(100, 10, &logged), Answer::Logged(Decision::Commit, View(0)));
     let aborted = bytes(|out| write_dc(group, &tx(55, &[], &[(3, 8)]), &votes(Decision::Abort, 4), out));
     assert_eq!(table.decide(100, 10, &aborted), Answer::Done);
-    let codes = [[1, 0, 1, 0], [3, 0, 0, 0], [2, 4, 0, 2]];
-    for ((row, codes), message) in table.bytes()[HEAD..].chunks(ROW).zip(codes).zip(asked) {
+    let led = bytes(|out| write_ld(group, &tx(60, &[(3, 50)], &[]), &election(0, 0x0306, Decision::Abort, 5), out));
+    assert_eq!(table.lead(100, 10, &led), Answer::Logged(Decision::Abort, View(0x0306)));
+    let asked_to_move = bytes(|out| write_iv(group, &tx(50, &[], &[(3, 7)]), &views(0x0203, 2), out));
+    assert_eq!(table.invoke(100, 10, &asked_to_move), Answer::Elected { decision: Decision::Commit, view: View(0x0203), leader: 1 });
+    let codes = [[1, 0, 1, 0], [3, 0, 2, 0], [2, 4, 0, 2]];
+    let viewed = [[0, 0, 3, 2], [6, 3, 6, 3], [0, 0, 0, 0]];
+    for (((row, codes), viewed), message) in table.bytes()[HEAD..].chunks(ROW).zip(codes).zip(viewed).zip(asked) {
         assert_eq!([row[VOTE_AT], row[REASON_AT], row[LOG_AT], row[DECIDED_AT]], codes);
+        assert_eq!([row[LOG_VIEW_AT], row[LOG_VIEW_AT + 1], row[VIEW_AT], row[VIEW_AT + 1]], viewed);
         assert_eq!(&row[BODY_AT..BODY_AT + message.len() - 2], &message[2..]);
     }
     let mut full = Table::kept(group, 2, table.bytes().to_vec(), *table.marks());
@@ -108,7 +126,7 @@ fn a_box_that_missed_the_prepare_logs() {
     let logging = |of, decision, count| bytes(|out| write_lg(group, of, &votes(decision, count), out));
     let ask = bytes(|out| write_pr(&x, out));
     assert_eq!(table.log(100, 10, &logging(&x, Decision::Commit, 3)), Answer::Refused(Refusal::TooFew(1)));
-    assert_eq!(table.log(100, 10, &logging(&x, Decision::Commit, 4)), Answer::Logged(Decision::Commit));
+    assert_eq!(table.log(100, 10, &logging(&x, Decision::Commit, 4)), Answer::Logged(Decision::Commit, View(0)));
     let codes = |table: &Table| [VOTE_AT, REASON_AT, LOG_AT, DECIDED_AT].map(|at| table.bytes()[HEAD + at]);
     assert_eq!(codes(&table), [0, 0, 1, 0]);
     assert_eq!(table.log(100, 10, &logging(&y, Decision::Abort, 1)), Answer::Refused(Refusal::TooFew(1)));
@@ -116,7 +134,7 @@ fn a_box_that_missed_the_prepare_logs() {
     // the table is full, and the PR for what is logged needs no room
     assert_eq!(table.prepare(100, 10, &ask), Answer::Voted(Vote::Commit));
     assert_eq!(codes(&table), [1, 0, 1, 0]);
-    assert_eq!(table.log(100, 10, &logging(&x, Decision::Abort, 2)), Answer::Logged(Decision::Commit));
+    assert_eq!(table.log(100, 10, &logging(&x, Decision::Abort, 2)), Answer::Logged(Decision::Commit, View(0)));
 }
 
 #[test]
@@ -139,8 +157,8 @@ fn a_box_lacks_what_the_sheet_lacks() {
             assert_eq!(decided, told(reply.proof_lacks(decision), Answer::Done));
             let mut table = Table::new(group, 1).unwrap();
             let logged = table.log(100, 10, &bytes(|out| write_lg(group, &x, &list, out)));
-            assert_eq!(logged, told(reply.list_lacks(decision), Answer::Logged(decision)));
-            assert_eq!(reply.list_reached(decision), logged == Answer::Logged(decision));
+            assert_eq!(logged, told(reply.list_lacks(decision), Answer::Logged(decision, View(0))));
+            assert_eq!(reply.list_reached(decision), logged == Answer::Logged(decision, View(0)));
         }
     }
 }
@@ -150,6 +168,7 @@ fn refusals_have_the_papers_numbers() {
     use Refusal::*;
     let all = [Short, Mark, Count, Trailing, Range, Order, Misbehaviour, Code, OtherBody, Unknown, TooFew(3), Contradiction, Full, Group, Ahead, Table, Buffer];
     assert_eq!(all.map(Refusal::number), [1, 2, 3, 4, 5, 6, 7, 8, 9, 10, 11, 12, 13, 14, 15, 16, 17]);
+    assert_eq!([Passed, NotLogged, Election, LastView].map(Refusal::number), [21, 22, 23, 24]);
     assert_eq!([Passage, Versions, Direction, AxleCount, HotAxle].map(Refusal::number), [26, 27, 28, 29, 30]);
     assert_eq!(all.iter().filter_map(|one| one.lacking()).collect::<Vec<u8>>(), [3]);
     assert_eq!(TooFew(3).to_string(), "refused 11: TooFew(3)");
@@ -180,7 +199,7 @@ fn what_is_written_is_read() {
     let x = tx(u64::MAX, &all, &all);
     let list = logs(65535, Decision::Abort, 26);
     let message = bytes(|out| write_dc(group, &x, &list, out));
-    assert_eq!(message.len(), LONGEST);
+    assert_eq!(message.len(), 233);
     assert_eq!(read_message(group, &message), Ok(Message::Decide(x.clone(), list.clone())));
     let (part, listed) = (bytes(|out| write_tx(&x, out)), bytes(|out| write_vl(group, &list, out)));
     assert_eq!(tx_part(group, &message), part);
@@ -190,6 +209,30 @@ fn what_is_written_is_read() {
     assert_eq!(read_message(group, &rd), Ok(Message::Read(Key(511), Stamp(1))));
     assert_eq!(read_message(group, &[]), Err(Refusal::Short));
     assert!(tx_part(group, &rd).is_empty());
+}
+
+#[test]
+fn views_and_elections_are_written_and_read() {
+    let group = Group::of(5).unwrap();
+    let all: Vec<(u16, u64)> = (0..8).map(|i| (73 * i, u64::from(i))).collect();
+    let x = tx(u64::MAX, &all, &all);
+    let told: Vec<(u8, View)> = (0..26).map(|number| (number, View(65535 - 300 * u16::from(number)))).collect();
+    let answers = told.iter().map(|(number, view)| (*number, if number % 3 == 0 { Decision::Commit } else { Decision::Abort }, *view)).collect();
+    let election = Election { leader: 25, decision: Decision::Abort, view: View(0x0102), answers };
+    let (iv, ld) = (bytes(|out| write_iv(group, &x, &told, out)), bytes(|out| write_ld(group, &x, &election, out)));
+    assert_eq!((iv.len(), ld.len()), (255, LONGEST));
+    assert_eq!(read_message(group, &iv), Ok(Message::Invoke(x.clone(), told.clone())));
+    assert_eq!(read_message(group, &ld), Ok(Message::Lead(x.clone(), election.clone())));
+    let (part, vs, el) = (bytes(|out| write_tx(&x, out)), bytes(|out| write_vs(group, &told, out)), bytes(|out| write_el(group, &election, out)));
+    assert_eq!((iv, ld), ([b"IV", &part[..], &vs].concat(), [b"LD", &part[..], &el].concat()));
+    assert_eq!((check_vs(group, &vs), check_el(group, &el)), (Ok(()), Ok(())));
+    assert_eq!((check_vs(group, &el), check_el(group, &vs)), (Err(Refusal::Mark), Err(Refusal::Mark)));
+    for end in 0..vs.len() {
+        assert_eq!(check_vs(group, &vs[..end]), Err(Refusal::Short));
+    }
+    for end in 0..el.len() {
+        assert_eq!(check_el(group, &el[..end]), Err(Refusal::Short));
+    }
 }
 
 #[test]

@@ -1,8 +1,8 @@
 //! The bench program once more, as a function of its input, and a bench program held against it.
 
-use crate::messages::{pr, rd, tx, with_list, with_view};
+use crate::messages::{iv, ld, pr, rd, tx, with_list, with_view};
 use crate::mix;
-use crate::model::{self, Answer, Decision, Kind, Settings, MARKS};
+use crate::model::{self, Answer, Decision, Election, Kind, Settings, MARKS};
 use crate::random::Random;
 use std::collections::BTreeMap;
 use std::io::Write;
@@ -37,7 +37,8 @@ pub fn words(answer: Answer) -> String {
         Answer::Abort(reason) => format!("abort {reason}"),
         Answer::Wait => "wait".into(),
         Answer::Decided(decision) => format!("decided {}", decided(decision)),
-        Answer::Logged(decision) => format!("logged {}", decided(decision)),
+        Answer::Logged(decision, view) => format!("logged {} {view}", decided(decision)),
+        Answer::Elected { decision, view, leader } => format!("elect {} {view} {leader}", decided(decision)),
         Answer::Done => "done".into(),
         Answer::Found { committed, undecided } => format!("{} {} {} {}", committed.0, committed.1, undecided.0, undecided.1),
         Answer::TooFew(lacking) => format!("refused 11 {lacking}"),
@@ -91,7 +92,7 @@ pub fn bench(input: &[u8]) -> Vec<u8> {
         if rest.is_empty() {
             break;
         }
-        let mark = rest.get(..2).and_then(|mark| std::str::from_utf8(mark).ok()).filter(|mark| ["GP", "CK", "PR", "LG", "DC", "RD"].contains(mark));
+        let mark = rest.get(..2).and_then(|mark| std::str::from_utf8(mark).ok()).filter(|mark| ["GP", "CK", "PR", "LG", "DC", "RD", "IV", "LD"].contains(mark));
         let (text, taken) = match &mut at_work {
             _ if rest.len() < 2 => refused(1),
             Some(bench) => bench.record(rest),
@@ -215,7 +216,7 @@ fn particular(random: &mut Random) -> Vec<Vec<u8>> {
     // too long, though it would have stopped at once
     inputs.push(vec![b'X'; LONGEST + 1]);
     inputs.push(vec![b'X'; LONGEST]);
-    for first in [&b"G"[..], b"GP", b"CK", b"PR", b"LG", b"DC", b"RD", b"TX", b"VL", b"??", b"\n", b"\xc3\xa9"] {
+    for first in [&b"G"[..], b"GP", b"CK", b"PR", b"LG", b"DC", b"RD", b"IV", b"LD", b"TX", b"VL", b"VS", b"EL", b"??", b"\n", b"\xc3\xa9"] {
         inputs.push(first.to_vec());
         inputs.push([first, &example()[..]].concat());
         inputs.push([&example()[..], first].concat());
@@ -263,10 +264,33 @@ fn views() -> Vec<Vec<u8>> {
     inputs
 }
 
+/// The example's writer logged, then an IV and an LD of it, an RD behind each; the same cut at every byte, and with each byte of what is listed set to others.
+fn fallbacks() -> Vec<Vec<u8>> {
+    let body = tx(50, &[], &[(3, 7)]);
+    let log = with_list(b"LG", &body, Kind::Votes, Decision::Abort, &[(0, Decision::Abort), (5, Decision::Abort)]);
+    let before = [example(), log].concat();
+    let mut inputs = Vec::new();
+    for view in [0, 1, 256, 65535] {
+        let answers = (0..5).map(|number| (number, if number < 3 { Decision::Commit } else { Decision::Abort }, view)).collect();
+        let led = Election { leader: ((50 + u32::from(view)) % 6) as u8, decision: Decision::Commit, view, answers };
+        for message in [iv(&body, &[0, 1, 3, 5].map(|number| (number, view))), iv(&body, &[(2, view), (4, view)]), ld(&body, &led)] {
+            inputs.push([&before[..], &message, &rd(3, 80), &message, &rd(3, 80)].concat());
+            inputs.extend((1..message.len()).map(|end| [&before[..], &message[..end]].concat()));
+            for (place, byte) in (24..message.len()).flat_map(|place| [0, 2, 6, 27, 255].map(|byte| (place, byte))) {
+                let mut other = message.clone();
+                other[place] = byte;
+                inputs.push([&before[..], &other, &rd(3, 80)].concat());
+            }
+        }
+    }
+    inputs
+}
+
 fn inputs(random: &mut Random, runs: u64) -> Vec<Vec<u8>> {
     let mut inputs = particular(random);
     inputs.extend(wrong_bytes());
     inputs.extend(views());
+    inputs.extend(fallbacks());
     for _ in 0..runs {
         let long = random.one_of(&[100, 500, 2000, 2000, 8000]);
         let mut bytes = if random.chance(85) { stream(random, long) } else { filled(random, long) };
@@ -296,13 +320,17 @@ pub fn output(program: &str, input: Vec<u8>) -> Result<Vec<u8>, String> {
 
 const ONE_LACKING: &str = "refused 11 1";
 const MORE_LACKING: &str = "refused 11 and more than 1";
+const FIRST_LOGS: [&str; 2] = ["logged commit 0", "logged abort 0"];
+const LATER_LOGS: [&str; 2] = ["logged commit and a later view", "logged abort and a later view"];
+const ELECTS: [&str; 2] = ["elect commit", "elect abort"];
 
 /// What has to stand in the outputs; refusals 4, 10, 16 and 17 cannot.
 fn due() -> Vec<String> {
-    let fixed = ["ok", "commit", "wait", "decided commit", "decided abort", "logged commit", "logged abort", "done", "found", "too long", ONE_LACKING, MORE_LACKING];
+    let fixed = ["ok", "commit", "wait", "decided commit", "decided abort", "done", "found", "too long", ONE_LACKING, MORE_LACKING];
+    let fixed = fixed.into_iter().chain(FIRST_LOGS).chain(LATER_LOGS).chain(ELECTS);
     let aborts = (1..=6).map(|reason| format!("abort {reason}"));
-    let refusals = (1..=15).filter(|number| ![4, 10, 11].contains(number)).map(|number| format!("refused {number}"));
-    fixed.iter().map(|word| word.to_string()).chain(aborts).chain(refusals).collect()
+    let refusals = (1..=24).filter(|number| ![4, 10, 11].contains(number) && !(16..=20).contains(number)).map(|number| format!("refused {number}"));
+    fixed.map(|word| word.to_string()).chain(aborts).chain(refusals).collect()
 }
 
 fn count(lines: &[u8], counts: &mut BTreeMap<String, u64>) {
@@ -312,6 +340,8 @@ fn count(lines: &[u8], counts: &mut BTreeMap<String, u64>) {
             _ if text.starts_with(|letter: char| letter.is_ascii_digit()) => "found",
             // one lacking, or more, whatever number
             _ if text.starts_with("refused 11 ") && text != ONE_LACKING => MORE_LACKING,
+            _ if text.starts_with("logged ") && !FIRST_LOGS.contains(&text) => LATER_LOGS[usize::from(text.starts_with("logged abort"))],
+            _ if text.starts_with("elect ") => ELECTS[usize::from(text.starts_with("elect abort"))],
             _ => text,
         };
         *counts.entry(name.to_string()).or_default() += 1;

@@ -16,6 +16,10 @@ const SETTINGS: Settings = Settings { f: 1, capacity: 2, clock: u64::MAX, delta:
 const COMMIT_PROOF: &[u8] = b"VL\x01\x01\x06\0\x01\x01\x01\x02\x01\x03\x01\x04\x01\x05\x01";
 const ABORT_PROOF: &[u8] = b"VL\x01\x02\x04\0\x02\x01\x02\x02\x02\x03\x02";
 
+/// Four boxes in view 0; and the leader of view 1, which is box 2^64 mod 6, with five answers.
+const ALL_IN_VIEW_0: &[u8] = b"VS\x04\0\0\0\x01\0\0\x02\0\0\x03\0\0";
+const LED_IN_VIEW_1: &[u8] = b"EL\x04\x01\x01\0\x05\0\x01\x01\0\x01\x01\x01\0\x02\x01\x01\0\x03\x02\x01\0\x04\x02\x01\0";
+
 /// So many reads and writes, with these keys in their order.
 fn body(r: usize, w: usize, keys: &[u16]) -> Vec<u8> {
     let mut bytes = vec![b'T', b'X', r as u8, w as u8];
@@ -85,6 +89,8 @@ fn beside(held: &[u8], other: &[u8]) -> u64 {
     pair.due("PR of another", &[b"PR", other], Answer::Refused(9));
     pair.due("LG of another", &[b"LG", other, COMMIT_PROOF], Answer::Refused(9));
     pair.due("DC abort of another", &[b"DC", other, ABORT_PROOF], Answer::Refused(9));
+    pair.due("IV of another", &[b"IV", other, ALL_IN_VIEW_0], Answer::Refused(9));
+    pair.due("LD of another", &[b"LD", other, LED_IN_VIEW_1], Answer::Refused(9));
     pair.due("DC commit of another replaces it", &[b"DC", other, COMMIT_PROOF], Answer::Done);
     pair.due("PR of the new one", &[b"PR", other], Answer::Decided(Decision::Commit));
     pair.due("PR of the one replaced", &[b"PR", held], Answer::Refused(9));
@@ -94,13 +100,17 @@ fn beside(held: &[u8], other: &[u8]) -> u64 {
 /// The same where an LG stored `held`, which a PR would have given this vote.
 fn beside_logged(held: &[u8], other: &[u8], vote: Answer) -> u64 {
     let mut pair = Pair::new();
-    pair.due("LG of a body not held", &[b"LG", held, COMMIT_PROOF], Answer::Logged(Decision::Commit));
+    pair.due("LG of a body not held", &[b"LG", held, COMMIT_PROOF], Answer::Logged(Decision::Commit, 0));
     if held.len() < other.len() {
         pair.end_of(held.len(), other);
     }
     pair.due("LG of another than the one logged", &[b"LG", other, ABORT_PROOF], Answer::Refused(9));
     pair.due("PR of another than the one logged", &[b"PR", other], Answer::Refused(9));
-    pair.due("LG again", &[b"LG", held, ABORT_PROOF], Answer::Logged(Decision::Commit));
+    pair.due("LG again", &[b"LG", held, ABORT_PROOF], Answer::Logged(Decision::Commit, 0));
+    pair.due("IV of another than the one logged", &[b"IV", other, ALL_IN_VIEW_0], Answer::Refused(9));
+    pair.due("IV of the one logged", &[b"IV", held, ALL_IN_VIEW_0], Answer::Elected { decision: Decision::Commit, view: 1, leader: 4 });
+    pair.due("LD of another than the one logged", &[b"LD", other, LED_IN_VIEW_1], Answer::Refused(9));
+    pair.due("LD of the one logged", &[b"LD", held, LED_IN_VIEW_1], Answer::Logged(Decision::Commit, 1));
     pair.due("PR of the one logged", &[b"PR", held], vote);
     pair.wrong
 }

@@ -2,10 +2,10 @@
 //! cluster, where demand 3 falls with the rule, and always by the comparison with the model. What only its records show of a box has to be noticed there.
 
 use crate::cluster::{self, Counts, Plan};
-use crate::compare::{first_difference, first_difference_in_tally};
+use crate::compare::{first_difference, first_difference_in_ballots, first_difference_in_tally};
 use crate::engine::Entrance;
 use crate::member::{Engine, Member, Model};
-use crate::model::{self, Answer, Reply, Rule, Rules, Settings, Sheet, PAPER};
+use crate::model::{self, Answer, Decision, Election, ElectionReply, ElectionSheet, Reply, Rule, Rules, Settings, Sheet, ViewSheet, PAPER};
 use crate::records;
 use stobbarel::layout::{BODY_AT, HEAD, REASON_AT, ROW, VOTE_AT};
 
@@ -48,8 +48,8 @@ const THRESHOLDS_AND_LISTS: [Broken; 7] = [
     falls("abort list of f", &[Rule::Threshold(1)]),
     falls("commit proof of 5f votes", &[Rule::Threshold(2)]),
     falls("abort proof of 3f votes", &[Rule::Threshold(3)]),
-    // each sound box logs once, and two times 2f + 1 sound boxes are more than there are
-    holds("proof of 4f logs", &[Rule::Threshold(4)], "3f + 1 would do"),
+    // without the fallback 3f + 1 would do: each sound box logs once; with it the others' election answers and the liars' are a majority
+    falls("proof of 4f logs", &[Rule::Threshold(4)]),
     falls("proof of 3f logs", &[Rule::MostLogs]),
     falls("answers against the list's decision are counted", &[Rule::NamedAnswer]),
 ];
@@ -95,11 +95,47 @@ const VIEWS: [Broken; 3] = [
     holds("a reader that takes a view of a kind that is neither", &[Rule::OtherKindsHaveNone], "only the number differs"),
 ];
 
+/// The fallback: readings of it that break demand 3. An LG over any log is among the slips above.
+const FALLBACK: [Broken; 12] = [
+    falls("a leader's decision is taken whatever the logged view is", &[Rule::LogBelow]),
+    falls("a leader's decision is taken with the same logged view", &[Rule::LogStrictlyBelow]),
+    falls("a leader's decision is taken whatever the current view is", &[Rule::NotPassed]),
+    falls("the current view is not stored", &[Rule::ViewStored]),
+    falls("by 3f + 1 views a box goes back", &[Rule::NeverBack]),
+    falls("election answers of a lower view, all of them equal", &[Rule::AnswersOfTheView]),
+    falls("election answers of any views", &[Rule::AnswersOfOneView]),
+    falls("a log answer tells the current view", &[Rule::LogTellsItsView]),
+    falls("an election answer is the vote", &[Rule::ElectsItsLog]),
+    falls("fewer than 4f + 1 election answers", &[Rule::AllAnswer]),
+    falls("a leader's decision that is not the majority's", &[Rule::MajorityDecides]),
+    falls("an LG is logged over a log of a later view", &[Rule::LaterLogStays]),
+];
+
+/// The fallback: what does no harm.
+const FALLBACK_SAFE: [Broken; 13] = [
+    // a majority of more answers is more than 2f
+    holds("more than 4f + 1 election answers", &[Rule::NoMoreAnswer], "their majority is larger"),
+    holds("any box leads any view", &[Rule::LeaderLeads], "who leads proves nothing"),
+    holds("the leader by a sum that wraps at 2^64", &[Rule::WholeSum], "who leads proves nothing"),
+    holds("by 3f + 1 views to that view, not to the one after", &[Rule::ToTheViewAfter], "views are for getting on"),
+    holds("f + 1 views move nobody", &[Rule::FewMove], "views are for getting on"),
+    holds("higher views do not count for lower ones", &[Rule::HigherCount], "views are for getting on"),
+    holds("24 before 22", &[Rule::NotLoggedFirst], "only the number differs"),
+    holds("21 before 23", &[Rule::ElectionFirst], "only the number differs"),
+    holds("13 before 21", &[Rule::PassedBeforeFull], "only the number differs"),
+    holds("a new entry of an LD is in view 0", &[Rule::NewEntryInItsView], "it has given no election answer"),
+    holds("what is decided has no views", &[Rule::DecidedKeepsViews], "it answers Decided"),
+    holds("a body that replaces another is in its view", &[Rule::ReplacedHasNoView], "it answers Decided"),
+    holds("an LG brings a box back to view 0", &[Rule::LogLeavesView], "without a log it has given no election answer"),
+];
+
 /// What a box that does not look at a view never shows, and its readers and writers do; the three above are held against these too.
-const IN_RECORDS: [(&str, Rules); 3] = [
+const IN_RECORDS: [(&str, Rules); 5] = [
     ("a view's higher byte stands first", Rules { broken: &[Rule::LowByteFirst] }),
     ("a reader that gives a view of votes", Rules { broken: &[Rule::VotesReadAsZero] }),
     ("a writer that writes the view lent beside votes", Rules { broken: &[Rule::VotesWrittenWithout] }),
+    ("election answers judged for 5 before 8", Rules { broken: &[Rule::CodeFirst] }),
+    ("a leader that is no box", Rules { broken: &[Rule::LeaderIsABox] }),
 ];
 
 /// Where to look: so many clusters from a seed on.
@@ -159,6 +195,14 @@ fn proved_with_a_late_box(search: Search) -> bool {
     passed
 }
 
+/// Proofs from logs of unequal views: no box's rule, so that the engine itself is held against a judge who counts so.
+fn proofs_of_unequal_views(search: Search) -> bool {
+    let found = search.first_broken(&mut Engine, Rules { broken: &[Rule::EqualViews] }, 0);
+    let seen = found.as_ref().map_or(format!("NOT SEEN in {} clusters  FAILED", search.most), |(at, how)| format!("cluster {at:5}: {how}"));
+    println!("{:75} {seen}", "the engine, with proofs from logs of unequal views");
+    found.is_some()
+}
+
 /// With one liar more than f the engine itself cannot keep demand 3, and the cluster has to see that.
 fn one_liar_too_many(search: Search) -> bool {
     let found = search.first_broken(&mut Engine, PAPER, 1);
@@ -195,6 +239,14 @@ enum Bad {
     TallyTellsReached,
     /// Its tally says what is lacking to the proofs only, and of a list whether it is reached.
     TallyForgetsLists,
+    /// Its leader's sheet takes answers of any view.
+    TakesAnyView,
+    /// Its leader lists all answers that it has.
+    ListsThemAll,
+    /// Its leader decides for commit wherever it can list so many commits.
+    LeadsToCommit,
+    /// Its gateway keeps the last view that a box told.
+    KeepsTheLastView,
 }
 
 impl Member for Bad {
@@ -255,6 +307,40 @@ impl Member for Bad {
             _ => reply,
         })
     }
+
+    fn elect(&mut self, sheet: &mut ElectionSheet, f: u64, number: u64, answer: u64, view: u64) -> Result<ElectionReply, String> {
+        let view = if matches!(self, Bad::TakesAnyView) { sheet.view.into() } else { view };
+        Ok(model::elect(sheet, f, number, answer, view))
+    }
+
+    fn election(&mut self, sheet: &ElectionSheet, f: u64, stamp: u64) -> Result<Election, u8> {
+        let mut made = model::election(sheet, f, stamp)?;
+        match self {
+            Bad::ListsThemAll => {
+                let last = made.answers.last().map_or(0, |one| one.0 + 1);
+                let others = (last..32).filter(|number| (sheet.commits | sheet.aborts) >> number & 1 != 0);
+                made.answers.extend(others.map(|number| (number, if sheet.commits >> number & 1 != 0 { Decision::Commit } else { Decision::Abort }, sheet.view)));
+            }
+            Bad::LeadsToCommit if u64::from(sheet.commits.count_ones()) > 2 * f => {
+                let aborts = sheet.commits.count_ones() as usize;
+                let named = |number: &u8| sheet.commits >> number & 1 != 0;
+                let boxes = (0..32).filter(named).chain((0..32).filter(|number| sheet.aborts >> number & 1 != 0)).take(made.answers.len());
+                made.answers = boxes.enumerate().map(|(place, number)| (number, if place < aborts { Decision::Commit } else { Decision::Abort }, sheet.view)).collect();
+                made.answers.sort_unstable();
+                made.decision = Decision::Commit;
+            }
+            _ => {}
+        }
+        Ok(made)
+    }
+
+    fn tell(&mut self, sheet: &mut ViewSheet, f: u64, number: u64, view: u64) -> Result<(), u8> {
+        model::tell(sheet, f, number, view)?;
+        if matches!(self, Bad::KeepsTheLastView) {
+            sheet.views[number as usize] = view as u16;
+        }
+        Ok(())
+    }
 }
 
 impl Bad {
@@ -286,6 +372,7 @@ fn commit_instead(table: &mut [u8], message: &[u8]) -> Answer {
 fn compared(what: &str, mut one: impl Member, seed: u64, wrong: bool) -> bool {
     let first = first_difference(&mut one, COMPARED, seed).map(|(at, _)| format!("message {at}"));
     let first = first.or_else(|| first_difference_in_tally(&mut one, COMPARED, seed).map(|(at, _)| format!("answer {at} for a sheet")));
+    let first = first.or_else(|| first_difference_in_ballots(&mut one, COMPARED, seed).map(|(at, _)| format!("election answer {at}")));
     let passed = first.is_some() == wrong;
     let seen = first.map_or(format!("agrees on {COMPARED} messages and answers"), |at| format!("refused at {at}"));
     println!("{what:60} {seen}{}", if passed { "" } else { "  FAILED" });
@@ -297,7 +384,7 @@ pub fn check(most: u64, seed: u64) -> bool {
     let search = Search { most, seed };
     println!("a rule broken: the first message at which the comparison differs, the first cluster that sees demand 3 broken");
     let mut passed = true;
-    for broken in SLIPS.iter().chain(&THRESHOLDS_AND_LISTS).chain(&TESTS).chain(&ENTRIES).chain(&LATE).chain(&VIEWS) {
+    for broken in SLIPS.iter().chain(&THRESHOLDS_AND_LISTS).chain(&TESTS).chain(&ENTRIES).chain(&LATE).chain(&VIEWS).chain(&FALLBACK).chain(&FALLBACK_SAFE) {
         passed &= noticed(broken, search);
     }
     for (what, rules) in VIEWS.iter().map(|broken| (broken.what, broken.rules)).chain(IN_RECORDS) {
@@ -305,6 +392,7 @@ pub fn check(most: u64, seed: u64) -> bool {
     }
     passed &= recorded("the engine's records", &Engine, seed, false);
     passed &= proved_with_a_late_box(search);
+    passed &= proofs_of_unequal_views(search);
     passed &= one_liar_too_many(search);
     passed &= compared("a box that refuses all", Bad::RefusesAll, seed, true);
     passed &= compared("a box that votes the same every time", Bad::VotesCommit, seed, true);
@@ -321,6 +409,10 @@ pub fn check(most: u64, seed: u64) -> bool {
     passed &= compared("a box whose LG says what the proof lacks", Bad::LacksTheProof, seed, true);
     passed &= compared("a tally that says 1 for reached", Bad::TallyTellsReached, seed, true);
     passed &= compared("a tally that says of a list only whether it is reached", Bad::TallyForgetsLists, seed, true);
+    passed &= compared("a leader's sheet that takes answers of any view", Bad::TakesAnyView, seed, true);
+    passed &= compared("a leader that lists all the answers it has", Bad::ListsThemAll, seed, true);
+    passed &= compared("a leader that decides for commit where it can", Bad::LeadsToCommit, seed, true);
+    passed &= compared("a gateway that keeps the last view told", Bad::KeepsTheLastView, seed, true);
     passed &= compared("the engine", Engine, seed, false);
     println!("{}", if passed { "each broken rule and each bad box was noticed" } else { "FAILED" });
     passed

@@ -2,15 +2,19 @@
 //! loses, doubles and reorders. After every call demand 3 is judged (judge.rs). Messages come by every entrance, and now and then by
 //! a call that is refused for its mark, its numbers or its table, which must leave the box as it was.
 //!
-//! Lists keep to the demand's premise: under a sound box's number stands only what it gave for exactly this body; under a liar's
-//! number stands anything. A list that names a box twice is sent too: a box has to refuse it.
+//! Lists keep to the demand's premise: under a sound box's number stands only what it gave for exactly this body, a log or an election answer with the decision
+//! and the view that it was given with; under a liar's number stands anything. A list that names a box twice is sent too: a box has to refuse it. The views of an IV
+//! are under no premise. What finishes a transaction that a dead gateway left is in cluster/fallback.rs.
+
+mod fallback;
 
 use crate::engine::Entrance;
 use crate::judge::{Judge, Word};
 use crate::member::Member;
-use crate::messages::{code, pr, rd, transaction, with_view};
-use crate::model::{Answer, Decision, Kind, Reply, Rules, Settings, Sheet, Transaction, PAPER};
+use crate::messages::{code, iv, ld, pr, rd, transaction, with_view};
+use crate::model::{Answer, Decision, Election, ElectionSheet, Kind, Reply, Rules, Settings, Sheet, Transaction, ViewSheet, PAPER};
 use crate::random::Random;
+use fallback::{Lie, Told};
 use std::collections::{BTreeMap, VecDeque};
 use stobbarel::layout::{table_len, HEAD, ROW};
 
@@ -20,8 +24,11 @@ const WAITING: u64 = 3;
 /// What 02 wants: 4f + 1 equal logs, of which one is that of a box that had not held the body when it logged, and no log to spare.
 pub const PROVED_WITH_IT: &str = "a proof from logs, not to be had without such a box";
 
+/// What 02 wants: a proof from logs of a later view than an LG's, and a box has taken it.
+pub const DECIDED_BY_FALLBACK: &str = "a transaction decided by the fallback";
+
 /// What a standard number of runs has to meet.
-const EVENTS: [&str; 67] = [
+const EVENTS: [&str; 94] = [
     "run with f = 1",
     "run with f = 2",
     "run with f = 3",
@@ -54,7 +61,8 @@ const EVENTS: [&str; 67] = [
     "one body logged both ways",
     "done",
     "done, by logs of view 0",
-    "done, by logs of another view",
+    "done, by logs of a later view",
+    DECIDED_BY_FALLBACK,
     "a decision brought to a box that had not seen the body",
     "a held body was replaced",
     "abort 6, the body waited for replaced by one that lacks the key",
@@ -71,10 +79,36 @@ const EVENTS: [&str; 67] = [
     "refused 14",
     "refused 15",
     "refused 16",
+    "refused 21",
+    "refused 22",
+    "refused 23",
+    "refused 24",
     "commit proof from votes",
     "commit proof from logs",
     "abort proof from votes",
     "abort proof from logs",
+    "commit proof from logs of a later view",
+    "abort proof from logs of a later view",
+    "proofs from logs of two views",
+    "a gateway died after a split log",
+    "elect commit",
+    "elect abort",
+    "elected against the own vote",
+    "elected again, in the same view",
+    "moved on by one view",
+    "moved on by more",
+    "logged as a leader decided",
+    "logged as a leader decided, by a box that held nothing",
+    "logged as a leader decided, against its log before",
+    "logged as before, in a later view",
+    "one body logged both ways in one later view",
+    "one body logged in two later views",
+    "a sound leader has decided",
+    "a leader of the liars was elected",
+    "a repeat on a leader's sheet",
+    "an answer of another view for a leader's sheet",
+    "a leader's decision with a lie in it",
+    "a view that was made up",
     "a committed body read a committed version",
     "a second body under one stamp",
     "a second body under one stamp committed",
@@ -130,6 +164,10 @@ impl Counts {
             9 => self.count("refused  9"),
             13 => self.count("refused 13"),
             15 => self.count("refused 15"),
+            21 => self.count("refused 21"),
+            22 => self.count("refused 22"),
+            23 => self.count("refused 23"),
+            24 => self.count("refused 24"),
             _ => self.unlisted += 1,
         }
     }
@@ -168,7 +206,10 @@ struct Sound {
 struct Gateway {
     body: usize,
     votes: Sheet,
-    logs: Sheet,
+    /// For each view that it has heard of.
+    logs: BTreeMap<u16, Sheet>,
+    /// The views that boxes told it.
+    views: ViewSheet,
     alive: bool,
     /// It knows what every gateway has heard, and liars say what it likes.
     sly: bool,
@@ -187,6 +228,12 @@ enum Act {
     LogAt(u32),
     /// RDs of a key at a stamp at these boxes.
     ReadAt(u32, u16, u64),
+    /// The gateway dies.
+    Die,
+    /// An IV at these boxes.
+    InvokeAt(u32, Told),
+    /// A leader's decision in a view at these boxes: this one, if it can be made, or any.
+    LeadAt(u32, u16, Option<Decision>, Lie),
 }
 
 /// A message on its way.
@@ -195,15 +242,41 @@ struct Letter {
     from: usize,
     to: usize,
     mark: [u8; 2],
-    /// Kind, decision, view and answers of an LG's or a DC's list.
-    list: Option<Listed>,
+    load: Load,
+}
+
+/// What a message carries beside the body.
+#[derive(Clone)]
+enum Load {
+    Nothing,
+    List(Listed),
+    Views(Vec<(u8, u16)>),
+    Election(Election),
+}
+
+impl Letter {
+    /// The list of an LG or a DC.
+    fn list(&self) -> Option<&Listed> {
+        match &self.load {
+            Load::List(list) => Some(list),
+            _ => None,
+        }
+    }
+
+    /// What is decided in an LD.
+    fn election(&self) -> Option<&Election> {
+        match &self.load {
+            Load::Election(election) => Some(election),
+            _ => None,
+        }
+    }
 }
 
 #[derive(Clone)]
 struct Listed {
     kind: Kind,
     decision: Decision,
-    /// Of logs, 0 beside votes. All that boxes log is of view 0; a gateway may write another, which a box does not look at.
+    /// Of logs, 0 beside votes.
     view: u16,
     pairs: Vec<(u8, Decision)>,
 }
@@ -219,6 +292,12 @@ struct Seen {
     liars_said: [u32; 2],
     logged_both_ways: bool,
     both_lists: bool,
+    both_ways_later: bool,
+    two_views: bool,
+    two_proofs: bool,
+    by_fallback: bool,
+    /// Sound leaders say nothing of it.
+    slow_leaders: bool,
 }
 
 fn other(decision: Decision) -> Decision {
@@ -253,6 +332,10 @@ struct Cluster<'a> {
     judge: Judge,
     seen: Vec<Seen>,
     gateways: Vec<Gateway>,
+    /// The sheets of sound leaders, for a body and a view, and whether one has decided.
+    leaders: BTreeMap<(usize, u16), (ElectionSheet, bool)>,
+    /// The view that each sound box is known to be in for a body.
+    current: BTreeMap<(usize, usize), u16>,
     letters: Vec<Letter>,
     /// What gateways have in mind, in this order.
     script: VecDeque<(usize, Act)>,
@@ -260,6 +343,8 @@ struct Cluster<'a> {
     base: u64,
     spread: u64,
     most_bodies: usize,
+    /// It begins with a transaction that is left split, and little else goes on meanwhile.
+    quiet: bool,
     /// How far back the message may stand that arrives next.
     window: u64,
 }
@@ -293,9 +378,9 @@ impl<'a> Cluster<'a> {
         keys.dedup();
         let boxes = (0..5 * f + 1).map(|_| Sound::new(&mut random, f, base, spread)).collect();
         let judge = Judge::new(plan.rules, f, liars.count_ones() as usize);
-        let most_bodies = random.between(2, 9) as usize;
+        let (most_bodies, quiet) = (random.between(2, 9) as usize, random.chance(30));
         let window = random.one_of(&[3, 12, 100]);
-        Cluster { one, counts, plan, random, f, liars, boxes, judge, seen: Vec::new(), gateways: Vec::new(), letters: Vec::new(), script: VecDeque::new(), keys, base, spread, most_bodies, window }
+        Cluster { one, counts, plan, random, f, liars, boxes, judge, seen: Vec::new(), gateways: Vec::new(), leaders: BTreeMap::new(), current: BTreeMap::new(), letters: Vec::new(), script: VecDeque::new(), keys, base, spread, most_bodies, quiet, window }
     }
 
     fn lies(&self, number: usize) -> bool {
@@ -335,7 +420,7 @@ impl<'a> Cluster<'a> {
         let (mut entrance, mut wrong) = (random.one_of(&[Entrance::Receive, own]), *settings);
         let (event, due) = match random.below(5) {
             0 => {
-                let others: Vec<u64> = (1..=4).filter(|mark| Entrance::Due(*mark) != own).collect();
+                let others: Vec<u64> = (1..=6).filter(|mark| Entrance::Due(*mark) != own).collect();
                 entrance = Entrance::Due(random.one_of(&others));
                 ("refused  2, another mark due", 2)
             }
@@ -381,10 +466,11 @@ impl<'a> Cluster<'a> {
                 return self.act(from, act);
             }
         }
-        if self.gateways.is_empty() || room && self.random.chance(5) {
+        let [begin, act] = if self.quiet { [1, 2] } else { [5, 15] };
+        if self.gateways.is_empty() || room && self.random.chance(begin) {
             return self.start();
         }
-        if self.letters.is_empty() || room && self.random.chance(15) {
+        if self.letters.is_empty() || room && self.random.chance(act) {
             return self.go_on();
         }
         self.deliver()
@@ -409,9 +495,11 @@ impl Cluster<'_> {
         let known = self.judge.bodies.len() as u64;
         if (known as usize) < self.most_bodies {
             match self.random.below(100) {
+                _ if self.quiet && known == 0 => return self.leave_it_split(),
                 0..=5 => return self.make_a_chain(),
                 6..=11 => return self.show_two_faces(),
                 12..=23 => return self.miss_the_prepare(),
+                24..=31 => return self.leave_it_split(),
                 _ => {}
             }
         }
@@ -434,7 +522,8 @@ impl Cluster<'_> {
     fn gateway(&mut self, body: usize, sly: bool) -> usize {
         let sheet = |kind| Sheet { kind, commits: 0, aborts: 0 };
         let wants = self.random.one_of(&[None, None, None, Some(Decision::Commit), Some(Decision::Abort)]);
-        self.gateways.push(Gateway { body, votes: sheet(1), logs: sheet(2), alive: true, sly, wants });
+        let views = ViewSheet { told: 0, views: [0; 26] };
+        self.gateways.push(Gateway { body, votes: sheet(1), logs: BTreeMap::new(), views, alive: true, sly, wants });
         self.gateways.len() - 1
     }
 
@@ -470,7 +559,7 @@ impl Cluster<'_> {
         let shown = self.random.between(1, self.f);
         for to in 0..self.boxes.len() {
             let from = if self.random.below(self.boxes.len() as u64) < shown { few } else { most };
-            self.letters.push(Letter { from, to, mark: *b"PR", list: None });
+            self.letters.push(Letter { from, to, mark: *b"PR", load: Load::Nothing });
         }
         let later = stamp + self.random.between(1, 2);
         let reader = self.new_gateway(transaction(later, &[(key, stamp)], &[]));
@@ -630,6 +719,12 @@ impl Cluster<'_> {
         if self.seen[self.gateways[from].body].waiting != 0 && self.random.chance(50) {
             self.help_on(from);
         }
+        let logged = self.judge.bodies[self.gateways[from].body].words().any(|word| matches!(word, Word::Log(..)));
+        if logged && self.random.chance(20) {
+            let all = (1u32 << self.boxes.len()) - 1;
+            let act = self.anything(all);
+            return self.act(from, act);
+        }
         let act = self.random.one_of(&[Act::Ask, Act::Ask, Act::Log, Act::Log, Act::Prove]);
         self.act(from, act)
     }
@@ -647,6 +742,9 @@ impl Cluster<'_> {
                     self.read_at(number, key, stamp)?;
                 }
             }
+            Act::Die => self.die(from),
+            Act::InvokeAt(boxes, told) => self.invoke_these(from, numbers(boxes), told),
+            Act::LeadAt(boxes, view, decision, lie) => self.lead_these(from, numbers(boxes), view, decision, lie),
         }
         Ok(())
     }
@@ -682,7 +780,7 @@ impl Cluster<'_> {
 
     fn ask_these(&mut self, from: usize, boxes: Vec<usize>) {
         for to in boxes {
-            self.letters.push(Letter { from, to, mark: *b"PR", list: None });
+            self.letters.push(Letter { from, to, mark: *b"PR", load: Load::Nothing });
         }
     }
 
@@ -695,7 +793,7 @@ impl Cluster<'_> {
     fn ask_these_to_log(&mut self, from: usize, boxes: Vec<usize>) {
         let wants = self.gateways[from].wants;
         let named = wants.unwrap_or(self.random.one_of(&[Decision::Commit, Decision::Abort]));
-        let mut lists = [self.list(from, Kind::Votes, named, true), self.list(from, Kind::Votes, other(named), true)];
+        let mut lists = [self.list(from, Word::Vote(named), true), self.list(from, Word::Vote(other(named)), true)];
         if wants.is_some() {
             lists[1] = None;
         }
@@ -704,7 +802,7 @@ impl Cluster<'_> {
         for to in boxes {
             let pick = usize::from(split && self.random.chance(50));
             if let Some(list) = lists[pick].clone().or(lists[1 - pick].clone()) {
-                self.letters.push(Letter { from, to, mark: *b"LG", list: Some(list) });
+                self.letters.push(Letter { from, to, mark: *b"LG", load: Load::List(list) });
             }
         }
     }
@@ -712,7 +810,7 @@ impl Cluster<'_> {
     fn see_both_lists(&mut self, from: usize) {
         let body = self.gateways[from].body;
         let row = PAPER.row(self.f);
-        let [commits, aborts] = [Decision::Commit, Decision::Abort].map(|named| self.nameable(from, Kind::Votes, named).count_ones() as usize);
+        let [commits, aborts] = [Decision::Commit, Decision::Abort].map(|named| self.nameable(from, Word::Vote(named)).count_ones() as usize);
         if commits >= row[0] && aborts >= row[1] && !self.seen[body].both_lists {
             self.seen[body].both_lists = true;
             self.counts.count("commit list and abort list for one body");
@@ -722,11 +820,10 @@ impl Cluster<'_> {
     fn bring_proof(&mut self, from: usize) {
         let wants = self.gateways[from].wants;
         let mut lists = Vec::new();
-        for kind in [Kind::Votes, Kind::Logs] {
-            for decision in [Decision::Commit, Decision::Abort] {
-                if wants.is_none() || wants == Some(decision) {
-                    lists.extend(self.list(from, kind, decision, false));
-                }
+        for decision in [Decision::Commit, Decision::Abort].into_iter().filter(|decision| wants.is_none() || wants == Some(*decision)) {
+            lists.extend(self.list(from, Word::Vote(decision), false));
+            for view in self.views_logged(from) {
+                lists.extend(self.list(from, Word::Log(decision, view), false));
             }
         }
         if lists.is_empty() {
@@ -734,25 +831,46 @@ impl Cluster<'_> {
         }
         let list = lists.swap_remove(self.random.below(lists.len() as u64) as usize);
         for to in self.some_boxes() {
-            self.letters.push(Letter { from, to, mark: *b"DC", list: Some(list.clone()) });
+            self.letters.push(Letter { from, to, mark: *b"DC", load: Load::List(list.clone()) });
         }
     }
 
-    /// The boxes that a gateway can name with this answer: those on its sheet, or, for a sly one, all that ever gave it and the liars.
-    fn nameable(&self, from: usize, kind: Kind, decision: Decision) -> u32 {
+    /// The boxes that a gateway can name with this vote or log: those on its sheet, or, for a sly one, all that ever gave it and the liars.
+    fn nameable(&self, from: usize, word: Word) -> u32 {
         let gateway = &self.gateways[from];
-        let sheet = if kind == Kind::Votes { &gateway.votes } else { &gateway.logs };
-        match (gateway.sly, decision) {
-            (true, _) => self.judge.bodies[gateway.body].given(kind, decision) | self.liars,
-            (false, Decision::Commit) => sheet.commits,
-            (false, Decision::Abort) => sheet.aborts,
+        if gateway.sly {
+            return self.judge.bodies[gateway.body].given(word) | self.liars;
+        }
+        let on = |sheet: &Sheet, decision| if decision == Decision::Commit { sheet.commits } else { sheet.aborts };
+        match word {
+            Word::Vote(decision) => on(&gateway.votes, decision),
+            Word::Log(decision, view) => gateway.logs.get(&view).map_or(0, |sheet| on(sheet, decision)),
+            Word::Elect(..) => 0,
         }
     }
 
-    /// A list that meets its threshold; now and then one that misses it by one or by more, or makes it up by naming boxes twice.
-    fn list(&mut self, from: usize, kind: Kind, decision: Decision, for_log: bool) -> Option<Listed> {
+    /// The views that a gateway has logs of, or, for a sly one, all that there are.
+    fn views_logged(&self, from: usize) -> Vec<u16> {
+        let gateway = &self.gateways[from];
+        if !gateway.sly {
+            return gateway.logs.keys().copied().collect();
+        }
+        let logged = |word| if let Word::Log(_, view) = word { Some(view) } else { None };
+        let mut views: Vec<u16> = self.judge.bodies[gateway.body].words().filter_map(logged).collect();
+        views.sort_unstable();
+        views.dedup();
+        views
+    }
+
+    /// A list that meets its threshold; now and then one that misses it by one or by more, or makes it up by naming boxes twice. Logs are of one view, the list's.
+    fn list(&mut self, from: usize, word: Word, for_log: bool) -> Option<Listed> {
+        let (kind, decision, view) = match word {
+            Word::Vote(decision) => (Kind::Votes, decision, 0),
+            Word::Log(decision, view) => (Kind::Logs, decision, view),
+            Word::Elect(..) => return None,
+        };
         let needed = needed(if for_log { b"LG" } else { b"DC" }, kind, decision, self.f);
-        let (agree, differ) = (self.nameable(from, kind, decision), self.nameable(from, kind, other(decision)));
+        let (agree, differ) = (self.nameable(from, word), self.nameable(from, Word::of(kind, other(decision), view)));
         let mut pairs: Vec<(u8, Decision)> = Vec::new();
         let beside = self.random.one_of(&[0, 50, 100]);
         for number in 0..self.boxes.len() {
@@ -773,7 +891,6 @@ impl Cluster<'_> {
         }
         let bold = self.gateways[from].wants == Some(decision);
         let short = have + 1 == needed && (bold || self.random.chance(20)) || self.random.chance(4);
-        let view = if kind == Kind::Votes || self.random.chance(70) { 0 } else { self.random.one_of(&[1, 255, 256, 65535]) };
         (twice || have >= needed || short).then_some(Listed { kind, decision, view, pairs }).filter(|list| !list.pairs.is_empty())
     }
 
@@ -833,30 +950,42 @@ impl Cluster<'_> {
         self.hear(&letter, answer)
     }
 
-    /// Each sound box on the list gave what stands there, for exactly this body.
+    /// Each sound box on the list gave what stands there, for exactly this body; the views of an IV are anybody's.
     fn backed(&self, letter: &Letter) -> bool {
         let body = &self.judge.bodies[self.gateways[letter.from].body];
-        letter.list.iter().all(|list| {
-            let gave = |number: u8, answer| body.given(list.kind, answer) & 1 << number != 0;
-            list.pairs.iter().all(|(number, answer)| self.lies(*number as usize) || gave(*number, *answer))
-        })
+        let gave = |number: u8, word| self.lies(number.into()) || body.given(word) & 1 << number != 0;
+        match &letter.load {
+            Load::List(list) => list.pairs.iter().all(|(number, answer)| gave(*number, Word::of(list.kind, *answer, list.view))),
+            Load::Election(election) => election.answers.iter().all(|(number, answer, view)| gave(*number, Word::Elect(*answer, *view))),
+            Load::Nothing | Load::Views(_) => true,
+        }
     }
 
     fn message(&self, letter: &Letter) -> Vec<u8> {
         let body = &self.judge.bodies[self.gateways[letter.from].body].bytes;
-        match &letter.list {
-            None => pr(body),
-            Some(list) => with_view(&letter.mark, body, list.kind, list.decision, list.view, &list.pairs),
+        match &letter.load {
+            Load::Nothing => pr(body),
+            Load::List(list) => with_view(&letter.mark, body, list.kind, list.decision, list.view, &list.pairs),
+            Load::Views(views) => iv(body, views),
+            Load::Election(election) => ld(body, election),
         }
     }
 
     fn tell(&self, letter: &Letter, answer: Answer) {
         let body = self.gateways[letter.from].body;
-        let list = letter.list.as_ref().map_or(String::new(), |list| {
-            let pairs: Vec<String> = list.pairs.iter().map(|(number, answer)| format!("{number}:{}", code(*answer))).collect();
-            let view = if list.kind == Kind::Logs { format!(" of view {}", list.view) } else { String::new() };
-            format!(" {:?}{view} {:?} [{}]", list.kind, list.decision, pairs.join(" "))
-        });
+        let list = match &letter.load {
+            Load::Nothing => String::new(),
+            Load::List(list) => {
+                let pairs: Vec<String> = list.pairs.iter().map(|(number, answer)| format!("{number}:{}", code(*answer))).collect();
+                let view = if list.kind == Kind::Logs { format!(" of view {}", list.view) } else { String::new() };
+                format!(" {:?}{view} {:?} [{}]", list.kind, list.decision, pairs.join(" "))
+            }
+            Load::Views(views) => format!(" views {views:?}"),
+            Load::Election(election) => {
+                let answers: Vec<String> = election.answers.iter().map(|(number, answer, view)| format!("{number}:{}:{view}", code(*answer))).collect();
+                format!(" box {} leads view {} to {:?} [{}]", election.leader, election.view, election.decision, answers.join(" "))
+            }
+        };
         let tx = &self.judge.bodies[body].tx;
         println!("  box {}: {} body {body} (stamp {}, reads {:?}, writes {:?}){list}: {answer:?}", letter.to, String::from_utf8_lossy(&letter.mark), tx.stamp, tx.reads, tx.writes);
     }
@@ -864,7 +993,14 @@ impl Cluster<'_> {
     /// A liar says either, to each gateway what it likes, whatever it was asked.
     fn lie(&mut self, letter: &Letter) -> Result<(), String> {
         let decision = self.random.one_of(&[Decision::Commit, Decision::Abort]);
-        let kind = if &letter.mark == b"LG" { Kind::Logs } else { Kind::Votes };
+        if let Load::Views(_) = letter.load {
+            return self.lie_of_its_view(letter, decision);
+        }
+        let word = match (&letter.mark, letter.election()) {
+            (_, Some(election)) => Word::Log(decision, election.view),
+            (b"LG", _) => Word::Log(decision, 0),
+            _ => Word::Vote(decision),
+        };
         let body = self.gateways[letter.from].body;
         let said = &mut self.seen[body].liars_said;
         let bit = 1 << letter.to;
@@ -872,7 +1008,7 @@ impl Cluster<'_> {
             self.counts.count("a liar told one gateway commit and another abort");
         }
         said[usize::from(decision == Decision::Abort)] |= bit;
-        self.put_on_sheet(letter, Word { kind, decision })
+        self.put_on_sheet(letter, word)
     }
 
     fn put_on_sheet(&mut self, letter: &Letter, word: Word) -> Result<(), String> {
@@ -880,8 +1016,12 @@ impl Cluster<'_> {
         if !gateway.alive {
             return Ok(());
         }
-        let sheet = if word.kind == Kind::Votes { &mut gateway.votes } else { &mut gateway.logs };
-        match self.one.tally(sheet, self.f, letter.to as u64, u64::from(code(word.decision)))? {
+        let (sheet, decision) = match word {
+            Word::Vote(decision) => (&mut gateway.votes, decision),
+            Word::Log(decision, view) => (gateway.logs.entry(view).or_insert(Sheet { kind: 2, commits: 0, aborts: 0 }), decision),
+            Word::Elect(..) => return Ok(()),
+        };
+        match self.one.tally(sheet, self.f, letter.to as u64, u64::from(code(decision)))? {
             Reply::Repeat => self.counts.count("a repeat on a gateway's sheet"),
             Reply::Refused(number) => return Err(format!("a sheet in order was refused {number}")),
             Reply::Votes(lacking) => self.counts.lacking(&lacking),
@@ -919,23 +1059,14 @@ impl Cluster<'_> {
                 self.late(letter, "such a box had the PR later, wait");
                 self.put_wait_on_sheet(letter)
             }
-            Answer::Logged(decision) => self.logged(letter, decision),
+            Answer::Logged(decision, view) => self.logged(letter, decision, view),
+            Answer::Elected { decision, view, leader } => self.elected(letter, decision, view, leader),
             Answer::Decided(decision) => {
                 self.counts.count(if decision == Decision::Commit { "decided commit" } else { "decided abort" });
                 Ok(())
             }
             Answer::Done => {
-                self.counts.count("done");
-                match letter.list.as_ref().filter(|list| list.kind == Kind::Logs).map(|list| list.view) {
-                    Some(0) => self.counts.count("done, by logs of view 0"),
-                    Some(_) => self.counts.count("done, by logs of another view"),
-                    None => {}
-                }
-                match self.boxes[letter.to].held.insert(stamp, body) {
-                    None => self.counts.count("a decision brought to a box that had not seen the body"),
-                    Some(before) if before != body => self.counts.count("a held body was replaced"),
-                    Some(_) => {}
-                }
+                self.done(letter, stamp);
                 Ok(())
             }
             Answer::TooFew(lacking) => self.too_few(letter, lacking),
@@ -947,9 +1078,24 @@ impl Cluster<'_> {
         }
     }
 
+    fn done(&mut self, letter: &Letter, stamp: u64) {
+        let body = self.gateways[letter.from].body;
+        self.counts.count("done");
+        match letter.list().filter(|list| list.kind == Kind::Logs).map(|list| list.view) {
+            Some(0) => self.counts.count("done, by logs of view 0"),
+            Some(_) => self.done_by_fallback(body),
+            None => {}
+        }
+        match self.boxes[letter.to].held.insert(stamp, body) {
+            None => self.counts.count("a decision brought to a box that had not seen the body"),
+            Some(before) if before != body => self.counts.count("a held body was replaced"),
+            Some(_) => {}
+        }
+    }
+
     /// 11: what a box says is lacking is what its threshold has above the answers that count.
     fn too_few(&mut self, letter: &Letter, lacking: u8) -> Result<(), String> {
-        let list = letter.list.as_ref().ok_or("a message without a list was refused with 11")?;
+        let list = letter.list().ok_or("a message without a list was refused with 11")?;
         let counted = list.pairs.iter().filter(|pair| pair.1 == list.decision).count();
         self.counts.count(match lacking {
             _ if counted == 0 => "refused 11, no answer counted",
@@ -981,7 +1127,7 @@ impl Cluster<'_> {
                 self.counts.count("abort 6, the body waited for replaced by one that lacks the key");
             }
         }
-        self.given(letter, Word { kind: Kind::Votes, decision })
+        self.given(letter, Word::Vote(decision))
     }
 
     /// A PR was answered by a box that may have logged the body before.
@@ -1009,25 +1155,26 @@ impl Cluster<'_> {
         self.judge.bodies[body].tx.reads.iter().any(|(key, version)| held(version).is_some_and(|tx| lacks(*key, tx)))
     }
 
-    fn logged(&mut self, letter: &Letter, decision: Decision) -> Result<(), String> {
+    fn logged(&mut self, letter: &Letter, decision: Decision, view: u16) -> Result<(), String> {
         let body = self.gateways[letter.from].body;
         self.counts.count(if decision == Decision::Commit { "logged commit" } else { "logged abort" });
         if self.boxes[letter.to].held.insert(self.judge.bodies[body].tx.stamp, body).is_none() {
-            self.counts.count("logged by a box that missed the prepare");
+            self.counts.count(if view == 0 { "logged by a box that missed the prepare" } else { "logged as a leader decided, by a box that held nothing" });
             self.seen[body].missed |= 1 << letter.to;
             self.seen[body].only_logged |= 1 << letter.to;
         }
-        if letter.list.as_ref().is_some_and(|list| list.decision != decision) {
+        if letter.list().is_some_and(|list| list.decision != decision) {
             self.counts.count("logged as before, against the list");
         }
-        if self.judge.bodies[body].given(Kind::Votes, other(decision)) & 1 << letter.to != 0 {
+        if self.judge.bodies[body].given(Word::Vote(other(decision))) & 1 << letter.to != 0 {
             self.counts.count("logged against the own vote");
         }
-        if self.judge.bodies[body].given(Kind::Logs, other(decision)) != 0 && !self.seen[body].logged_both_ways {
+        if self.judge.bodies[body].given(Word::Log(other(decision), view)) != 0 && !self.seen[body].logged_both_ways {
             self.seen[body].logged_both_ways = true;
             self.counts.count("one body logged both ways");
         }
-        self.given(letter, Word { kind: Kind::Logs, decision })
+        self.logged_in_view(letter, decision, view);
+        self.given(letter, Word::Log(decision, view))
     }
 
     /// A word that a sound box gave: it goes to the gateway, and demand 3 is judged.
@@ -1038,17 +1185,20 @@ impl Cluster<'_> {
         if !self.judge.note(body, letter.to, word)? {
             return Ok(());
         }
-        self.counts.count(match (word.kind, word.decision) {
-            (Kind::Votes, Decision::Commit) => "commit proof from votes",
-            (Kind::Logs, Decision::Commit) => "commit proof from logs",
-            (Kind::Votes, Decision::Abort) => "abort proof from votes",
-            (Kind::Logs, Decision::Abort) => "abort proof from logs",
+        self.counts.count(match word {
+            Word::Vote(Decision::Commit) => "commit proof from votes",
+            Word::Vote(Decision::Abort) => "abort proof from votes",
+            Word::Log(Decision::Commit, 0) => "commit proof from logs",
+            Word::Log(Decision::Abort, 0) => "abort proof from logs",
+            Word::Log(Decision::Commit, _) | Word::Elect(Decision::Commit, _) => "commit proof from logs of a later view",
+            Word::Log(Decision::Abort, _) | Word::Elect(Decision::Abort, _) => "abort proof from logs of a later view",
         });
-        // the judge says so once, when they are just enough
-        if word.kind == Kind::Logs && self.judge.bodies[body].given(Kind::Logs, word.decision) & self.seen[body].missed != 0 {
+        // the judge says so once for a view, when they are just enough
+        if matches!(word, Word::Log(_, 0)) && self.judge.bodies[body].given(word) & self.seen[body].missed != 0 {
             self.counts.count(PROVED_WITH_IT);
         }
-        if word.decision == Decision::Commit && fresh {
+        self.proved_twice(body, word);
+        if matches!(word, Word::Vote(Decision::Commit) | Word::Log(Decision::Commit, _)) && fresh {
             self.newly_committed(body);
         }
         Ok(())
@@ -1078,6 +1228,7 @@ pub fn check(one: &mut dyn Member, runs: u64, seed: u64) -> bool {
     }
     println!("{runs} clusters from seed {seed}, {} calls, demand 3 judged after each", counts.calls);
     let missing = counts.print();
+    println!("{} transactions were decided by the fallback", counts.times(DECIDED_BY_FALLBACK));
     println!("demand 3 held throughout; {missing} events did not occur; {} refusals that cannot be", counts.unlisted);
     missing == 0 && counts.unlisted == 0
 }

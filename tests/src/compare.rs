@@ -4,23 +4,27 @@
 
 use crate::engine::{self, Entrance};
 use crate::member::Member;
-use crate::messages::{tx, with_view};
+use crate::messages::{ld, tx, with_view};
 use crate::mix;
-use crate::model::{self, Answer, Decision, Kind, Reply, Settings, Sheet, MARKS};
+use crate::model::{self, Answer, Decision, ElectionReply, ElectionSheet, Kind, Reply, Settings, Sheet, ViewSheet, MARKS};
 use crate::random::Random;
 use std::collections::BTreeMap;
-use stobbarel::layout::{table_len, HEAD, ROW};
+use stobbarel::layout::{table_len, BODY_AT, HEAD, LOG_AT, LOG_VIEW_AT, ROW};
 
-/// Every answer that has a number, up to 16; 17 is the writers'.
-const ANSWERS: [&str; 30] = [
+/// Every answer to a message; 17 is the writers'.
+const ANSWERS: [&str; 38] = [
     "commit",
     "wait",
     "done",
     "found",
     "decided commit",
     "decided abort",
-    "logged commit",
-    "logged abort",
+    "logged commit, view 0",
+    "logged abort, view 0",
+    "logged commit, a later view",
+    "logged abort, a later view",
+    "elect commit",
+    "elect abort",
     "abort 1",
     "abort 2",
     "abort 3",
@@ -43,6 +47,10 @@ const ANSWERS: [&str; 30] = [
     "refused 14",
     "refused 15",
     "refused 16",
+    "refused 21",
+    "refused 22",
+    "refused 23",
+    "refused 24",
 ];
 
 /// The one that is no longer given.
@@ -56,10 +64,13 @@ fn name(answer: Answer) -> &'static str {
         Answer::Done => 2,
         Answer::Found { .. } => 3,
         Answer::Decided(decision) => 4 + second(decision),
-        Answer::Logged(decision) => 6 + second(decision),
-        Answer::Abort(reason) => 7 + reason as usize,
-        Answer::TooFew(_) => 13 + 11,
-        Answer::Refused(number) => 13 + number as usize,
+        Answer::Logged(decision, 0) => 6 + second(decision),
+        Answer::Logged(decision, _) => 8 + second(decision),
+        Answer::Elected { decision, .. } => 10 + second(decision),
+        Answer::Abort(reason) => 11 + reason as usize,
+        Answer::TooFew(_) => 17 + 11,
+        Answer::Refused(number @ 1..=16) => 17 + number as usize,
+        Answer::Refused(number) => 34 + number as usize - 21,
     }]
 }
 
@@ -71,7 +82,7 @@ fn hex(bytes: &[u8]) -> String {
 fn entrance_for(random: &mut Random, message: &[u8]) -> Entrance {
     match random.below(100) {
         0..=39 => Entrance::Receive,
-        40..=43 => Entrance::Due(random.between(1, 4)),
+        40..=43 => Entrance::Due(random.between(1, 6)),
         44..=45 => Entrance::Due(random.one_of(&Entrance::NO_MARK)),
         _ => message.first_chunk().and_then(Entrance::of).unwrap_or(Entrance::Receive),
     }
@@ -96,7 +107,7 @@ struct Call<'a> {
 }
 
 /// Circumstances that a mixture of calls has to meet.
-const CIRCUMSTANCES: [&str; 15] = [
+const CIRCUMSTANCES: [&str; 29] = [
     "due another mark than the message has",
     "due no mark, and the message is short",
     "due no mark, 14 before it",
@@ -112,11 +123,86 @@ const CIRCUMSTANCES: [&str; 15] = [
     "a list of logs without its view",
     "a list of another kind with two bytes too many",
     "a list of a kind that is neither, cut without a view",
+    "a VS that ends before its count, or inside what it lists",
+    "an EL that ends before its count, or inside what it lists",
+    "a VS or an EL with another count than it lists",
+    "an EL whose leader is no box",
+    "an EL whose decision or answer is no code",
+    "a VS or an EL with a box twice, or falling",
+    "elected in view 0",
+    "elected in view 255 or 256",
+    "elected in view 65534",
+    "elected in the last view",
+    "a leader where view and stamp pass 2^64",
+    "logged by an LD in view 255 or 256",
+    "logged by an LD in the last view",
+    "an entry with a view beside no log",
 ];
+
+/// What stands behind the transaction of a message, as far as its counts can be believed.
+fn behind(message: &[u8]) -> Option<&[u8]> {
+    message.get(14 + 10 * (usize::from(*message.get(4)?) + usize::from(*message.get(5)?))..)
+}
+
+/// What an IV or an LD shows, beside the refusal's number.
+fn told(message: &[u8], refused: u8) -> Option<&'static str> {
+    let listed = behind(message)?;
+    let (election, head, each) = match (message.get(..2)?, listed.get(..2)?) {
+        (b"IV", b"VS") => (false, 3, 3),
+        (b"LD", b"EL") => (true, 7, 4),
+        _ => return None,
+    };
+    let short = refused == 1 && listed.get(head - 1).map_or(true, |count| listed.len() < head + each * usize::from(*count));
+    match refused {
+        1 if short => Some(CIRCUMSTANCES[15 + usize::from(election)]),
+        3 | 4 => Some(CIRCUMSTANCES[17]),
+        5 if election && listed[2] > 25 => Some(CIRCUMSTANCES[18]),
+        8 if election => Some(CIRCUMSTANCES[19]),
+        6 if listed[head..].chunks(each).zip(listed[head + each..].chunks(each)).any(|(one, next)| one[0] >= next[0]) => Some(CIRCUMSTANCES[20]),
+        _ => None,
+    }
+}
+
+/// What an answer shows of views.
+fn in_view(message: &[u8], answer: Answer) -> Option<&'static str> {
+    match answer {
+        Answer::Elected { view, .. } => match view {
+            0 => Some(CIRCUMSTANCES[21]),
+            255 | 256 => Some(CIRCUMSTANCES[22]),
+            65534 => Some(CIRCUMSTANCES[23]),
+            65535 => Some(CIRCUMSTANCES[24]),
+            _ => None,
+        },
+        Answer::Logged(_, view) if message.starts_with(b"LD") => match view {
+            255 | 256 => Some(CIRCUMSTANCES[26]),
+            65535 => Some(CIRCUMSTANCES[27]),
+            _ => None,
+        },
+        _ => None,
+    }
+}
+
+/// View and stamp pass 2^64.
+fn passes(message: &[u8], answer: Answer) -> Option<&'static str> {
+    let stamp = u64::from_le_bytes(message.get(6..14)?.try_into().ok()?);
+    let view = match answer {
+        Answer::Elected { view, .. } => view,
+        Answer::Logged(_, view) if message.starts_with(b"LD") => view,
+        _ => return None,
+    };
+    stamp.checked_add(view.into()).is_none().then_some(CIRCUMSTANCES[25])
+}
+
+/// The message's stamp is held in a row that has a view and no log, and the call stored something there.
+fn beside_no_log(before: &[u8], message: &[u8], answer: Answer) -> Option<&'static str> {
+    let stored = matches!(answer, Answer::Commit | Answer::Abort(_) | Answer::Wait | Answer::Logged(..) | Answer::Done);
+    let row = before.get(HEAD..)?.chunks_exact(ROW).take(before[0].into()).find(|row| message.get(6..14) == Some(&row[BODY_AT + 4..BODY_AT + 12]))?;
+    (stored && row[LOG_AT] == 0 && row[LOG_VIEW_AT..LOG_VIEW_AT + 2] != [0, 0]).then_some(CIRCUMSTANCES[28])
+}
 
 /// What a message's list shows of a view, beside the refusal's number.
 fn viewed(message: &[u8], refused: u8) -> Option<&'static str> {
-    let [mark, rest] = [message.get(..2)?, message.get(14 + 10 * (usize::from(*message.get(4)?) + usize::from(*message.get(5)?))..)?];
+    let [mark, rest] = [message.get(..2)?, behind(message)?];
     let [b'V', b'L', kind, _, count @ 1..=26, rest @ ..] = rest else { return None };
     let pairs = 2 * usize::from(*count);
     match (kind, refused, rest.len()) {
@@ -140,7 +226,7 @@ struct Trail {
     /// 16 has come since.
     interrupted: bool,
     /// The entrances of calls that were not refused: receive, and due for each mark.
-    used: [bool; 5],
+    used: [bool; 7],
 }
 
 impl Trail {
@@ -154,7 +240,8 @@ impl Trail {
             Answer::Refused(number) => number,
             _ => 0,
         };
-        met.extend(viewed(how.message, refused));
+        met.extend(viewed(how.message, refused).into_iter().chain(told(how.message, refused)));
+        met.extend(in_view(how.message, answer).into_iter().chain(passes(how.message, answer)).chain(beside_no_log(before, how.message, answer)));
         let mut meet = |circumstance: &'static str, does: bool| met.extend(does.then_some(circumstance));
         let (mark, taken) = (how.message.first_chunk().filter(|mark| MARKS.contains(mark)), how.entrance.taken());
         let no_mark = taken.is_empty();
@@ -349,7 +436,7 @@ fn told_by_a_box(one: &mut dyn Member, f: u64, sheet: &Sheet, reply: Reply) -> R
     for (place, lacking) in lacking.iter().enumerate() {
         let decision = [Decision::Commit, Decision::Abort][place % 2];
         // a sheet of votes says first what the two lists lack
-        let (mark, taken) = if kind == Kind::Votes && place < 2 { (b"LG", Answer::Logged(decision)) } else { (b"DC", Answer::Done) };
+        let (mark, taken) = if kind == Kind::Votes && place < 2 { (b"LG", Answer::Logged(decision, 0)) } else { (b"DC", Answer::Done) };
         let due = if *lacking == 0 { taken } else { Answer::TooFew(*lacking) };
         let settings = Settings { f, capacity: 1, clock: 0, delta: 0 };
         let message = with_view(mark, &body, kind, decision, view, &answers);
@@ -369,6 +456,127 @@ pub fn first_difference_in_tally(one: &mut dyn Member, count: u64, seed: u64) ->
         if first.is_none() {
             done += 1;
             first = tally(one, slip).1.err().map(|how| (done, how));
+        }
+    });
+    first
+}
+
+/// A leader's sheet, an answer for it, and a stamp to make the election for; a gateway's sheet of views, and what it is told.
+#[derive(Clone, Copy, Debug)]
+struct Ballot {
+    lent: ElectionSheet,
+    views: ViewSheet,
+    f: u64,
+    number: u64,
+    answer: u64,
+    view: u64,
+    stamp: u64,
+}
+
+/// So many of them, for sheets that fill, now and then damaged, each handed to `act`.
+fn for_each_ballot(random: &mut Random, count: u64, mut act: impl FnMut(Ballot)) {
+    let (mut sheet, mut views, mut f) = (ElectionSheet { view: 1, commits: 0, aborts: 0 }, ViewSheet { told: 0, views: [0; 26] }, 1);
+    for _ in 0..count {
+        if random.chance(4) {
+            sheet = ElectionSheet { view: random.one_of(&[0, 1, 2, 255, 256, 65534, 65535]), commits: 0, aborts: 0 };
+            views = ViewSheet { told: 0, views: std::array::from_fn(|_| if random.chance(50) { 0 } else { random.next() as u16 }) };
+            f = random.between(1, 5);
+        }
+        let (mut lent, mut lent_views) = (sheet, views);
+        if random.chance(3) {
+            match random.below(4) {
+                0 => lent.commits |= 1 << random.below(32),
+                1 => lent.aborts |= 1 << random.below(32),
+                2 => (lent.commits, lent.aborts) = (random.next() as u32, random.next() as u32),
+                _ => lent_views.told |= 1 << random.below(32),
+            }
+        }
+        let number = if random.chance(96) { random.below(5 * f + 1) } else { random.one_of(&[5 * f + 1, 5 * f + 2, 26, 31, 32, 64, 255, 256, 1 << 32, u64::MAX]) };
+        let answer = if random.chance(96) { random.between(1, 2) } else { random.one_of(&[0, 3, 255, 256 + 1, (1 << 32) + 2, u64::MAX]) };
+        let own = u64::from(sheet.view);
+        let view = if random.chance(80) { own } else { random.one_of(&[own ^ 1, own + 1, own + 65536, 0, 255, 256, 65535, 65536, u64::MAX]) };
+        let given_f = if random.chance(99) { f } else { random.one_of(&[0, 6, 255, 257, u64::MAX]) };
+        let any = random.next().max(1);
+        let stamp = random.one_of(&[1, 50, u64::MAX - 65535, u64::MAX, any]);
+        act(Ballot { lent, views: lent_views, f: given_f, number, answer, view, stamp });
+        if lent == sheet && given_f == f {
+            model::elect(&mut sheet, f, number, answer, view);
+            let _ = model::tell(&mut views, f, number, view);
+        }
+    }
+}
+
+/// A ballot for the box's sheets and for the model's: what is due of each of the four calls. An error says how the two differ.
+fn ballot(one: &mut dyn Member, ballot: Ballot) -> (ElectionSheet, [String; 4], Result<(), String>) {
+    let Ballot { lent, views, f, number, answer, view, stamp } = ballot;
+    let (mut got, mut due, mut got_views, mut due_views) = (lent, lent, views, views);
+    let (reply, reply_due) = (one.elect(&mut got, f, number, answer, view), model::elect(&mut due, f, number, answer, view));
+    let (made, made_due) = (one.election(&got, f, stamp), model::election(&due, f, stamp));
+    let (tell, tell_due) = (one.tell(&mut got_views, f, number, view), model::tell(&mut due_views, f, number, view));
+    let (told, told_due) = (one.told(&got_views, f), model::told(&due_views, f));
+    let named = |of: &str, number: Option<u8>| number.map_or(format!("{of}, made"), |number| format!("{of}, refused {number:2}"));
+    let names = [
+        match reply_due {
+            ElectionReply::Taken(0) => "elect, reached".into(),
+            ElectionReply::Taken(_) => "elect, lacking".into(),
+            ElectionReply::Refused(number) => format!("elect, refused {number:2}"),
+            other => format!("elect, {other:?}"),
+        },
+        named("election", made_due.as_ref().err().copied()),
+        named("tell", tell_due.err()),
+        named("told", told_due.as_ref().err().copied()),
+    ];
+    let same = reply == Ok(reply_due) && got == due && made == made_due && tell == tell_due && told == told_due && got_views == due_views;
+    let how = || format!("{ballot:?}: box {reply:?} {got:?} {made:?} {tell:?} {told:?} {got_views:?}, model {reply_due:?} {due:?} {made_due:?} {tell_due:?} {told_due:?} {due_views:?}");
+    (due, names, if same { Ok(()) } else { Err(how()) })
+}
+
+/// Every answer that the four have to give.
+const BALLOTS: [&str; 19] = [
+    "elect, lacking",
+    "elect, reached",
+    "elect, OtherView",
+    "elect, Repeat",
+    "elect, refused 14",
+    "elect, refused 16",
+    "elect, refused  5",
+    "elect, refused  8",
+    "election, made",
+    "election, refused 14",
+    "election, refused 16",
+    "election, refused 23",
+    "tell, made",
+    "tell, refused 14",
+    "tell, refused 16",
+    "tell, refused  5",
+    "told, made",
+    "told, refused 14",
+    "told, refused 16",
+];
+
+/// What a leader's sheet makes is what a box takes: an LD with it, to an empty box. One of view 0 is refused for its view, and no box's log is of that view by an LD.
+fn led_by_a_box(one: &mut dyn Member, f: u64, sheet: &ElectionSheet, stamp: u64) -> Result<usize, String> {
+    let Ok(made) = one.election(sheet, f, stamp) else { return Ok(2) };
+    let settings = Settings { f, capacity: 1, clock: 0, delta: 0 };
+    let message = ld(&tx(stamp, &[], &[(3, 7)]), &made);
+    let given = one.call(Entrance::Receive, &mut vec![0; table_len(1)], &mut vec![0; 512], &settings, &message)?;
+    let due = if made.view == 0 { Answer::Refused(21) } else { Answer::Logged(made.decision, made.view) };
+    if given != due {
+        return Err(format!("f {f}, {sheet:?}, stamp {stamp}: of its election {made:?} the box says {given:?}"));
+    }
+    Ok(usize::from(made.view == 0))
+}
+
+/// What becomes of an election made from a leader's sheet.
+const LEADER_AND_BOX: [&str; 2] = ["the election of a leader's sheet, taken", "the election of a leader's sheet for view 0, refused for its view"];
+
+/// The first of these on which a box differs from the model, counted from 1, and how.
+pub fn first_difference_in_ballots(one: &mut dyn Member, count: u64, seed: u64) -> Option<(u64, String)> {
+    let (mut done, mut first) = (0, None);
+    for_each_ballot(&mut Random::new(seed), count, |slip| {
+        if first.is_none() {
+            done += 1;
+            first = ballot(one, slip).2.err().map(|how| (done, how));
         }
     });
     first
@@ -437,6 +645,21 @@ impl Counts {
     }
 }
 
+impl Counts {
+    fn ballots(&mut self, one: &mut dyn Member, random: &mut Random, count: u64) {
+        for_each_ballot(random, count, |slip| {
+            let (sheet, names, agreed) = ballot(one, slip);
+            for name in names {
+                *self.replies.entry(name).or_default() += 1;
+            }
+            match agreed.and_then(|()| led_by_a_box(one, slip.f, &sheet, slip.stamp)) {
+                Ok(place) => LEADER_AND_BOX.get(place).into_iter().for_each(|case| *self.cases.entry(case).or_default() += 1),
+                Err(how) => self.disagreement(how),
+            }
+        });
+    }
+}
+
 /// Prints how often each of these occurred; how many did not.
 fn print(times: &BTreeMap<&'static str, u64>, due: &[&'static str]) -> u64 {
     let mut missing = 0;
@@ -448,7 +671,7 @@ fn print(times: &BTreeMap<&'static str, u64>, due: &[&'static str]) -> u64 {
     missing
 }
 
-/// So many messages, and a quarter as many answers for tally sheets. False where anything differs or did not occur.
+/// So many messages, a quarter as many answers for tally sheets, and as many for those of the fallback. False where anything differs or did not occur.
 pub fn check(one: &mut dyn Member, count: u64, seed: u64) -> bool {
     let mut random = Random::new(seed);
     let mut counts = Counts::default();
@@ -467,6 +690,15 @@ pub fn check(one: &mut dyn Member, count: u64, seed: u64) -> bool {
         println!("{times:9}  {reply}");
     }
     missing += print(&counts.cases, &SHEET_AND_BOX);
+    counts.replies.clear();
+    counts.ballots(one, &mut random, count / 4);
+    println!("{} election answers and views for a leader's sheet and a gateway's", count / 4);
+    for reply in BALLOTS {
+        let times = counts.replies.get(reply).copied().unwrap_or(0);
+        println!("{times:9}  {reply}{}", if times == 0 { "  DID NOT OCCUR" } else { "" });
+        missing += u64::from(times == 0);
+    }
+    missing += print(&counts.cases, &LEADER_AND_BOX);
     println!("{} disagreements, {missing} answers, cases or circumstances did not occur", counts.disagreements);
     counts.disagreements == 0 && missing == 0 && never == 0
 }

@@ -1,6 +1,6 @@
 //! The engine's C functions, and one call of them on copies between guards.
 
-use crate::model::{Answer, Decision, Draft, ListDraft, Record, Reply, Settings, Sheet, MARKS};
+use crate::model::{Answer, Decision, Draft, Election, ElectionReply, ElectionSheet, ListDraft, Record, Reply, Settings, Sheet, ViewSheet, ViewsDraft, MARKS};
 
 #[allow(improper_ctypes)]
 extern "C" {
@@ -11,13 +11,24 @@ extern "C" {
     fn stobbarel_take(kind: u8, commits: *mut u32, aborts: *mut u32, f: u64, number: u64, answer: u64, reply: *mut u8);
     fn stobbarel_reading_tx(bytes: *const u8, bytes_len: usize) -> u8;
     fn stobbarel_reading_vl(f: u64, bytes: *const u8, bytes_len: usize) -> u8;
+    fn stobbarel_reading_vs(f: u64, bytes: *const u8, bytes_len: usize) -> u8;
+    fn stobbarel_reading_el(f: u64, bytes: *const u8, bytes_len: usize) -> u8;
+    fn stobbarel_views(f: u64, message: *const u8, message_len: usize, head: *mut u64, numbers: *mut u8, answers: *mut u8, views: *mut u16) -> u8;
     fn stobbarel_fields(f: u64, message: *const u8, message_len: usize, head: *mut u64, reads: *mut u16, versions: *mut u64, writes: *mut u16, values: *mut u64, numbers: *mut u8, answers: *mut u8) -> u8;
     fn stobbarel_write_tx(stamp: u64, r: usize, w: usize, reads: *const u16, versions: *const u64, writes: *const u16, values: *const u64, out: *mut u8, out_len: usize, length: *mut usize) -> u8;
     fn stobbarel_write_vl(f: u64, kind: u8, decision: u8, view: u16, count: usize, numbers: *const u8, answers: *const u8, out: *mut u8, out_len: usize, length: *mut usize) -> u8;
     fn stobbarel_write_pr(stamp: u64, r: usize, w: usize, reads: *const u16, versions: *const u64, writes: *const u16, values: *const u64, out: *mut u8, out_len: usize, length: *mut usize) -> u8;
     fn stobbarel_write_listed(mark: u64, f: u64, stamp: u64, r: usize, w: usize, reads: *const u16, versions: *const u64, writes: *const u16, values: *const u64, kind: u8, decision: u8, view: u16, count: usize, numbers: *const u8, answers: *const u8, out: *mut u8, out_len: usize, length: *mut usize) -> u8;
+    fn stobbarel_write_vs(f: u64, count: usize, numbers: *const u8, views: *const u16, out: *mut u8, out_len: usize, length: *mut usize) -> u8;
+    fn stobbarel_write_el(f: u64, leader: u8, decision: u8, view: u16, count: usize, numbers: *const u8, answers: *const u8, views: *const u16, out: *mut u8, out_len: usize, length: *mut usize) -> u8;
+    fn stobbarel_write_iv(f: u64, stamp: u64, r: usize, w: usize, reads: *const u16, versions: *const u64, writes: *const u16, values: *const u64, count: usize, numbers: *const u8, views: *const u16, out: *mut u8, out_len: usize, length: *mut usize) -> u8;
+    fn stobbarel_write_ld(f: u64, stamp: u64, r: usize, w: usize, reads: *const u16, versions: *const u64, writes: *const u16, values: *const u64, leader: u8, decision: u8, view: u16, count: usize, numbers: *const u8, answers: *const u8, views: *const u16, out: *mut u8, out_len: usize, length: *mut usize) -> u8;
     fn stobbarel_write_rd(key: u16, stamp: u64, out: *mut u8, out_len: usize, length: *mut usize) -> u8;
     fn stobbarel_thresholds(f: u64, out: *mut u64) -> u8;
+    fn stobbarel_elect(view: u16, commits: *mut u32, aborts: *mut u32, f: u64, number: u64, answer: u64, answer_view: u64, reply: *mut u8);
+    fn stobbarel_election(view: u16, commits: u32, aborts: u32, f: u64, stamp: u64, head: *mut u64, numbers: *mut u8, answers: *mut u8, views: *mut u16) -> u8;
+    fn stobbarel_tell(told: *mut u32, views: *mut u16, f: u64, number: u64, view: u64) -> u8;
+    fn stobbarel_told(told: u32, views: *const u16, f: u64, count: *mut usize, numbers: *mut u8, listed: *mut u16) -> u8;
 }
 
 /// By which function a message comes.
@@ -31,20 +42,21 @@ pub enum Entrance {
 
 impl Entrance {
     /// Numbers that are no mark's; some would be one if their upper half were dropped.
-    pub const NO_MARK: [u64; 7] = [0, 5, 9, 255, 256 + 1, (1 << 32) + 2, u64::MAX];
+    pub const NO_MARK: [u64; 7] = [0, 7, 9, 255, 256 + 1, (1 << 32) + 2, u64::MAX];
 
     /// The one for messages with this mark alone.
     pub fn of(mark: &[u8; 2]) -> Option<Entrance> {
         MARKS.iter().position(|one| *one == mark).map(|place| Entrance::Due(place as u64 + 1))
     }
 
-    pub const NAMES: [&'static str; 6] = ["by receive", "by due, PR", "by due, LG", "by due, DC", "by due, RD", "by due, a number that is no mark"];
+    pub const NAMES: [&'static str; 8] =
+        ["by receive", "by due, PR", "by due, LG", "by due, DC", "by due, RD", "by due, IV", "by due, LD", "by due, a number that is no mark"];
 
     pub fn name(self) -> &'static str {
         match self {
             Entrance::Receive => Self::NAMES[0],
-            Entrance::Due(number @ 1..=4) => Self::NAMES[number as usize],
-            Entrance::Due(_) => Self::NAMES[5],
+            Entrance::Due(number @ 1..=6) => Self::NAMES[number as usize],
+            Entrance::Due(_) => Self::NAMES[7],
         }
     }
 
@@ -52,29 +64,33 @@ impl Entrance {
     pub fn taken(self) -> &'static [&'static [u8; 2]] {
         match self {
             Entrance::Receive => &MARKS,
-            Entrance::Due(number @ 1..=4) => &MARKS[number as usize - 1..number as usize],
+            Entrance::Due(number @ 1..=6) => &MARKS[number as usize - 1..number as usize],
             Entrance::Due(_) => &[],
         }
     }
 }
 
-/// The five numbers as an answer; none where they say no answer.
-pub fn answer_of(out: [u64; 5]) -> Option<Answer> {
-    let decision = |code| match code {
+fn decision(code: u64) -> Option<Decision> {
+    match code {
         1 => Some(Decision::Commit),
         2 => Some(Decision::Abort),
         _ => None,
-    };
+    }
+}
+
+/// The five numbers as an answer; none where they say no answer.
+pub fn answer_of(out: [u64; 5]) -> Option<Answer> {
     match out {
         [1, 1, 0, 0, 0] => Some(Answer::Commit),
         [1, 2, reason @ 1..=6, 0, 0] => Some(Answer::Abort(reason as u8)),
         [1, 3, 0, 0, 0] => Some(Answer::Wait),
         [2, code, 0, 0, 0] => decision(code).map(Answer::Decided),
-        [3, code, 0, 0, 0] => decision(code).map(Answer::Logged),
+        [3, code, view @ 0..=65535, 0, 0] => decision(code).map(|decision| Answer::Logged(decision, view as u16)),
         [4, 0, 0, 0, 0] => Some(Answer::Done),
         [5, a, b, c, d] => Some(Answer::Found { committed: (a, b), undecided: (c, d) }),
         [6, 11, lacking @ 1..=26, 0, 0] => Some(Answer::TooFew(lacking as u8)),
-        [6, number @ (1..=10 | 12..=17), 0, 0, 0] => Some(Answer::Refused(number as u8)),
+        [6, number @ (1..=10 | 12..=17 | 21..=24), 0, 0, 0] => Some(Answer::Refused(number as u8)),
+        [7, code, view @ 0..=65535, leader @ 0..=25, 0] => decision(code).map(|decision| Answer::Elected { decision, view: view as u16, leader: leader as u8 }),
         _ => None,
     }
 }
@@ -140,8 +156,72 @@ pub fn tally(sheet: &mut Sheet, f: u64, number: u64, answer: u64) -> Option<Repl
     }
 }
 
+/// One election answer for a leader's sheet; none where the two numbers say no reply.
+pub fn elect(sheet: &mut ElectionSheet, f: u64, number: u64, answer: u64, view: u64) -> Option<ElectionReply> {
+    let mut out = [99u8; 3];
+    unsafe { stobbarel_elect(sheet.view, &mut sheet.commits, &mut sheet.aborts, f, number, answer, view, out.as_mut_ptr()) }
+    match out {
+        [1, lacking, 99] => Some(ElectionReply::Taken(lacking)),
+        [2, 0, 99] => Some(ElectionReply::OtherView),
+        [3, 0, 99] => Some(ElectionReply::Repeat),
+        [4, number, 99] => Some(ElectionReply::Refused(number)),
+        _ => None,
+    }
+}
+
+/// What a leader's sheet makes for a stamp, over what stood there before; the refusal 255 where the numbers say no election, or places beside it are not 0.
+pub fn election(sheet: &ElectionSheet, f: u64, stamp: u64) -> Result<Election, u8> {
+    let (mut head, mut numbers, mut answers, mut views) = ([99; 5], [99; 26], [99; 26], [99; 26]);
+    let number = unsafe {
+        stobbarel_election(sheet.view, sheet.commits, sheet.aborts, f, stamp, head.as_mut_ptr(), numbers.as_mut_ptr(), answers.as_mut_ptr(), views.as_mut_ptr())
+    };
+    let [leader, code, view, count, behind] = head;
+    let listed: Vec<(u8, u8, u16)> = (0..26).map(|i| (numbers[i], answers[i], views[i])).collect();
+    if behind != 99 || count > 26 || listed[count as usize..].iter().any(|place| *place != (0, 0, 0)) {
+        return Err(255);
+    }
+    if number != 0 {
+        return Err(if [leader, code, view, count] == [0; 4] { number } else { 255 });
+    }
+    let answers = listed[..count as usize].iter().map(|(number, code, view)| Some((*number, decision((*code).into())?, *view))).collect::<Option<_>>();
+    match (u8::try_from(leader), decision(code), u16::try_from(view), answers) {
+        (Ok(leader), Some(decision), Ok(view), Some(answers)) => Ok(Election { leader, decision, view, answers }),
+        _ => Err(255),
+    }
+}
+
+/// A box told its view: the refusal's number, or 0.
+pub fn tell(sheet: &mut ViewSheet, f: u64, number: u64, view: u64) -> u8 {
+    unsafe { stobbarel_tell(&mut sheet.told, sheet.views.as_mut_ptr(), f, number, view) }
+}
+
+/// The boxes and views of a sheet, over what stood there before; the refusal 255 where places beside them are not 0.
+pub fn told(sheet: &ViewSheet, f: u64) -> Result<Vec<(u8, u16)>, u8> {
+    let (mut count, mut numbers, mut listed) = (99, [99; 26], [99; 26]);
+    let number = unsafe { stobbarel_told(sheet.told, sheet.views.as_ptr(), f, &mut count, numbers.as_mut_ptr(), listed.as_mut_ptr()) };
+    let all: Vec<(u8, u16)> = numbers.into_iter().zip(listed).collect();
+    match number {
+        _ if count > 26 || all[count..].iter().any(|place| *place != (0, 0)) => Err(255),
+        0 => Ok(all[..count].to_vec()),
+        number => Err(if count == 0 { number } else { 255 }),
+    }
+}
+
 fn split<A: Copy + Default, B: Copy + Default, const N: usize>(pairs: &[(A, B); N]) -> ([A; N], [B; N]) {
     (pairs.map(|pair| pair.0), pairs.map(|pair| pair.1))
+}
+
+/// What a record is made of; zeros for what it does not have.
+fn drafts(record: &Record) -> (Draft, ListDraft, ViewsDraft) {
+    let (tx, list, told) = (Draft::default(), ListDraft::default(), ViewsDraft::default());
+    match record {
+        Record::Tx(draft) | Record::Pr(draft) => (*draft, list, told),
+        Record::Vl(list) => (tx, *list, told),
+        Record::Listed(_, draft, list) => (*draft, *list, told),
+        Record::Rd { .. } => (tx, list, told),
+        Record::Vs(told) | Record::El(told) => (tx, list, *told),
+        Record::Iv(draft, told) | Record::Ld(draft, told) => (*draft, list, *told),
+    }
 }
 
 /// One writer on a copy of the buffer between guards, which becomes what the engine left: the number and the length.
@@ -149,19 +229,16 @@ pub fn write(record: &Record, f: u64, out: &mut Vec<u8>) -> Result<(u8, usize), 
     let mut room = vec![0xa5u8; out.len() + 2 * GUARD];
     room[GUARD..GUARD + out.len()].copy_from_slice(out);
     let mut length = usize::MAX;
-    let none = (Draft::default(), ListDraft::default());
-    let (draft, list) = match record {
-        Record::Tx(draft) | Record::Pr(draft) => (*draft, none.1),
-        Record::Vl(list) => (none.0, *list),
-        Record::Listed(_, draft, list) => (*draft, *list),
-        Record::Rd { .. } => none,
-    };
-    let lent = (split(&draft.reads), split(&draft.writes), split(&list.pairs));
+    let (draft, list, told) = drafts(record);
+    let ballots = (told.ballots.map(|one| one.0), told.ballots.map(|one| one.1), told.ballots.map(|one| one.2));
+    let lent = (split(&draft.reads), split(&draft.writes), split(&list.pairs), ballots);
     let copy = lent;
-    let ((k, v), (l, u), (b, a)) = (&lent.0, &lent.1, &lent.2);
+    let ((k, v), (l, u), (b, a), (c, e, g)) = (&lent.0, &lent.1, &lent.2, &lent.3);
     let (k, v, l, u) = (k.as_ptr(), v.as_ptr(), l.as_ptr(), u.as_ptr());
+    let (c, e, g) = (c.as_ptr(), e.as_ptr(), g.as_ptr());
     let (b, a, o, n) = (b.as_ptr(), a.as_ptr(), room[GUARD..].as_mut_ptr(), out.len());
     let (s, r, w) = (draft.stamp, draft.r, draft.w);
+    let ViewsDraft { leader, decision, view, count, .. } = told;
     // Each pointer is to as many numbers as the function takes, and they do not overlap.
     let number = unsafe {
         match record {
@@ -170,6 +247,10 @@ pub fn write(record: &Record, f: u64, out: &mut Vec<u8>) -> Result<(u8, usize), 
             Record::Pr(_) => stobbarel_write_pr(s, r, w, k, v, l, u, o, n, &mut length),
             Record::Listed(mark, ..) => stobbarel_write_listed(*mark, f, s, r, w, k, v, l, u, list.kind, list.decision, list.view, list.count, b, a, o, n, &mut length),
             Record::Rd { key, stamp } => stobbarel_write_rd(*key, *stamp, o, n, &mut length),
+            Record::Vs(_) => stobbarel_write_vs(f, count, c, g, o, n, &mut length),
+            Record::El(_) => stobbarel_write_el(f, leader, decision, view, count, c, e, g, o, n, &mut length),
+            Record::Iv(..) => stobbarel_write_iv(f, s, r, w, k, v, l, u, count, c, g, o, n, &mut length),
+            Record::Ld(..) => stobbarel_write_ld(f, s, r, w, k, v, l, u, leader, decision, view, count, c, e, g, o, n, &mut length),
         }
     };
     if room[..GUARD].iter().chain(&room[GUARD + out.len()..]).any(|byte| *byte != 0xa5) {
@@ -190,6 +271,35 @@ pub fn reading_tx(bytes: &[u8]) -> u8 {
 /// A VL by itself.
 pub fn reading_vl(bytes: &[u8], f: u64) -> u8 {
     unsafe { stobbarel_reading_vl(f, bytes.as_ptr(), bytes.len()) }
+}
+
+/// A VS by itself.
+pub fn reading_vs(bytes: &[u8], f: u64) -> u8 {
+    unsafe { stobbarel_reading_vs(f, bytes.as_ptr(), bytes.len()) }
+}
+
+/// An EL by itself.
+pub fn reading_el(bytes: &[u8], f: u64) -> u8 {
+    unsafe { stobbarel_reading_el(f, bytes.as_ptr(), bytes.len()) }
+}
+
+/// What a reader makes of the views in a message: the refusal's number, or 0; the number of the mark; what boxes told.
+pub type Views = (u8, u64, ViewsDraft);
+
+/// A message's views, over what stood there before; 255 where a number behind the fifth was written.
+pub fn views(message: &[u8], f: u64) -> Views {
+    let (mut head, mut numbers, mut answers, mut views) = ([99; 6], [99; 26], [99; 26], [99; 26]);
+    let number = unsafe { stobbarel_views(f, message.as_ptr(), message.len(), head.as_mut_ptr(), numbers.as_mut_ptr(), answers.as_mut_ptr(), views.as_mut_ptr()) };
+    let [mark, leader, decision, view, count, behind] = head;
+    let told = ViewsDraft {
+        leader: leader as u8,
+        decision: decision as u8,
+        view: view as u16,
+        count: count as usize,
+        ballots: std::array::from_fn(|i| (numbers[i], answers[i], views[i])),
+    };
+    let fits = behind == 99 && leader < 256 && decision < 256 && view < 65536;
+    (if fits { number } else { 255 }, mark, told)
 }
 
 /// What a reader makes of a message: the refusal's number, or 0; the head's nine numbers; its values as drafts.

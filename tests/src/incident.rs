@@ -17,14 +17,17 @@
 //! Another night, after a power dip: the box of one keeper was down when the correction was asked for, and box 5 is dead. Four boxes
 //! have voted, four log, and one more is needed; the box that is back answered 10 to every LG. Now it logs.
 //!
+//! A third night: the day gateway has commit logged at boxes 0, 1 and 2, the night gateway has abort logged at 3 and 4, and both lose their power. Neither decision has
+//! five logs, and no box ever logs again: the correction hung for ever. Now a third gateway invokes the fallback, and the leader of view 1 finishes it.
+//!
 //! With the passage register nobody writes 3 over 238 by hand: the detector's number stays as it is, the dispatcher corrects the direction, and what every owner
 //! reads counts from the leading end.
 
 use crate::engine::Entrance;
 use crate::judge::{Judge, Word};
 use crate::member::{Engine, Member, Model};
-use crate::messages::{pr, rd, transaction, with_list};
-use crate::model::{transaction_bytes, Answer, Decision, Kind, Reply, Rule, Rules, Settings, Sheet, Transaction, PAPER};
+use crate::messages::{iv, ld, pr, rd, transaction, with_list, with_view};
+use crate::model::{transaction_bytes, Answer, Decision, ElectionReply, ElectionSheet, Kind, Reply, Rule, Rules, Settings, Sheet, Transaction, PAPER};
 use stobbarel::layout::table_len;
 use stobbarel::{Passage, Report, Seen, Stamp, Values, Version, LONGEST};
 use Decision::{Abort, Commit};
@@ -126,7 +129,7 @@ fn night_proof() -> Vec<u8> {
 
 /// The night: all have logged commit. The night gateway's proof gets to boxes 3 and 4 first, the day gateway's to all.
 fn night(line: &mut Line) -> (Vec<Answer>, Vec<Answer>) {
-    assert_eq!(line.send_all(&day_log()), [Answer::Logged(Commit); 5]);
+    assert_eq!(line.send_all(&day_log()), [Answer::Logged(Commit, 0); 5]);
     let to_abort = [3, 4].map(|number| line.send(number, &night_proof())).to_vec();
     let to_commit = line.send_all(&day_proof());
     (to_abort, to_commit)
@@ -173,7 +176,7 @@ fn judge_of_the_evening() -> Judge {
     let mut judge = Judge::new(PAPER, 1, 1);
     let written = judge.body(passage());
     for number in SOUND {
-        judge.note(written, number, Word { kind: Votes, decision: Commit }).expect("a passage that read nothing");
+        judge.note(written, number, Word::Vote(Commit)).expect("a passage that read nothing");
     }
     judge
 }
@@ -193,8 +196,8 @@ fn had_it_been_quicker() -> [u32; 2] {
             let day_first = first & 1 << number != 0;
             for message in if day_first { [day_log(), night_log.clone()] } else { [night_log.clone(), day_log()] } {
                 let expected = if day_first { Commit } else { Abort };
-                assert_eq!(line.send(number, &message), Answer::Logged(expected), "the first log stays");
-                let proved = judge.note(body, number, Word { kind: Logs, decision: expected }).expect("never both proofs");
+                assert_eq!(line.send(number, &message), Answer::Logged(expected, 0), "the first log stays");
+                let proved = judge.note(body, number, Word::Log(expected, 0)).expect("never both proofs");
                 proofs[usize::from(expected == Abort)] += u32::from(proved);
             }
         }
@@ -209,7 +212,7 @@ fn after_the_dip(line: &mut Line) -> (Vec<Answer>, Vec<Answer>) {
     assert_eq!([0, 1, 2, 3].map(|number| line.send(number, &pr(&corrected))), [Answer::Commit; 4]);
     let log = with_list(b"LG", &corrected, Votes, Commit, &all(&[0, 1, 2, 3], Commit));
     let logs = line.send_all(&log);
-    let logged: Vec<u8> = (0..5).filter(|number| logs[usize::from(*number)] == Answer::Logged(Commit)).collect();
+    let logged: Vec<u8> = (0..5).filter(|number| logs[usize::from(*number)] == Answer::Logged(Commit, 0)).collect();
     (logs, line.send_all(&with_list(b"DC", &corrected, Logs, Commit, &all(&logged, Commit))))
 }
 
@@ -218,11 +221,11 @@ fn with_the_box_that_was_down() {
     let mut old = Model(Rules { broken: &[Rule::NoUnknown] });
     let (logs, taken) = after_the_dip(&mut Line::new(&mut old));
     assert_eq!(logs[4], Answer::Refused(10), "it did not know the correction");
-    assert_eq!((&logs[..4], &taken[..]), (&[Answer::Logged(Commit); 4][..], &[Answer::TooFew(1); 5][..]), "four logs are one too few");
+    assert_eq!((&logs[..4], &taken[..]), (&[Answer::Logged(Commit, 0); 4][..], &[Answer::TooFew(1); 5][..]), "four logs are one too few");
     let mut engine = Engine;
     let mut line = Line::new(&mut engine);
     let (logs, taken) = after_the_dip(&mut line);
-    assert_eq!((logs, taken), (vec![Answer::Logged(Commit); 5], vec![Answer::Done; 5]), "five are a proof");
+    assert_eq!((logs, taken), (vec![Answer::Logged(Commit, 0); 5], vec![Answer::Done; 5]), "five are a proof");
     assert_eq!(line.panels(), [3; 5], "and every panel shows the correction");
 }
 
@@ -232,10 +235,41 @@ fn asked_after_all() {
     let mut line = Line::new(&mut engine);
     let corrected = transaction_bytes(&correction());
     let log = with_list(b"LG", &corrected, Votes, Commit, &all(&[0, 1, 2, 3], Commit));
-    assert_eq!(line.send(4, &log), Answer::Logged(Commit));
+    assert_eq!(line.send(4, &log), Answer::Logged(Commit, 0));
     assert_eq!(line.send(4, &pr(&corrected)), Answer::Abort(2), "it holds no passage to correct");
     let abort = with_list(b"LG", &corrected, Votes, Abort, &all(&[4, LIAR], Abort));
-    assert_eq!(line.send(4, &abort), Answer::Logged(Commit), "the first log stays");
+    assert_eq!(line.send(4, &abort), Answer::Logged(Commit, 0), "the first log stays");
+}
+
+/// Both gateways die after a split log. Box 5 says abort to everybody, and that does not help it.
+fn after_both_gateways_died() {
+    let mut engine = Engine;
+    let mut line = Line::new(&mut engine);
+    line.evening();
+    let corrected = transaction_bytes(&correction());
+    let night_log = with_list(b"LG", &corrected, Votes, Abort, &all(&[3, 4, LIAR], Abort));
+    let logs = SOUND.map(|number| line.send(number, &if number < 3 { day_log() } else { night_log.clone() }));
+    let logged = [Commit, Commit, Commit, Abort, Abort];
+    assert_eq!(logs, logged.map(|decision| Answer::Logged(decision, 0)));
+    for (decision, boxes) in [(Commit, &[0, 1, 2, LIAR][..]), (Abort, &[3, 4, LIAR][..])] {
+        let few = with_list(b"DC", &corrected, Logs, decision, &all(boxes, decision));
+        assert_eq!(line.send(0, &few), Answer::TooFew(5 - boxes.len() as u8), "neither has five");
+    }
+    // the third gateway knows of no view but the first; the leader of view 1 is box 61 mod 6
+    let answers = line.send_all(&iv(&corrected, &[0, 1, 2, 3, 4].map(|number| (number, 0))));
+    assert_eq!(answers, logged.map(|decision| Answer::Elected { decision, view: 1, leader: 1 }));
+    let mut sheet = ElectionSheet { view: 1, commits: 0, aborts: 0 };
+    let replies = [LIAR, 0, 1, 2, 3].map(|number| {
+        let decision = if number < 3 { 1 } else { 2 };
+        Engine.elect(&mut sheet, 1, number.into(), decision, 1).expect("a reply")
+    });
+    assert_eq!(replies[3..], [ElectionReply::Taken(1), ElectionReply::Taken(0)]);
+    let election = Engine.election(&sheet, 1, CORRECTED).expect("five answers");
+    assert_eq!((election.leader, election.decision), (1, Commit), "three of five");
+    assert_eq!(line.send_all(&ld(&corrected, &election)), [Answer::Logged(Commit, 1); 5]);
+    let proof = with_view(b"DC", &corrected, Logs, Commit, 1, &all(&[0, 1, 2, 3, 4], Commit));
+    assert_eq!(line.send_all(&proof), [Answer::Done; 5]);
+    assert_eq!(line.panels(), [3; 5], "one train, one hot axle");
 }
 
 /// What box `number` shows of passage 5.
@@ -267,7 +301,7 @@ fn decided_beside_the_liar(line: &mut Line, tx: &stobbarel::Transaction) {
     assert_eq!(line.send_all(&pr(&body)), [Answer::Commit; 5]);
     let twice = with_list(b"DC", &body, Votes, Abort, &all(&[LIAR, LIAR, LIAR, LIAR], Abort));
     assert_eq!(line.send_all(&twice), [Answer::Refused(6); 5], "a box is named twice");
-    assert_eq!(line.send_all(&with_list(b"LG", &body, Votes, Commit, &all(&[0, 1, 2, 3, 4], Commit))), [Answer::Logged(Commit); 5]);
+    assert_eq!(line.send_all(&with_list(b"LG", &body, Votes, Commit, &all(&[0, 1, 2, 3, 4], Commit))), [Answer::Logged(Commit, 0); 5]);
     assert_eq!(line.send_all(&with_list(b"DC", &body, Logs, Commit, &all(&[0, 1, 2, 3, 4], Commit))), [Answer::Done; 5]);
 }
 
@@ -306,6 +340,8 @@ pub fn check() -> bool {
     with_the_box_that_was_down();
     asked_after_all();
     println!("incident: after the power dip the box that was down logs too, and five logs are a proof; with its 10 there were four");
+    after_both_gateways_died();
+    println!("incident: both gateways died after a split log; a third invoked the fallback, the leader of view 1 decided, and five logs of view 1 are a proof");
     let [evening, night, morning] = as_the_dispatchers_read_it();
     println!("incident: every owner reads: {evening}; corrected: {night}; corrected again: {morning}");
     true

@@ -1,20 +1,24 @@
 //! Demand 3, judged from outside: what sound boxes have given for each body, which bodies have a proof, and whether
 //! the demand's three parts hold. It knows nothing of what goes on inside a box.
 
-use crate::model::{transaction_bytes, Decision, Kind, Rules, Transaction};
+use crate::model::{transaction_bytes, Decision, Kind, Rule, Rules, Transaction};
 use std::collections::{BTreeMap, HashMap};
 
-/// What a box can be held to. Decided, wait and Done are neither.
-#[derive(Clone, Copy, Debug, PartialEq, Eq)]
-pub struct Word {
-    pub kind: Kind,
-    pub decision: Decision,
+/// What a box can be held to: a vote; a log or an election answer with the view that it was given with. Decided, wait and Done are none.
+#[derive(Clone, Copy, Debug, PartialEq, Eq, PartialOrd, Ord)]
+pub enum Word {
+    Vote(Decision),
+    Log(Decision, u16),
+    Elect(Decision, u16),
 }
 
 impl Word {
-    /// Votes commit, votes abort, logs commit, logs abort.
-    fn place(self) -> usize {
-        2 * usize::from(self.kind == Kind::Logs) + usize::from(self.decision == Decision::Abort)
+    /// A vote; or a log of a view.
+    pub fn of(kind: Kind, decision: Decision, view: u16) -> Word {
+        match kind {
+            Kind::Votes => Word::Vote(decision),
+            Kind::Logs => Word::Log(decision, view),
+        }
     }
 }
 
@@ -22,14 +26,31 @@ pub struct Body {
     pub tx: Transaction,
     pub bytes: Vec<u8>,
     /// For each word the sound boxes that ever gave it, as a mask.
-    given: [u32; 4],
+    given: BTreeMap<Word, u32>,
     commit_proof: bool,
     abort_proof: bool,
 }
 
 impl Body {
-    pub fn given(&self, kind: Kind, decision: Decision) -> u32 {
-        self.given[Word { kind, decision }.place()]
+    /// The sound boxes that ever gave this word.
+    pub fn given(&self, word: Word) -> u32 {
+        self.given.get(&word).copied().unwrap_or(0)
+    }
+
+    /// Every word that was given.
+    pub fn words(&self) -> impl Iterator<Item = Word> + '_ {
+        self.given.keys().copied()
+    }
+
+    /// The sound boxes that a proof with this word can name: a proof from logs needs equal decision and equal view.
+    fn provers(&self, word: Word, rules: Rules) -> u32 {
+        match word {
+            Word::Log(decision, _) if !rules.hold(Rule::EqualViews) => {
+                let alike = |word: &Word| matches!(word, Word::Log(other, _) if *other == decision);
+                self.given.iter().filter(|(word, _)| alike(word)).fold(0, |all, (_, boxes)| all | boxes)
+            }
+            _ => self.given(word),
+        }
     }
 }
 
@@ -56,7 +77,7 @@ impl Judge {
             return *known;
         }
         self.places.insert(bytes.clone(), self.bodies.len());
-        self.bodies.push(Body { tx, bytes, given: [0; 4], commit_proof: false, abort_proof: false });
+        self.bodies.push(Body { tx, bytes, given: BTreeMap::new(), commit_proof: false, abort_proof: false });
         self.bodies.len() - 1
     }
 
@@ -67,16 +88,19 @@ impl Judge {
     /// A sound box gave a word for a body: does a list of such words now reach its proof's threshold for the first time?
     /// An error says which part of demand 3 is broken. Other calls give no word, so that nothing changes with them.
     pub fn note(&mut self, body: usize, number: usize, word: Word) -> Result<bool, String> {
-        let needed = self.rules.proof(self.f, word.kind, word.decision);
-        let given = &mut self.bodies[body].given[word.place()];
-        if *given & 1 << number != 0 {
+        let (rules, held) = (self.rules, &mut self.bodies[body]);
+        let before = held.provers(word, rules);
+        *held.given.entry(word).or_default() |= 1 << number;
+        let after = held.provers(word, rules);
+        let (kind, decision) = match word {
+            Word::Vote(decision) => (Kind::Votes, decision),
+            Word::Log(decision, _) => (Kind::Logs, decision),
+            Word::Elect(..) => return Ok(false),
+        };
+        if before == after || after.count_ones() as usize + self.liars != rules.proof(self.f, kind, decision) {
             return Ok(false);
         }
-        *given |= 1 << number;
-        if given.count_ones() as usize + self.liars != needed {
-            return Ok(false);
-        }
-        match word.decision {
+        match decision {
             Decision::Commit => self.commit(body)?,
             Decision::Abort => self.abort(body)?,
         }

@@ -25,7 +25,7 @@ use std::process::exit;
 
 const USAGE: &str = "\
 stobbarel-tests [compare] [COUNT [SEED]]   COUNT messages (2000000) on the engine and on the model
-stobbarel-tests vectors                    records read and written, messages by each entrance, LGs before the PR, lists, answers taken by a tally sheet, as the papers have them
+stobbarel-tests vectors                    records read and written, messages by each entrance, LGs before the PR, lists, the fallback, answers taken by sheets, as the papers have them
 stobbarel-tests bodies                     two bodies under one stamp that differ in little: each byte, counts alone, length
 stobbarel-tests records [COUNT [SEED]]     COUNT records (500000) written by engine and model, each read as it is and damaged
 stobbarel-tests cluster [RUNS [SEED]]      RUNS clusters (20000) of the engine, demand 3 judged after every call

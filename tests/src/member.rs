@@ -2,13 +2,31 @@
 //! The engine is one; the model is one, with rules that may be broken; broken.rs has bad ones.
 
 use crate::engine::{self, Entrance};
-use crate::model::{self, Answer, Reply, Rules, Settings, Sheet};
+use crate::model::{self, Answer, Election, ElectionReply, ElectionSheet, Reply, Rules, Settings, Sheet, ViewSheet};
 
 pub trait Member {
     /// Table and read marks become what the box leaves. An error is an answer that cannot be read, or a write beside what was lent.
     fn call(&mut self, entrance: Entrance, table: &mut Vec<u8>, marks: &mut Vec<u64>, settings: &Settings, message: &[u8]) -> Result<Answer, String>;
 
     fn tally(&mut self, sheet: &mut Sheet, f: u64, number: u64, answer: u64) -> Result<Reply, String>;
+
+    /// An election answer for a leader's sheet, and what the leader makes of it. The sheets of the fallback are the model's where a member has none of its own.
+    fn elect(&mut self, sheet: &mut ElectionSheet, f: u64, number: u64, answer: u64, view: u64) -> Result<ElectionReply, String> {
+        Ok(model::elect(sheet, f, number, answer, view))
+    }
+
+    fn election(&mut self, sheet: &ElectionSheet, f: u64, stamp: u64) -> Result<Election, u8> {
+        model::election(sheet, f, stamp)
+    }
+
+    /// A view that a gateway was told, and those that its next IV lists.
+    fn tell(&mut self, sheet: &mut ViewSheet, f: u64, number: u64, view: u64) -> Result<(), u8> {
+        model::tell(sheet, f, number, view)
+    }
+
+    fn told(&mut self, sheet: &ViewSheet, f: u64) -> Result<Vec<(u8, u16)>, u8> {
+        model::told(sheet, f)
+    }
 }
 
 pub struct Engine;
@@ -21,6 +39,25 @@ impl Member for Engine {
 
     fn tally(&mut self, sheet: &mut Sheet, f: u64, number: u64, answer: u64) -> Result<Reply, String> {
         engine::tally(sheet, f, number, answer).ok_or_else(|| "the tally's five numbers are no reply".into())
+    }
+
+    fn elect(&mut self, sheet: &mut ElectionSheet, f: u64, number: u64, answer: u64, view: u64) -> Result<ElectionReply, String> {
+        engine::elect(sheet, f, number, answer, view).ok_or_else(|| "the two numbers of a leader's sheet are no reply".into())
+    }
+
+    fn election(&mut self, sheet: &ElectionSheet, f: u64, stamp: u64) -> Result<Election, u8> {
+        engine::election(sheet, f, stamp)
+    }
+
+    fn tell(&mut self, sheet: &mut ViewSheet, f: u64, number: u64, view: u64) -> Result<(), u8> {
+        match engine::tell(sheet, f, number, view) {
+            0 => Ok(()),
+            number => Err(number),
+        }
+    }
+
+    fn told(&mut self, sheet: &ViewSheet, f: u64) -> Result<Vec<(u8, u16)>, u8> {
+        engine::told(sheet, f)
     }
 }
 
@@ -58,5 +95,32 @@ impl Member for Beside {
             return Err(format!("the engine's tally replies {reply:?}, the model's {due:?}, or the sheets differ"));
         }
         Ok(reply)
+    }
+
+    fn elect(&mut self, sheet: &mut ElectionSheet, f: u64, number: u64, answer: u64, view: u64) -> Result<ElectionReply, String> {
+        let mut due_sheet = *sheet;
+        let reply = Engine.elect(sheet, f, number, answer, view)?;
+        let due = model::elect(&mut due_sheet, f, number, answer, view);
+        if reply != due || *sheet != due_sheet {
+            return Err(format!("the engine's leader's sheet replies {reply:?}, the model's {due:?}, or the sheets differ"));
+        }
+        Ok(reply)
+    }
+
+    /// 255 where they differ.
+    fn election(&mut self, sheet: &ElectionSheet, f: u64, stamp: u64) -> Result<Election, u8> {
+        let (given, due) = (engine::election(sheet, f, stamp), model::election(sheet, f, stamp));
+        if given == due { given } else { Err(255) }
+    }
+
+    fn tell(&mut self, sheet: &mut ViewSheet, f: u64, number: u64, view: u64) -> Result<(), u8> {
+        let mut due_sheet = *sheet;
+        let (given, due) = (Engine.tell(sheet, f, number, view), model::tell(&mut due_sheet, f, number, view));
+        if given == due && *sheet == due_sheet { given } else { Err(255) }
+    }
+
+    fn told(&mut self, sheet: &ViewSheet, f: u64) -> Result<Vec<(u8, u16)>, u8> {
+        let (given, due) = (engine::told(sheet, f), model::told(sheet, f));
+        if given == due { given } else { Err(255) }
     }
 }

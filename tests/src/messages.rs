@@ -1,6 +1,6 @@
 //! Messages put together from their parts.
 
-use crate::model::{transaction_bytes, Decision, Kind, Transaction};
+use crate::model::{transaction_bytes, Decision, Election, Kind, Transaction};
 
 pub fn transaction(stamp: u64, reads: &[(u16, u64)], writes: &[(u16, u64)]) -> Transaction {
     Transaction { mark: *b"TX", stamp, reads: reads.to_vec(), writes: writes.to_vec() }
@@ -39,5 +39,25 @@ pub fn with_view(mark: &[u8; 2], tx: &[u8], kind: Kind, decision: Decision, view
         bytes.extend(view.to_le_bytes());
     }
     bytes.extend(answers.iter().flat_map(|(number, answer)| [*number, code(*answer)]));
+    bytes
+}
+
+/// An IV: boxes and the views that they told.
+pub fn iv(tx: &[u8], views: &[(u8, u16)]) -> Vec<u8> {
+    let mut bytes = [b"IV", tx, b"VS", &[views.len() as u8]].concat();
+    for (number, view) in views {
+        bytes.push(*number);
+        bytes.extend(view.to_le_bytes());
+    }
+    bytes
+}
+
+/// An LD: what a leader decides, and the election answers under it.
+pub fn ld(tx: &[u8], led: &Election) -> Vec<u8> {
+    let mut bytes = [b"LD", tx, b"EL", &[led.leader, code(led.decision)], &led.view.to_le_bytes(), &[led.answers.len() as u8]].concat();
+    for (number, answer, view) in &led.answers {
+        bytes.extend([*number, code(*answer)]);
+        bytes.extend(view.to_le_bytes());
+    }
     bytes
 }

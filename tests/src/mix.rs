@@ -1,9 +1,9 @@
 //! Runs of messages that a seed determines: few keys, stamps near each other, versions read from what is held,
-//! lists on both sides of each threshold, capacities that change from call to call, and every kind of damage.
+//! lists on both sides of each threshold, views on both sides of each rule, capacities that change from call to call, and every kind of damage.
 
-use crate::model::{entries_of, row_at, transaction_bytes, Decision, Entry, Settings, Transaction, Vote, THRESHOLDS};
+use crate::model::{entries_of, row_at, transaction_bytes, Decision, Entry, Settings, Transaction, Vote, PAPER, THRESHOLDS};
 use crate::random::Random;
-use stobbarel::layout::{table_len, BODY_AT, DECIDED_AT, HEAD, LOG_AT, REASON_AT, ROW, VOTE_AT};
+use stobbarel::layout::{table_len, BODY_AT, DECIDED_AT, HEAD, LOG_AT, LOG_VIEW_AT, REASON_AT, ROW, VIEW_AT, VOTE_AT};
 
 /// Where in a row the counts of its body, the stamp, and the first two keys stand.
 const COUNTS: [usize; 2] = [BODY_AT + 2, BODY_AT + 3];
@@ -192,7 +192,7 @@ impl Run {
 
     /// A list that meets its threshold, misses it by one or by more, or has no answer that counts.
     fn list(&self, random: &mut Random, log: bool) -> Vec<u8> {
-        let f = if (1..=5).contains(&self.settings.f) { self.settings.f } else { 1 };
+        let f = self.f();
         let boxes = 5 * f + 1;
         let kind = if log || random.chance(60) { 1 } else { 2 };
         let decision = random.one_of(&[Decision::Commit, Decision::Commit, Decision::Abort]);
@@ -216,7 +216,93 @@ impl Run {
         bytes
     }
 
-    /// A PR, LG or DC with a body as the table holds it.
+    /// f as lists have it: in order, be the settings not.
+    fn f(&self) -> u64 {
+        if (1..=5).contains(&self.settings.f) { self.settings.f } else { 1 }
+    }
+
+    /// A VS for a box in this view: about f + 1, or about 3f + 1, are at or above one beside it, the others below.
+    fn views(&self, random: &mut Random, current: u16) -> Vec<u8> {
+        let f = self.f();
+        let boxes = 5 * f + 1;
+        let high = beside(random, current);
+        let above = match random.below(12) {
+            choice @ 0..=2 => f + choice,
+            3..=5 => 3 * f + 1,
+            6 => 3 * f,
+            7 => 3 * f + 2,
+            8 => boxes,
+            _ => random.below(boxes + 1),
+        }
+        .min(boxes);
+        let mut numbers: Vec<u8> = (0..boxes as u8).collect();
+        let mut told: Vec<(u8, u16)> = Vec::new();
+        for place in 0..boxes {
+            let number = numbers.remove(random.below(numbers.len() as u64) as usize);
+            let view = if place < above { high.saturating_add(random.one_of(&[0, 0, 0, 1, 2, 300])) } else { random.below(u64::from(high).max(1)) as u16 };
+            // those below may be left out
+            if place < above || told.is_empty() || random.chance(60) {
+                told.push((number, view));
+            }
+        }
+        told.sort_unstable();
+        let mut bytes = vec![b'V', b'S', told.len() as u8];
+        for (number, view) in told {
+            bytes.push(number);
+            bytes.extend(view.to_le_bytes());
+        }
+        bytes
+    }
+
+    /// An EL for an entry of this stamp, in this view and logged in that: mostly one that a box takes; else with another leader, one answer too few or too many, one of
+    /// another view, or a decision that is not the majority's.
+    fn election(&self, random: &mut Random, stamp: u64, current: u16, logged: u16) -> Vec<u8> {
+        let (f, decided) = (self.f(), random.between(1, 2) as u8);
+        let boxes = 5 * f + 1;
+        let view = match random.below(8) {
+            0 => beside(random, current),
+            1 => beside(random, logged),
+            2 => logged,
+            3 | 4 => current,
+            _ => current.max(logged).saturating_add(1),
+        };
+        let leads = PAPER.leader(&Settings { f, ..self.settings }, view, stamp);
+        let leader = if random.chance(92) { leads } else { random.below(boxes) as u8 };
+        let answers = answers(random, f, decided, view);
+        let mut bytes = [&[b'E', b'L', leader, decided][..], &view.to_le_bytes(), &[answers.len() as u8]].concat();
+        for (number, answer, view) in answers {
+            bytes.extend([number, answer]);
+            bytes.extend(view.to_le_bytes());
+        }
+        bytes
+    }
+
+    /// An IV or an LD of this body, in the view that it is held in.
+    fn fallback(&self, random: &mut Random, body: &Transaction) -> Vec<u8> {
+        let held = self.held().into_iter().find(|entry| entry.body.stamp == body.stamp);
+        let (current, logged) = held.map_or((0, 0), |entry| (entry.view, entry.log.map_or(0, |log| log.1)));
+        let bytes = transaction_bytes(body);
+        if random.chance(45) {
+            return [b"IV".to_vec(), bytes, self.views(random, current)].concat();
+        }
+        [b"LD".to_vec(), bytes, self.election(random, body.stamp, current, logged)].concat()
+    }
+
+    /// An IV or an LD of an entry that is undecided, mostly of one that is logged; where it is not, an LG too.
+    fn about_a_log(&self, random: &mut Random) -> Option<Vec<u8>> {
+        let unlogged = random.chance(20);
+        let held: Vec<Entry> = self.held().into_iter().filter(|entry| entry.decision.is_none() && entry.log.is_none() == unlogged).collect();
+        if held.is_empty() {
+            return None;
+        }
+        let body = &held[random.below(held.len() as u64) as usize].body;
+        if unlogged && random.chance(40) {
+            return Some([b"LG".to_vec(), transaction_bytes(body), self.list(random, true)].concat());
+        }
+        Some(self.fallback(random, body))
+    }
+
+    /// A message with a body as the table holds it.
     fn about_a_row(&mut self, random: &mut Random) -> Option<Vec<u8>> {
         let held = self.held();
         if held.is_empty() {
@@ -227,11 +313,13 @@ impl Run {
             let body = transaction_bytes(&unvoted[random.below(unvoted.len() as u64) as usize].body);
             return Some([b"PR".to_vec(), body].concat());
         }
-        let body = transaction_bytes(&held[random.below(held.len() as u64) as usize].body);
-        Some(match random.below(3) {
-            0 => [b"PR".to_vec(), body].concat(),
-            1 => [b"LG".to_vec(), body, self.list(random, true)].concat(),
-            _ => [b"DC".to_vec(), body, self.list(random, false)].concat(),
+        let body = &held[random.below(held.len() as u64) as usize].body;
+        let bytes = transaction_bytes(body);
+        Some(match random.below(4) {
+            0 => [b"PR".to_vec(), bytes].concat(),
+            1 => [b"LG".to_vec(), bytes, self.list(random, true)].concat(),
+            2 => [b"DC".to_vec(), bytes, self.list(random, false)].concat(),
+            _ => self.fallback(random, body),
         })
     }
 
@@ -247,12 +335,22 @@ impl Run {
                 return message;
             }
         }
+        if random.chance(20) {
+            if let Some(message) = self.about_a_log(random) {
+                return message;
+            }
+        }
         if random.chance(6 + self.lent) {
             if let Some(message) = self.about_a_row(random) {
                 return message;
             }
         }
-        match random.below(20) {
+        self.any_message(random)
+    }
+
+    /// Of a body that was sent before, or of a new one.
+    fn any_message(&mut self, random: &mut Random) -> Vec<u8> {
+        match random.below(22) {
             0..=8 => {
                 let body = self.known_or_new(random, 40);
                 [b"PR".to_vec(), transaction_bytes(&body)].concat()
@@ -264,6 +362,12 @@ impl Run {
             13..=16 => {
                 let body = self.known_or_new(random, 85);
                 [b"DC".to_vec(), transaction_bytes(&body), self.list(random, false)].concat()
+            }
+            17..=18 => {
+                // where the table is full, more that it does not hold
+                let full = u64::from(self.table[0]) >= self.settings.capacity;
+                let body = self.known_or_new(random, if full { 40 } else { 85 });
+                self.fallback(random, &body)
             }
             _ => {
                 let stamp = if random.chance(80) { self.stamp(random) } else { random.between(1, u64::MAX) >> random.below(30) };
@@ -282,6 +386,7 @@ impl Run {
         let pair = parts.some_pair(random);
         let place = parts.some_listed(random);
         match random.below(22) {
+            choice @ 9..=17 if parts.told => self.spoil_told(random, m, &parts, place, choice),
             choice @ 0..=5 => spoil_contents(random, m, &parts, pair, choice),
             choice @ 6..=8 => spoil_counts(random, m, choice),
             choice @ 9..=17 => self.spoil_list(random, m, &parts, place, choice),
@@ -305,6 +410,30 @@ impl Run {
                 put(m, place, &[number])
             }
             _ => spoil_raw(random, m),
+        }
+    }
+
+    /// What stands before the count of a VS or an EL, the count, or box number, answer or view at `place`; or one more is listed, or one less.
+    fn spoil_told(&self, random: &mut Random, m: &mut Vec<u8>, parts: &Parts, place: usize, choice: u64) {
+        let n = (5 * self.settings.f.clamp(1, 5) + 1) as u8;
+        let wide = random.one_of(&[n, n - 1, n.wrapping_add(1), 26, 255]);
+        match choice {
+            9 if parts.each == 4 => put(m, parts.list + 2, &[wide]),
+            10 if parts.each == 4 => put(m, parts.list + 3, &[random.one_of(&[0, 1, 2, 3, 255])]),
+            11 if parts.each == 4 => put(m, parts.list + 4, &view(random).to_le_bytes()),
+            12 => put(m, parts.from - 1, &[random.one_of(&[0, 26, 27, 255])]),
+            13 => put(m, place, &[wide]),
+            14 if parts.each == 4 => put(m, place + 1, &[random.one_of(&[0, 3, 255])]),
+            15 => put(m, place + parts.each - 2, &view(random).to_le_bytes()),
+            16 if parts.listed > 1 && m.len() == parts.from + parts.each * parts.listed as usize => {
+                m.truncate(m.len() - parts.each);
+                put(m, parts.from - 1, &[parts.listed as u8 - 1]);
+            }
+            17 if parts.listed > 1 => {
+                let number = byte(m, parts.some_listed(random));
+                put(m, place, &[number])
+            }
+            _ => m.truncate(parts.list + random.below(12) as usize),
         }
     }
 
@@ -387,7 +516,7 @@ impl Run {
         row_at(random.below(entries.max(1)) as usize)
     }
 
-    /// Vote, reason, log or decision of the entry at `row`.
+    /// Vote, reason, log, decision or views of the entry at `row`.
     fn disturb_codes(&mut self, random: &mut Random, row: usize, choice: u64) {
         match choice {
             0 => self.table[row + VOTE_AT] = random.below(4) as u8,
@@ -401,8 +530,18 @@ impl Run {
                 self.table[row + REASON_AT] = 0;
             }
             3 => self.table[row + LOG_AT] = random.below(3) as u8,
-            4 | 5 => self.table[row + DECIDED_AT] = random.below(3) as u8,
+            4 => self.table[row + DECIDED_AT] = random.below(3) as u8,
+            5 | 6 => self.disturb_views(random, row),
             _ => self.unvote(row),
+        }
+    }
+
+    /// Any view is taken as it stands, beside no log too.
+    fn disturb_views(&mut self, random: &mut Random, row: usize) {
+        for at in [LOG_VIEW_AT, VIEW_AT] {
+            if random.chance(60) {
+                self.table[row + at..row + at + 2].copy_from_slice(&view(random).to_le_bytes());
+            }
         }
     }
 
@@ -570,6 +709,39 @@ fn pairs(random: &mut Random, boxes: u64, counted: u64, decided: u8) -> Vec<(u8,
     pairs
 }
 
+/// Election answers for a view: mostly 4f + 1, about half of them or more as decided, and all of that view.
+fn answers(random: &mut Random, f: u64, decided: u8, view: u16) -> Vec<(u8, u8, u16)> {
+    let (boxes, all) = (5 * f + 1, 4 * f + 1);
+    let count = match random.below(16) {
+        0 => all - 1,
+        1 => all + 1,
+        2 => random.between(1, boxes),
+        _ => all,
+    };
+    let agree = match random.below(8) {
+        0 => count / 2,
+        1 | 2 => count / 2 + 1,
+        3 => random.below(count + 1),
+        _ => random.between(count / 2 + 1, count),
+    };
+    let mut numbers: Vec<u8> = (0..boxes as u8).collect();
+    let mut answers: Vec<(u8, u8, u16)> = Vec::new();
+    for place in 0..count {
+        let number = numbers.remove(random.below(numbers.len() as u64) as usize);
+        answers.push((number, if place < agree { decided } else { 3 - decided }, view));
+    }
+    if random.chance(6) {
+        let place = random.below(count) as usize;
+        answers[place].2 = beside(random, view);
+    }
+    if random.chance(5) {
+        let other = if random.chance(50) { view.saturating_sub(1) } else { beside(random, view) };
+        answers.iter_mut().for_each(|one| one.2 = other);
+    }
+    answers.sort_unstable();
+    answers
+}
+
 /// Any number is a view: mostly one beside a line.
 fn view(random: &mut Random) -> u16 {
     match random.below(4) {
@@ -580,9 +752,20 @@ fn view(random: &mut Random) -> u16 {
     }
 }
 
+/// A view beside another, or any.
+fn beside(random: &mut Random, view: u16) -> u16 {
+    match random.below(8) {
+        0 => view.saturating_sub(1),
+        1..=3 => view,
+        4 | 5 => view.saturating_add(1),
+        6 => random.one_of(&[0, 1, 2, 254, 255, 256, 65533, 65534, 65535]),
+        _ => self::view(random),
+    }
+}
+
 // ---- damage
 
-/// Where a PR, LG or DC has its parts, as far as its counts can be believed.
+/// Where a message has its parts, as far as its counts can be believed.
 struct Parts {
     reads: u64,
     /// Reads and writes together.
@@ -591,7 +774,11 @@ struct Parts {
     list: usize,
     /// It is of logs, and has a view.
     logs: bool,
-    /// Pairs in the list.
+    /// It is a VS or an EL.
+    told: bool,
+    /// Where what is listed begins, the count standing before it or, in a VL, before its view; how long each is; and how many there are.
+    from: usize,
+    each: usize,
     listed: u64,
 }
 
@@ -600,7 +787,13 @@ impl Parts {
         let [reads, writes] = [4, 5].map(|at| byte(m, at).min(8) as u64);
         let pairs = reads + writes;
         let list = 14 + 10 * pairs as usize;
-        Parts { reads, pairs, list, logs: byte(m, list + 2) == 2, listed: byte(m, list + 4).min(26) as u64 }
+        let logs = byte(m, list + 2) == 2;
+        let (told, count, from, each) = match m.get(..2) {
+            Some(b"IV") => (true, 2, 3, 3),
+            Some(b"LD") => (true, 6, 7, 4),
+            _ => (false, 4, if logs { 7 } else { 5 }, 2),
+        };
+        Parts { reads, pairs, list, logs, told, from: list + from, each, listed: byte(m, list + count).min(26) as u64 }
     }
 
     /// Where one of the reads and writes begins.
@@ -613,9 +806,9 @@ impl Parts {
         14 + 10 * random.below(self.reads) as usize
     }
 
-    /// Where one of the list's pairs begins.
+    /// Where one of what is listed begins.
     fn some_listed(&self, random: &mut Random) -> usize {
-        self.list + if self.logs { 7 } else { 5 } + 2 * random.below(self.listed) as usize
+        self.from + self.each * random.below(self.listed) as usize
     }
 }
 
@@ -705,9 +898,9 @@ fn spoil_view(random: &mut Random, m: &mut Vec<u8>, parts: &Parts) {
 /// The mark of the message, of its transaction or of its list.
 fn spoil_mark(random: &mut Random, m: &mut [u8], parts: &Parts, choice: u64) {
     match choice {
-        18 => put(m, 0, random.one_of(&[b"PR", b"LG", b"DC", b"RD", b"TX", b"VL", b"GP", b"pr"])),
+        18 => put(m, 0, random.one_of(&[b"PR", b"LG", b"DC", b"RD", b"IV", b"LD", b"TX", b"VL", b"VS", b"EL", b"GP", b"pr"])),
         19 => put(m, 2, random.one_of(&[b"VL", b"TY", b"tx"])),
-        _ => put(m, parts.list, random.one_of(&[b"TX", b"VM", b"vl"])),
+        _ => put(m, parts.list, random.one_of(&[b"TX", b"VL", b"VS", b"EL", b"VM", b"vl"])),
     }
 }
 

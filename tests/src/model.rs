@@ -1,9 +1,14 @@
-//! A box as the paper describes it, in ordinary Rust: records read from bytes, a list of entries, and the four messages.
+//! A box as the paper describes it, in ordinary Rust: records read from bytes, a list of entries, and the six messages.
 //! It is written from the paper, with docs/DECISIONS.md where that leaves room, and shares no code with the engine that it is held against;
 //! how a lent table is laid out is the interface's, from include/stobbarel.h.
+//! What finishes a transaction that a dead gateway left is in model/fallback.rs.
 //! `self.rules.hold(..)` marks the rules that broken.rs breaks, one at a time; in the paper's box all of them hold.
 
-use stobbarel::layout::{table_len, BODY_AT, DECIDED_AT, HEAD, LOG_AT, REASON_AT, ROW, VOTE_AT};
+#[path = "model/fallback.rs"]
+mod fallback;
+
+pub use fallback::*;
+use stobbarel::layout::{table_len, BODY_AT, DECIDED_AT, HEAD, LOG_AT, LOG_VIEW_AT, REASON_AT, ROW, VIEW_AT, VOTE_AT};
 
 /// For each f from 1 on: commit list, abort list, commit proof, abort proof, proof from logs.
 pub const THRESHOLDS: [[usize; 5]; 5] = [
@@ -79,6 +84,62 @@ pub enum Rule {
     LoggedLives,
     /// A full table: the new entry takes the first one's place.
     EntriesStay,
+    /// LG: a log of a later view than 0 gives way to a valid list, which is logged in view 0.
+    LaterLogStays,
+    /// LG and LD: a log answer tells the current view.
+    LogTellsItsView,
+    /// IV: by 3f + 1 views a box goes to the view after, be it lower than its own.
+    NeverBack,
+    /// IV: by 3f + 1 views a box goes to that view, not to the one after.
+    ToTheViewAfter,
+    /// IV: there is no rule for f + 1 views.
+    FewMove,
+    /// IV: views are counted that are equal, not higher ones too.
+    HigherCount,
+    /// IV: the view moved on to is told and not stored.
+    ViewStored,
+    /// IV: the election answer is the vote.
+    ElectsItsLog,
+    /// IV: 24 before 22.
+    NotLoggedFirst,
+    /// The leader: the sum of view and stamp wraps at 2^64.
+    WholeSum,
+    /// 23: any box leads any view.
+    LeaderLeads,
+    /// 23: any number of answers will do, by their majority.
+    AllAnswer,
+    /// 23: more answers than 4f + 1 will do, by their majority.
+    NoMoreAnswer,
+    /// 23: answers of one lower view will do.
+    AnswersOfTheView,
+    /// 23: answers of any views will do.
+    AnswersOfOneView,
+    /// 23: a decision that is not the majority's will do.
+    MajorityDecides,
+    /// 21: the current view may be above.
+    NotPassed,
+    /// 21: the logged view may be any.
+    LogBelow,
+    /// 21: the logged view may be the same.
+    LogStrictlyBelow,
+    /// LD: 21 before 23.
+    ElectionFirst,
+    /// LD: 13 before 21.
+    PassedBeforeFull,
+    /// LD: a new entry's current view is 0.
+    NewEntryInItsView,
+    /// DC: what is decided has views 0.
+    DecidedKeepsViews,
+    /// DC: a body that replaces another has its current view.
+    ReplacedHasNoView,
+    /// LG: the current view becomes 0.
+    LogLeavesView,
+    /// A proof from logs: equal decisions, of whatever views. It is no box's rule, but that of who counts them.
+    EqualViews,
+    /// The contents of an EL: 5 before 8.
+    CodeFirst,
+    /// The contents of an EL: a leader n or more.
+    LeaderIsABox,
 }
 
 /// The rules of a box, less the broken ones.
@@ -90,7 +151,7 @@ pub struct Rules {
 pub const PAPER: Rules = Rules { broken: &[] };
 
 impl Rules {
-    fn hold(self, rule: Rule) -> bool {
+    pub fn hold(self, rule: Rule) -> bool {
         // where the model is timed, no rule can be broken, and asking costs nothing
         cfg!(feature = "paper") || !self.broken.contains(&rule)
     }
@@ -143,7 +204,7 @@ fn lacking(needed: usize, counted: usize) -> u8 {
     needed.saturating_sub(counted) as u8
 }
 
-#[derive(Clone, Copy, Debug, PartialEq, Eq)]
+#[derive(Clone, Copy, Debug, PartialEq, Eq, PartialOrd, Ord)]
 pub enum Decision {
     Commit,
     Abort,
@@ -181,19 +242,44 @@ pub struct List {
     pub answers: Vec<(u8, Decision)>,
 }
 
+/// A leader's decision, and the election answers under it: box, what it logged, and the view that it answered for.
+#[derive(Clone, Debug, PartialEq, Eq)]
+pub struct Election {
+    pub leader: u8,
+    pub decision: Decision,
+    pub view: u16,
+    pub answers: Vec<(u8, Decision, u16)>,
+}
+
 #[derive(Clone, Debug)]
 pub enum Message {
     Prepare(Transaction),
     Log(Transaction, List),
     Decide(Transaction, List),
     Read { key: u16, stamp: u64 },
+    /// Boxes with the views that they told.
+    Invoke(Transaction, Vec<(u8, u16)>),
+    Lead(Transaction, Election),
+}
+
+impl Message {
+    /// An RD has none.
+    fn transaction(&self) -> Option<&Transaction> {
+        match self {
+            Message::Prepare(tx) | Message::Log(tx, _) | Message::Decide(tx, _) | Message::Invoke(tx, _) | Message::Lead(tx, _) => Some(tx),
+            Message::Read { .. } => None,
+        }
+    }
 }
 
 #[derive(Clone, Debug, PartialEq, Eq)]
 pub struct Entry {
     pub body: Transaction,
     pub vote: Vote,
-    pub log: Option<Decision>,
+    /// The logged decision and its view.
+    pub log: Option<(Decision, u16)>,
+    /// The current view.
+    pub view: u16,
     pub decision: Option<Decision>,
 }
 
@@ -203,7 +289,10 @@ pub enum Answer {
     Abort(u8),
     Wait,
     Decided(Decision),
-    Logged(Decision),
+    /// With the view that it was logged in.
+    Logged(Decision, u16),
+    /// An election answer: the logged decision, the current view, and the box that leads it.
+    Elected { decision: Decision, view: u16, leader: u8 },
     Done,
     Found { committed: (u64, u64), undecided: (u64, u64) },
     /// 11, with how many counted answers are lacking.
@@ -238,8 +327,8 @@ impl Settings {
 
 // ---- records
 
-/// The marks of the four messages; the interface names them by their places, from 1 on.
-pub const MARKS: [&[u8; 2]; 4] = [b"PR", b"LG", b"DC", b"RD"];
+/// The marks of the six messages; the interface names them by their places, from 1 on.
+pub const MARKS: [&[u8; 2]; 6] = [b"PR", b"LG", b"DC", b"RD", b"IV", b"LD"];
 pub const LG: u64 = 2;
 pub const DC: u64 = 3;
 
@@ -260,6 +349,10 @@ const GROUP: u8 = 14;
 const AHEAD: u8 = 15;
 const TABLE: u8 = 16;
 const BUFFER: u8 = 17;
+const PASSED: u8 = 21;
+const NOT_LOGGED: u8 = 22;
+const ELECTION: u8 = 23;
+const LAST_VIEW: u8 = 24;
 
 fn little(bytes: &[u8]) -> u64 {
     bytes.iter().rev().fold(0, |sum, byte| sum << 8 | u64::from(*byte))
@@ -353,6 +446,38 @@ fn cut_list(bytes: &mut Bytes, rules: Rules) -> Result<CutList, u8> {
     Ok(CutList { kind, decision: head[1], view, pairs })
 }
 
+/// How many are listed: 1 to 26.
+fn listed(count: u8) -> Result<usize, u8> {
+    match count {
+        1..=26 => Ok(count.into()),
+        _ => Err(COUNT),
+    }
+}
+
+/// A VS cut: boxes and their views.
+fn cut_views(bytes: &mut Bytes, rules: Rules) -> Result<Vec<(u8, u16)>, u8> {
+    bytes.mark(&[b"VS"])?;
+    let count = listed(bytes.next(1)?[0])?;
+    Ok(bytes.next(3 * count)?.chunks(3).map(|one| (one[0], rules.view_of(&one[1..]))).collect())
+}
+
+/// An EL cut: decision and answers as numbers.
+struct CutElection {
+    leader: u8,
+    decision: u8,
+    view: u16,
+    answers: Vec<(u8, u8, u16)>,
+}
+
+/// Leader, decision, view and count first.
+fn cut_election(bytes: &mut Bytes, rules: Rules) -> Result<CutElection, u8> {
+    bytes.mark(&[b"EL"])?;
+    let head = bytes.next(5)?;
+    let rest = bytes.next(4 * listed(head[4])?)?;
+    let answers = rest.chunks(4).map(|one| (one[0], one[1], rules.view_of(&one[2..]))).collect();
+    Ok(CutElection { leader: head[0], decision: head[1], view: rules.view_of(&head[2..4]), answers })
+}
+
 fn rises<T: PartialOrd>(numbers: &[T]) -> bool {
     numbers.windows(2).all(|two| two[0] < two[1])
 }
@@ -405,6 +530,37 @@ fn judge_list(cut: &CutList, settings: &Settings, logs_allowed: bool, rules: Rul
     Ok(List { kind, decision: named, view: cut.view, answers })
 }
 
+/// Box numbers for 5, then 6.
+fn judge_boxes(numbers: &[u8], settings: &Settings) -> Result<(), u8> {
+    if numbers.iter().any(|number| u64::from(*number) >= settings.boxes()) {
+        return Err(RANGE);
+    }
+    if !rises(numbers) {
+        return Err(ORDER);
+    }
+    Ok(())
+}
+
+/// A VS for 5, then 6; any view is in order.
+fn judge_views(views: &[(u8, u16)], settings: &Settings) -> Result<(), u8> {
+    judge_boxes(&views.iter().map(|one| one.0).collect::<Vec<u8>>(), settings)
+}
+
+/// An EL for 8, then 5, the leader's number among the boxes', then 6.
+fn judge_election(cut: &CutElection, settings: &Settings, rules: Rules) -> Result<Election, u8> {
+    let numbers: Vec<u8> = cut.answers.iter().map(|one| one.0).collect();
+    if !rules.hold(Rule::CodeFirst) && numbers.iter().any(|number| u64::from(*number) >= settings.boxes()) {
+        return Err(RANGE);
+    }
+    let named = decision(cut.decision)?;
+    let answers = cut.answers.iter().map(|(number, code, view)| Ok((*number, decision(*code)?, *view))).collect::<Result<Vec<_>, u8>>()?;
+    if u64::from(cut.leader) >= settings.boxes() && rules.hold(Rule::LeaderIsABox) {
+        return Err(RANGE);
+    }
+    judge_boxes(&numbers, settings)?;
+    Ok(Election { leader: cut.leader, decision: named, view: cut.view, answers })
+}
+
 /// How long the message is that these bytes begin with, whatever follows it; or why it cannot be cut.
 pub fn cut(bytes: &[u8]) -> Result<usize, u8> {
     let mut left = Bytes(bytes);
@@ -414,10 +570,21 @@ pub fn cut(bytes: &[u8]) -> Result<usize, u8> {
     } else {
         cut_transaction(&mut left)?;
     }
-    if &mark == b"LG" || &mark == b"DC" {
-        cut_list(&mut left, PAPER)?;
+    match &mark {
+        b"LG" | b"DC" => drop(cut_list(&mut left, PAPER)?),
+        b"IV" => drop(cut_views(&mut left, PAPER)?),
+        b"LD" => drop(cut_election(&mut left, PAPER)?),
+        _ => {}
     }
     Ok(bytes.len() - left.0.len())
+}
+
+/// What stands behind a transaction, cut.
+enum Behind {
+    Nothing,
+    List(CutList),
+    Views(Vec<(u8, u16)>),
+    Election(CutElection),
 }
 
 /// A message: the whole cut first, then 4, then the contents.
@@ -425,36 +592,45 @@ pub fn read_message(message: &[u8], settings: &Settings, due: &[&[u8; 2]], rules
     let mut bytes = Bytes(message);
     let mark = bytes.mark(due)?;
     if &mark == b"RD" {
-        let rest = bytes.next(10)?;
-        if !bytes.0.is_empty() {
-            return Err(TRAILING);
-        }
-        let (key, stamp) = (little(&rest[..2]) as u16, little(&rest[2..]));
-        if stamp == 0 || key > 511 {
-            return Err(RANGE);
-        }
-        if settings.ahead(stamp) {
-            return Err(AHEAD);
-        }
-        return Ok(Message::Read { key, stamp });
+        return read_rd(bytes, settings);
     }
     let tx = cut_transaction(&mut bytes)?;
-    let list = if &mark == b"PR" { None } else { Some(cut_list(&mut bytes, rules)?) };
+    let behind = match &mark {
+        b"PR" => Behind::Nothing,
+        b"IV" => Behind::Views(cut_views(&mut bytes, rules)?),
+        b"LD" => Behind::Election(cut_election(&mut bytes, rules)?),
+        _ => Behind::List(cut_list(&mut bytes, rules)?),
+    };
     if !bytes.0.is_empty() {
         return Err(TRAILING);
     }
     judge_transaction(&tx, rules)?;
-    match list {
-        None => Ok(Message::Prepare(tx)),
-        Some(cut) if &mark == b"LG" => {
-            let list = judge_list(&cut, settings, false, rules)?;
-            Ok(Message::Log(tx, list))
+    Ok(match behind {
+        Behind::Nothing => Message::Prepare(tx),
+        Behind::List(cut) if &mark == b"LG" => Message::Log(tx, judge_list(&cut, settings, false, rules)?),
+        Behind::List(cut) => Message::Decide(tx, judge_list(&cut, settings, true, rules)?),
+        Behind::Views(views) => {
+            judge_views(&views, settings)?;
+            Message::Invoke(tx, views)
         }
-        Some(cut) => {
-            let list = judge_list(&cut, settings, true, rules)?;
-            Ok(Message::Decide(tx, list))
-        }
+        Behind::Election(cut) => Message::Lead(tx, judge_election(&cut, settings, rules)?),
+    })
+}
+
+/// What stands behind the mark of an RD.
+fn read_rd(mut bytes: Bytes, settings: &Settings) -> Result<Message, u8> {
+    let rest = bytes.next(10)?;
+    if !bytes.0.is_empty() {
+        return Err(TRAILING);
     }
+    let (key, stamp) = (little(&rest[..2]) as u16, little(&rest[2..]));
+    if stamp == 0 || key > 511 {
+        return Err(RANGE);
+    }
+    if settings.ahead(stamp) {
+        return Err(AHEAD);
+    }
+    Ok(Message::Read { key, stamp })
 }
 
 // ---- a box
@@ -481,6 +657,16 @@ impl Entry {
     pub fn only_logged(&self) -> bool {
         self.decision.is_none() && self.vote == Vote::None && self.log.is_some()
     }
+
+    /// Undecided, with nothing logged, in view 0.
+    fn new(body: Transaction, vote: Vote) -> Entry {
+        Entry { body, vote, log: None, view: 0, decision: None }
+    }
+
+    /// Where nothing is logged, the logged view counts as 0.
+    fn logged_view(&self) -> u16 {
+        self.log.map_or(0, |(_, view)| view)
+    }
 }
 
 /// A lent table's entries and its read marks, for the length of one call.
@@ -495,7 +681,7 @@ pub struct Store {
 }
 
 /// The cases that a mixture of messages has to meet.
-pub const CASES: [&str; 43] = [
+pub const CASES: [&str; 74] = [
     "PR new, no test fails",
     "PR again, vote cast",
     "PR again, waiting: waits on",
@@ -539,6 +725,37 @@ pub const CASES: [&str; 43] = [
     "DC commit, other body committed",
     "DC replaces an undecided body",
     "DC replaces an aborted body",
+    "LG again, logged in a later view",
+    "LG, in a later view",
+    "DC, undecided takes it, in a later view",
+    "DC replaces a body in a later view",
+    "IV 9",
+    "IV, decided",
+    "IV 22, not held",
+    "IV 22, nothing logged",
+    "IV 22, before 24",
+    "IV, by 3f + 1 views to the one after",
+    "IV, by 3f + 1 views nowhere",
+    "IV, by f + 1 views up to them",
+    "IV, by f + 1 views nowhere",
+    "IV, too few views",
+    "IV, elects against its vote",
+    "LD 9",
+    "LD, decided",
+    "LD 23, another leads",
+    "LD 23, too few answers",
+    "LD 23, too many answers",
+    "LD 23, an answer of another view",
+    "LD 23, not the majority",
+    "LD 23, before 21",
+    "LD 21, the current view is above",
+    "LD 21, the logged view is not below",
+    "LD 21, view 0",
+    "LD 13",
+    "LD new",
+    "LD, nothing was logged",
+    "LD, the same was logged",
+    "LD, the other was logged",
 ];
 
 impl Store {
@@ -682,7 +899,7 @@ impl Store {
             if matches!(vote, Vote::Commit | Vote::Waiting) {
                 self.met.push("PR new, no test fails");
             }
-            self.store(Entry { body: tx, vote, log: None, decision: None }, settings);
+            self.store(Entry::new(tx, vote), settings);
             return Self::told(vote);
         };
         let held = &self.entries[place];
@@ -730,7 +947,10 @@ impl Store {
         if cast == Vote::None && !self.rules.hold(Rule::LogKept) {
             entry.log = None;
         }
-        self.touched = Some(place);
+        // the same vote again stores nothing
+        if matches!(cast, Vote::None | Vote::Waiting) || cast != vote {
+            self.touched = Some(place);
+        }
         Self::told(vote)
     }
 
@@ -767,15 +987,42 @@ impl Store {
             return Answer::Refused(FULL);
         }
         let vote = if self.rules.hold(Rule::VoteNone) { Vote::None } else { Vote::Commit };
-        self.store(Entry { body: tx, vote, log: Some(list.decision), decision: None }, settings);
-        Answer::Logged(list.decision)
+        self.store(Entry { log: Some((list.decision, 0)), ..Entry::new(tx, vote) }, settings);
+        Answer::Logged(list.decision, 0)
+    }
+
+    /// What is logged at a place, as it is answered.
+    fn logged(&self, place: usize) -> Answer {
+        let held = &self.entries[place];
+        let (decision, view) = held.log.expect("a log");
+        Answer::Logged(decision, if self.rules.hold(Rule::LogTellsItsView) { view } else { held.view })
+    }
+
+    /// Whether a log stays where an LG comes.
+    fn log_stays(&self, view: u16) -> bool {
+        self.rules.hold(Rule::FirstLogStays) && (view == 0 || self.rules.hold(Rule::LaterLogStays))
+    }
+
+    /// Already logged: that same log, whatever the list.
+    fn log_again(&mut self, place: usize, list: List, settings: &Settings) -> Answer {
+        let held = &self.entries[place];
+        if held.log.is_some_and(|(logged, _)| logged != list.decision) {
+            self.met.push(if held.vote == Vote::None { "LG again, other list, no vote" } else { "LG again, other list" });
+        }
+        if held.logged_view() > 0 {
+            self.met.push("LG again, logged in a later view");
+        }
+        if self.rules.lacking_to_log(settings.f, &list) > 0 {
+            self.met.push("LG again, too few");
+        }
+        self.logged(place)
     }
 
     fn log(&mut self, tx: Transaction, list: List, settings: &Settings) -> Answer {
         let Some(place) = self.place(tx.stamp) else {
             return self.log_new(tx, list, settings);
         };
-        let held = &mut self.entries[place];
+        let held = &self.entries[place];
         if held.body != tx {
             self.met.push("LG 9");
             return Answer::Refused(OTHER_BODY);
@@ -783,14 +1030,8 @@ impl Store {
         if let Some(decided) = held.decision {
             return Answer::Decided(decided);
         }
-        if let Some(logged) = held.log.filter(|_| self.rules.hold(Rule::FirstLogStays)) {
-            if logged != list.decision {
-                self.met.push(if held.vote == Vote::None { "LG again, other list, no vote" } else { "LG again, other list" });
-            }
-            if self.rules.lacking_to_log(settings.f, &list) > 0 {
-                self.met.push("LG again, too few");
-            }
-            return Answer::Logged(logged);
+        if held.log.is_some_and(|(_, view)| self.log_stays(view)) {
+            return self.log_again(place, list, settings);
         }
         if matches!(held.vote, Vote::Abort(_)) {
             self.met.push("LG with an abort vote cast");
@@ -799,9 +1040,16 @@ impl Store {
         if lacking > 0 {
             return self.too_few(&list, lacking, ["LG 11, one lacking", "LG 11, no answer counted"]);
         }
-        held.log = Some(list.decision);
+        let held = &mut self.entries[place];
+        if held.view > 0 {
+            self.met.push("LG, in a later view");
+        }
+        held.log = Some((list.decision, 0));
+        if !self.rules.hold(Rule::LogLeavesView) {
+            held.view = 0;
+        }
         self.touched = Some(place);
-        Answer::Logged(list.decision)
+        self.logged(place)
     }
 
     fn decide(&mut self, tx: Transaction, list: List, settings: &Settings) -> Answer {
@@ -823,34 +1071,54 @@ impl Store {
                 return Answer::Refused(FULL);
             }
             self.met.push("DC new");
-            self.store(Entry { body: tx, vote: Vote::None, log: None, decision: Some(list.decision) }, settings);
+            self.store(Entry { decision: Some(list.decision), ..Entry::new(tx, Vote::None) }, settings);
             return Answer::Done;
         };
-        let held = &mut self.entries[place];
-        if held.body == tx {
-            match held.decision {
-                None => {
-                    self.met.push(if held.only_logged() { "DC, undecided takes it, logged with no vote" } else { "DC, undecided takes it" });
-                    held.decision = Some(list.decision)
-                }
-                Some(decided) if decided == list.decision => self.met.push("DC, equal decision"),
-                Some(_) => {
-                    self.met.push("DC, opposite decision");
-                    return Answer::Refused(CONTRADICTION);
-                }
-            }
+        if self.entries[place].body == tx {
+            self.decide_held(place, list.decision)
         } else {
-            if list.decision == Decision::Abort {
-                self.met.push("DC abort, other body");
-                return Answer::Refused(OTHER_BODY);
-            }
-            if held.committed() {
-                self.met.push("DC commit, other body committed");
-                return Answer::Refused(CONTRADICTION);
-            }
-            self.met.push(if held.decision.is_none() { "DC replaces an undecided body" } else { "DC replaces an aborted body" });
-            *held = Entry { body: tx, vote: Vote::None, log: None, decision: Some(Decision::Commit) };
+            self.replace(place, tx, list.decision)
         }
+    }
+
+    /// DC, the same body held: undecided takes it; an equal decision changes nothing; the opposite is 12.
+    fn decide_held(&mut self, place: usize, decision: Decision) -> Answer {
+        let held = &mut self.entries[place];
+        if let Some(decided) = held.decision {
+            let equal = decided == decision;
+            self.met.push(if equal { "DC, equal decision" } else { "DC, opposite decision" });
+            return if equal { Answer::Done } else { Answer::Refused(CONTRADICTION) };
+        }
+        self.met.push(if held.only_logged() { "DC, undecided takes it, logged with no vote" } else { "DC, undecided takes it" });
+        if held.view > 0 {
+            self.met.push("DC, undecided takes it, in a later view");
+        }
+        held.decision = Some(decision);
+        if !self.rules.hold(Rule::DecidedKeepsViews) {
+            held.view = 0;
+            held.log = held.log.map(|(logged, _)| (logged, 0));
+        }
+        self.touched = Some(place);
+        Answer::Done
+    }
+
+    /// DC, another body held: abort is 9; commit is 12 where the held one is committed, else the new body replaces it.
+    fn replace(&mut self, place: usize, tx: Transaction, decision: Decision) -> Answer {
+        let held = &mut self.entries[place];
+        if decision == Decision::Abort {
+            self.met.push("DC abort, other body");
+            return Answer::Refused(OTHER_BODY);
+        }
+        if held.committed() {
+            self.met.push("DC commit, other body committed");
+            return Answer::Refused(CONTRADICTION);
+        }
+        self.met.push(if held.decision.is_none() { "DC replaces an undecided body" } else { "DC replaces an aborted body" });
+        if held.view > 0 {
+            self.met.push("DC replaces a body in a later view");
+        }
+        let view = if self.rules.hold(Rule::ReplacedHasNoView) { 0 } else { held.view };
+        *held = Entry { view, decision: Some(Decision::Commit), ..Entry::new(tx, Vote::None) };
         self.touched = Some(place);
         Answer::Done
     }
@@ -883,6 +1151,8 @@ impl Store {
             Message::Log(tx, list) => self.log(tx, list, settings),
             Message::Decide(tx, list) => self.decide(tx, list, settings),
             Message::Read { key, stamp } => self.read(key, stamp),
+            Message::Invoke(tx, views) => self.invoke(tx, &views, settings),
+            Message::Lead(tx, election) => self.lead(tx, &election, settings),
         }
     }
 }
@@ -893,10 +1163,8 @@ pub fn reading(message: &[u8], f: u64) -> Result<usize, u8> {
     if !settings.in_order() {
         return Err(GROUP);
     }
-    match read_message(message, &settings, &MARKS, PAPER)? {
-        Message::Prepare(tx) | Message::Log(tx, _) | Message::Decide(tx, _) => Ok(12 + 10 * (tx.reads.len() + tx.writes.len())),
-        Message::Read { .. } => Ok(0),
-    }
+    let read = read_message(message, &settings, &MARKS, PAPER)?;
+    Ok(read.transaction().map_or(0, |tx| 12 + 10 * (tx.reads.len() + tx.writes.len())))
 }
 
 // ---- records read and written by themselves
@@ -921,6 +1189,17 @@ pub struct ListDraft {
     pub pairs: [(u8, u8); 26],
 }
 
+/// What boxes told of their views, as a writer is given it: a VS has no answers, and nothing of what stands before the count.
+#[derive(Clone, Copy, Debug, Default, PartialEq, Eq)]
+pub struct ViewsDraft {
+    pub leader: u8,
+    pub decision: u8,
+    pub view: u16,
+    pub count: usize,
+    /// Box, answer, view.
+    pub ballots: [(u8, u8, u16); 26],
+}
+
 #[derive(Clone, Copy, Debug)]
 pub enum Record {
     Tx(Draft),
@@ -929,6 +1208,10 @@ pub enum Record {
     /// An LG or a DC, by the number of the mark; there is a writer for any number.
     Listed(u64, Draft, ListDraft),
     Rd { key: u16, stamp: u64 },
+    Vs(ViewsDraft),
+    El(ViewsDraft),
+    Iv(Draft, ViewsDraft),
+    Ld(Draft, ViewsDraft),
 }
 
 impl Draft {
@@ -949,14 +1232,80 @@ impl ListDraft {
     }
 }
 
+impl ViewsDraft {
+    fn counted(&self) -> Result<CutElection, u8> {
+        if self.count == 0 || self.count > 26 {
+            return Err(COUNT);
+        }
+        Ok(CutElection { leader: self.leader, decision: self.decision, view: self.view, answers: self.ballots[..self.count].to_vec() })
+    }
+}
+
+impl Rules {
+    /// Little-endian, like every number.
+    fn view_bytes(self, view: u16) -> [u8; 2] {
+        if self.hold(Rule::LowByteFirst) {
+            view.to_le_bytes()
+        } else {
+            view.to_be_bytes()
+        }
+    }
+}
+
+/// The boxes and views of what is listed, as a VS in order.
+fn vs_bytes(listed: &CutElection, settings: &Settings, rules: Rules) -> Result<Vec<u8>, u8> {
+    let views: Vec<(u8, u16)> = listed.answers.iter().map(|(number, _, view)| (*number, *view)).collect();
+    judge_views(&views, settings)?;
+    let mut bytes = vec![b'V', b'S', views.len() as u8];
+    for (number, view) in views {
+        bytes.push(number);
+        bytes.extend(rules.view_bytes(view));
+    }
+    Ok(bytes)
+}
+
+/// An EL in order.
+fn el_bytes(listed: &CutElection, settings: &Settings, rules: Rules) -> Result<Vec<u8>, u8> {
+    judge_election(listed, settings, rules)?;
+    let mut bytes = vec![b'E', b'L', listed.leader, listed.decision];
+    bytes.extend(rules.view_bytes(listed.view));
+    bytes.push(listed.answers.len() as u8);
+    for (number, answer, view) in &listed.answers {
+        bytes.extend([*number, *answer]);
+        bytes.extend(rules.view_bytes(*view));
+    }
+    Ok(bytes)
+}
+
 /// The view is written where the kind has one, and not where one is lent beside votes.
 fn list_bytes(list: &CutList, rules: Rules) -> Vec<u8> {
     let mut bytes = vec![b'V', b'L', list.kind, list.decision, list.pairs.len() as u8];
     if rules.has_a_view(list.kind) || !rules.hold(Rule::VotesWrittenWithout) {
-        bytes.extend(if rules.hold(Rule::LowByteFirst) { list.view.to_le_bytes() } else { list.view.to_be_bytes() });
+        bytes.extend(rules.view_bytes(list.view));
     }
     bytes.extend(list.pairs.iter().flat_map(|pair| [pair.0, pair.1]));
     bytes
+}
+
+/// An LG or a DC in order, by the number of its mark: the transaction is judged before the mark, the mark before the list.
+fn listed_bytes(number: u64, draft: &Draft, list: &ListDraft, settings: &Settings, rules: Rules) -> Result<Vec<u8>, u8> {
+    let (tx, list) = (draft.counted()?, list.counted()?);
+    judge_transaction(&tx, rules)?;
+    let mark: &[u8; 2] = match number {
+        LG => b"LG",
+        DC => b"DC",
+        _ => return Err(MARK),
+    };
+    judge_list(&list, settings, mark == b"DC", rules)?;
+    Ok([mark.to_vec(), transaction_bytes(&tx), list_bytes(&list, rules)].concat())
+}
+
+/// An IV or an LD in order.
+fn told_bytes(mark: &[u8; 2], draft: &Draft, views: &ViewsDraft, settings: &Settings, rules: Rules) -> Result<Vec<u8>, u8> {
+    let (tx, listed) = (draft.counted()?, views.counted()?);
+    judge_transaction(&tx, rules)?;
+    let behind = if mark == b"IV" { vs_bytes(&listed, settings, rules)? } else { el_bytes(&listed, settings, rules)? };
+    Ok([mark.to_vec(), transaction_bytes(&tx), behind].concat())
 }
 
 /// f alone matters to records.
@@ -989,18 +1338,17 @@ pub fn written_by(rules: Rules, record: &Record, f: u64, room: usize) -> Result<
             judge_list(&list, &settings, true, rules)?;
             list_bytes(&list, rules)
         }
-        Record::Listed(number, draft, list) => {
+        Record::Listed(number, draft, list) => listed_bytes(*number, draft, list, &group(f)?, rules)?,
+        Record::Vs(draft) => {
             let settings = group(f)?;
-            let (tx, list) = (draft.counted()?, list.counted()?);
-            judge_transaction(&tx, rules)?;
-            let mark: &[u8; 2] = match *number {
-                LG => b"LG",
-                DC => b"DC",
-                _ => return Err(MARK),
-            };
-            judge_list(&list, &settings, mark == b"DC", rules)?;
-            [mark.to_vec(), transaction_bytes(&tx), list_bytes(&list, rules)].concat()
+            vs_bytes(&draft.counted()?, &settings, rules)?
         }
+        Record::El(draft) => {
+            let settings = group(f)?;
+            el_bytes(&draft.counted()?, &settings, rules)?
+        }
+        Record::Iv(draft, views) => told_bytes(b"IV", draft, views, &group(f)?, rules)?,
+        Record::Ld(draft, views) => told_bytes(b"LD", draft, views, &group(f)?, rules)?,
         Record::Rd { key, stamp } => {
             if *stamp == 0 || *key > 511 {
                 return Err(RANGE);
@@ -1040,6 +1388,28 @@ pub fn reading_vl_by(rules: Rules, record: &[u8], f: u64) -> Result<(), u8> {
     judge_list(&list, &settings, true, rules).map(|_| ())
 }
 
+/// A VS by itself, with rules that may be broken.
+pub fn reading_vs_by(rules: Rules, record: &[u8], f: u64) -> Result<(), u8> {
+    let settings = group(f)?;
+    let mut bytes = Bytes(record);
+    let views = cut_views(&mut bytes, rules)?;
+    if !bytes.0.is_empty() {
+        return Err(TRAILING);
+    }
+    judge_views(&views, &settings)
+}
+
+/// An EL by itself, with rules that may be broken.
+pub fn reading_el_by(rules: Rules, record: &[u8], f: u64) -> Result<(), u8> {
+    let settings = group(f)?;
+    let mut bytes = Bytes(record);
+    let election = cut_election(&mut bytes, rules)?;
+    if !bytes.0.is_empty() {
+        return Err(TRAILING);
+    }
+    judge_election(&election, &settings, rules).map(|_| ())
+}
+
 /// The values of a message, as drafts with zeros in the places that are not used, by rules that may be broken.
 pub fn fields_by(rules: Rules, message: &[u8], f: u64) -> Result<Record, u8> {
     fn front<T: Copy + Default, const N: usize>(from: &[T]) -> [T; N] {
@@ -1062,6 +1432,14 @@ pub fn fields_by(rules: Rules, message: &[u8], f: u64) -> Result<Record, u8> {
         Message::Log(tx, list) => Record::Listed(LG, draft(&tx), listed(&list)),
         Message::Decide(tx, list) => Record::Listed(DC, draft(&tx), listed(&list)),
         Message::Read { key, stamp } => Record::Rd { key, stamp },
+        Message::Invoke(tx, views) => {
+            let ballots: Vec<(u8, u8, u16)> = views.iter().map(|(number, view)| (*number, 0, *view)).collect();
+            Record::Iv(draft(&tx), ViewsDraft { count: ballots.len(), ballots: front(&ballots), ..ViewsDraft::default() })
+        }
+        Message::Lead(tx, led) => {
+            let ballots: Vec<(u8, u8, u16)> = led.answers.iter().map(|(number, answer, view)| (*number, code(*answer), *view)).collect();
+            Record::Ld(draft(&tx), ViewsDraft { leader: led.leader, decision: code(led.decision), view: led.view, count: ballots.len(), ballots: front(&ballots) })
+        }
     })
 }
 
@@ -1093,17 +1471,32 @@ pub struct Sheet {
     pub aborts: u32,
 }
 
+/// The boxes on a mask.
+fn on(mask: u32) -> Vec<u64> {
+    (0..32).filter(|number| mask & (1 << number) != 0).collect()
+}
+
+fn mask(boxes: &[u64]) -> u32 {
+    boxes.iter().fold(0, |sum, number| sum | 1u32 << number)
+}
+
+/// The boxes under each answer: a box n or more, or one under both, is no sheet.
+fn answers_on(commits: u32, aborts: u32, settings: &Settings) -> Option<[Vec<u64>; 2]> {
+    let (commits, aborts) = (on(commits), on(aborts));
+    let wide = |number: &u64| *number >= settings.boxes();
+    let damaged = commits.iter().any(wide) || aborts.iter().any(wide) || commits.iter().any(|number| aborts.contains(number));
+    (!damaged).then_some([commits, aborts])
+}
+
 pub fn tally(sheet: &mut Sheet, f: u64, number: u64, answer: u64) -> Reply {
     let settings = Settings { f, capacity: 1, clock: 0, delta: 0 };
     if !settings.in_order() {
         return Reply::Refused(GROUP);
     }
-    let on = |mask: u32| (0..32u64).filter(|b| mask & (1 << b) != 0).collect::<Vec<u64>>();
-    let (mut commits, mut aborts) = (on(sheet.commits), on(sheet.aborts));
-    let wide = |b: &u64| *b >= settings.boxes();
-    if !(sheet.kind == 1 || sheet.kind == 2) || commits.iter().any(wide) || aborts.iter().any(wide) || commits.iter().any(|b| aborts.contains(b)) {
+    let found = answers_on(sheet.commits, sheet.aborts, &settings).filter(|_| sheet.kind == 1 || sheet.kind == 2);
+    let Some([mut commits, mut aborts]) = found else {
         return Reply::Refused(TABLE);
-    }
+    };
     if number >= settings.boxes() {
         return Reply::Refused(RANGE);
     }
@@ -1118,7 +1511,6 @@ pub fn tally(sheet: &mut Sheet, f: u64, number: u64, answer: u64) -> Reply {
     } else {
         aborts.push(number);
     }
-    let mask = |boxes: &[u64]| boxes.iter().fold(0, |sum, b| sum | 1u32 << b);
     (sheet.commits, sheet.aborts) = (mask(&commits), mask(&aborts));
     let (row, c, a) = (PAPER.row(f), commits.len(), aborts.len());
     if sheet.kind == 1 {
@@ -1164,7 +1556,10 @@ fn entry_of(row: &[u8]) -> Option<Entry> {
         reads: pairs(&tx[12..12 + 10 * r]),
         writes: pairs(&tx[12 + 10 * r..12 + 10 * (r + w)]),
     };
-    Some(Entry { body, vote, log: settled(row[LOG_AT])?, decision: settled(row[DECIDED_AT])? })
+    let two = |at: usize| little(&row[at..at + 2]) as u16;
+    // a view beside no log is no part of the entry
+    let log = settled(row[LOG_AT])?.map(|decision| (decision, two(LOG_VIEW_AT)));
+    Some(Entry { body, vote, log, view: two(VIEW_AT), decision: settled(row[DECIDED_AT])? })
 }
 
 /// The entries of a lent table, or none where it is refused.
@@ -1187,7 +1582,7 @@ pub fn transaction_bytes(tx: &Transaction) -> Vec<u8> {
     bytes
 }
 
-/// An entry put down in its row: codes and body, what stands behind them being left.
+/// An entry put down in its row: codes, views and body, what stands behind them being left.
 fn put_entry(row: &mut [u8], entry: &Entry) {
     let number = |settled: Option<Decision>| match settled {
         None => 0,
@@ -1200,7 +1595,10 @@ fn put_entry(row: &mut [u8], entry: &Entry) {
         Vote::Abort(reason) => (2, reason),
         Vote::Waiting => (3, 0),
     };
-    (row[LOG_AT], row[DECIDED_AT]) = (number(entry.log), number(entry.decision));
+    (row[LOG_AT], row[DECIDED_AT]) = (number(entry.log.map(|log| log.0)), number(entry.decision));
+    for (at, view) in [(LOG_VIEW_AT, entry.logged_view()), (VIEW_AT, entry.view)] {
+        row[at..at + 2].copy_from_slice(&view.to_le_bytes());
+    }
     let body = transaction_bytes(&entry.body);
     row[BODY_AT..BODY_AT + body.len()].copy_from_slice(&body);
 }
@@ -1227,10 +1625,7 @@ pub fn call_by(rules: Rules, table: &mut [u8], marks: &mut Vec<u64>, settings: &
         Err(number) => return Answer::Refused(number),
     };
     let mut store = Store { rules, entries, marks: std::mem::take(marks), touched: None, met: Vec::new() };
-    let named = match &read {
-        Message::Prepare(tx) | Message::Log(tx, _) | Message::Decide(tx, _) => tx.stamp,
-        Message::Read { .. } => 0,
-    };
+    let named = read.transaction().map_or(0, |tx| tx.stamp);
     if store.entries.iter().filter(|entry| entry.body.stamp == named).count() > 1 {
         met.push("a stamp held twice");
     }

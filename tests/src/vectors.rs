@@ -1,11 +1,13 @@
-//! Records read and written, messages by each entrance, bodies that a box logs before it has their PR, lists, and answers taken by a tally sheet: each refusal at its smallest
+//! Records read and written, messages by each entrance, bodies that a box logs before it has their PR, lists, the fallback, and answers taken by sheets: each refusal at its smallest
 //! fault, two faults at once for neighbours in 01's order, and both sides of each threshold. The answers due are written down from 01 and 02; the engine, by its C interface,
 //! and the model have to give them.
-//! What the bench program can show of reading stands in tests/bench; here is the rest.
+//! What the bench program can show of reading stands in tests/bench; here is the rest. Those of the fallback are in vectors/fallback.rs.
 
-use crate::engine::{self, Entrance, Fields};
+mod fallback;
+
+use crate::engine::{self, Entrance, Fields, Views};
 use crate::member::Model;
-use crate::model::{self, Answer, Decision, Draft, ListDraft, Record, Reply, Settings, Sheet, DC, LG, PAPER, THRESHOLDS};
+use crate::model::{self, Answer, Decision, Draft, ListDraft, Record, Reply, Settings, Sheet, ViewsDraft, DC, LG, PAPER, THRESHOLDS};
 use crate::records::Clerk;
 use stobbarel::layout::{table_len, DECIDED_AT, HEAD, LOG_AT, REASON_AT, ROW, VOTE_AT};
 
@@ -39,8 +41,12 @@ const VOTE: &[u8] = b"VL\x01\x01\x01\x00\x01";
 const LOG: &[u8] = b"VL\x02\x01\x01\0\0\x00\x01";
 const LOG_LATER: &[u8] = b"VL\x02\x01\x01\x34\x12\x00\x01";
 
+/// Box 0 is in view 0x1234; box 3 leads view 1 of 50, and box 0 answered commit.
+const VIEW: &[u8] = b"VS\x01\0\x34\x12";
+const ELECTED: &[u8] = b"EL\x03\x01\x01\0\x01\0\x01\x01\0";
+
 /// A message for a group of f: the refusal's number, or how many of its bytes are handed back as the transaction.
-const MESSAGES: [(&str, u64, &[&[u8]], Result<usize, u8>); 22] = [
+const MESSAGES: [(&str, u64, &[&[u8]], Result<usize, u8>); 34] = [
     ("nothing", 1, &[], Err(1)),
     ("a PR of one write", 1, &[b"PR", BODY], Ok(22)),
     ("a PR of a read and a write", 1, &[b"PR", BOTH], Ok(32)),
@@ -63,6 +69,18 @@ const MESSAGES: [(&str, u64, &[&[u8]], Result<usize, u8>); 22] = [
     ("a byte behind an RD", 1, &[b"RD\x03\0\x3c\0\0\0\0\0\0\0", b"\0"], Err(4)),
     ("4 before 5: stamp 0", 1, &[b"PR", STAMP_0, b"\0"], Err(4)),
     ("4 before 5: an RD of key 512 at 0", 1, &[b"RD\0\x02\0\0\0\0\0\0\0\0", b"\0"], Err(4)),
+    ("an IV", 1, &[b"IV", BODY, VIEW], Ok(22)),
+    ("an IV of a read and a write", 1, &[b"IV", BOTH, VIEW], Ok(32)),
+    ("an LD", 1, &[b"LD", BODY, ELECTED], Ok(22)),
+    ("an LD of box 25 of 26", 5, &[b"LD", BODY, b"EL\x19\x02\xff\xff\x01\x19\x02\0\0"], Ok(22)),
+    ("a byte behind an IV", 1, &[b"IV", BODY, VIEW, b"\0"], Err(4)),
+    ("a byte behind an LD", 1, &[b"LD", BODY, ELECTED, b"\0"], Err(4)),
+    ("an IV with the answers of an LD", 1, &[b"IV", BODY, ELECTED], Err(2)),
+    ("an LD with the views of an IV", 1, &[b"LD", BODY, VIEW], Err(2)),
+    ("an IV with votes", 1, &[b"IV", BODY, VOTE], Err(2)),
+    ("an LD with logs", 1, &[b"LD", BODY, LOG], Err(2)),
+    ("an LG with views", 1, &[b"LG", BODY, VIEW], Err(2)),
+    ("5 of the transaction before 8 of the answers", 1, &[b"LD", STAMP_0, b"EL\x03\x03\x01\0\x01\0\x01\x01\0"], Err(5)),
 ];
 
 /// A TX by itself: the refusal's number, or 0.
@@ -131,7 +149,96 @@ const VL: [(&str, u64, &[u8], u8); 39] = [
     ("5 before 6", 1, b"VL\x01\x01\x02\x06\x01\x06\x01", 5),
 ];
 
+/// A VS by itself for a group of f: the refusal's number, or 0.
+const VS: [(&str, u64, &[u8], u8); 18] = [
+    ("a view", 1, VIEW, 0),
+    ("view 0", 1, b"VS\x01\x05\0\0", 0),
+    ("the last view", 1, b"VS\x01\x05\xff\xff", 0),
+    ("two views", 1, b"VS\x02\0\x01\0\x05\0\x01", 0),
+    ("box 25 of 26", 5, b"VS\x01\x19\0\0", 0),
+    ("14 before 1", 0, b"", 14),
+    ("f 6", 6, VIEW, 14),
+    ("nothing", 1, b"", 1),
+    ("another mark", 1, b"EL", 2),
+    ("the count is missing", 1, b"VS", 1),
+    ("none", 1, b"VS\0", 3),
+    ("27", 1, b"VS\x1b", 3),
+    ("half a view", 1, b"VS\x01\0\x34", 1),
+    ("a byte behind it", 1, b"VS\x01\0\x34\x12\0", 4),
+    ("4 before 5", 1, b"VS\x01\x06\0\0\0", 4),
+    ("box 6 of 6", 1, b"VS\x01\x06\0\0", 5),
+    ("box 2 twice", 1, b"VS\x02\x02\0\0\x02\x01\0", 6),
+    ("5 before 6", 1, b"VS\x02\x06\0\0\x06\x01\0", 5),
+];
+
+/// An EL by itself for a group of f: the refusal's number, or 0.
+const EL: [(&str, u64, &[u8], u8); 28] = [
+    ("an answer", 1, ELECTED, 0),
+    ("of another leader, view and decision than will be taken", 1, b"EL\0\x02\0\0\x01\x05\x01\xff\xff", 0),
+    ("two answers", 1, b"EL\x03\x01\x01\0\x02\0\x01\x01\0\x05\x02\0\x01", 0),
+    ("box 25 of 26 leads", 5, b"EL\x19\x01\x01\0\x01\0\x01\x01\0", 0),
+    ("14 before 1", 0, b"", 14),
+    ("f 6", 6, ELECTED, 14),
+    ("nothing", 1, b"", 1),
+    ("another mark", 1, b"VS", 2),
+    ("only its mark", 1, b"EL", 1),
+    ("no view", 1, b"EL\x03\x01", 1),
+    ("half a view", 1, b"EL\x03\x01\x01", 1),
+    ("the count is missing", 1, b"EL\x03\x01\x01\0", 1),
+    ("none", 1, b"EL\x03\x01\x01\0\0", 3),
+    ("27", 1, b"EL\x03\x01\x01\0\x1b", 3),
+    ("half a view of an answer", 1, b"EL\x03\x01\x01\0\x01\0\x01\x01", 1),
+    ("a byte behind it", 1, b"EL\x03\x01\x01\0\x01\0\x01\x01\0\0", 4),
+    ("4 before 8", 1, b"EL\x03\x03\x01\0\x01\0\x01\x01\0\0", 4),
+    ("decision 0", 1, b"EL\x03\0\x01\0\x01\0\x01\x01\0", 8),
+    ("decision 3", 1, b"EL\x03\x03\x01\0\x01\0\x01\x01\0", 8),
+    ("answer 0", 1, b"EL\x03\x01\x01\0\x01\0\0\x01\0", 8),
+    ("answer 3", 1, b"EL\x03\x01\x01\0\x01\0\x03\x01\0", 8),
+    ("box 6 of 6", 1, b"EL\x03\x01\x01\0\x01\x06\x01\x01\0", 5),
+    ("box 6 of 6 leads", 1, b"EL\x06\x01\x01\0\x01\0\x01\x01\0", 5),
+    ("box 2 twice", 1, b"EL\x03\x01\x01\0\x02\x02\x01\x01\0\x02\x01\x01\0", 6),
+    ("8 before 5: the leader", 1, b"EL\x06\x01\x01\0\x01\0\x03\x01\0", 8),
+    ("8 before 5: a box", 1, b"EL\x03\x01\x01\0\x02\x06\x01\x01\0\x07\x03\x01\0", 8),
+    ("5 before 6: the leader", 1, b"EL\x06\x01\x01\0\x02\x02\x01\x01\0\x02\x01\x01\0", 5),
+    ("5 before 6: a box", 1, b"EL\x03\x01\x01\0\x02\x06\x01\x01\0\x06\x01\x01\0", 5),
+];
+
+/// A message for a group of f = 1: the refusal's number, the mark's; leader, decision, view and count; and the first two ballots.
+type Told = (u8, u64, [u64; 4], [(u8, u8, u16); 2]);
+
+const TOLD: [(&str, &[&[u8]], Told); 9] = [
+    ("views of a PR", &[b"PR", BODY], (0, 1, [0; 4], [(0, 0, 0); 2])),
+    ("views of an LG", &[b"LG", BODY, VOTE], (0, 2, [0; 4], [(0, 0, 0); 2])),
+    ("views of a DC of logs", &[b"DC", BODY, LOG_LATER], (0, 3, [0; 4], [(0, 0, 0); 2])),
+    ("views of an RD", &[RD], (0, 4, [0; 4], [(0, 0, 0); 2])),
+    ("views of an IV", &[b"IV", BODY, b"VS\x02\0\x34\x12\x05\xff\xff"], (0, 5, [0, 0, 0, 2], [(0, 0, 0x1234), (5, 0, 65535)])),
+    ("views of an LD", &[b"LD", BODY, b"EL\x05\x02\x34\x12\x02\0\x01\x01\0\x05\x02\0\x01"], (0, 6, [5, 2, 0x1234, 2], [(0, 1, 1), (5, 2, 256)])),
+    ("views of an IV, box 6 of 6", &[b"IV", BODY, b"VS\x01\x06\0\0"], (5, 0, [0; 4], [(0, 0, 0); 2])),
+    ("views of an LD, answer 3", &[b"LD", BODY, b"EL\x03\x01\x01\0\x01\0\x03\x01\0"], (8, 0, [0; 4], [(0, 0, 0); 2])),
+    ("views of nothing", &[], (1, 0, [0; 4], [(0, 0, 0); 2])),
+];
+
+fn told((number, mark, told): &Views) -> Told {
+    let head = [u64::from(told.leader), u64::from(told.decision), u64::from(told.view), told.count as u64];
+    (*number, *mark, head, [told.ballots[0], told.ballots[1]])
+}
+
+/// The records of the fallback, and what stands in them.
+fn reading_views(tried: &mut Tried) {
+    for (what, f, bytes, due) in VS {
+        tried.one(&format!("VS: {what}"), due, engine::reading_vs(bytes, f), Model(PAPER).reading_vs(bytes, f));
+    }
+    for (what, f, bytes, due) in EL {
+        tried.one(&format!("EL: {what}"), due, engine::reading_el(bytes, f), Model(PAPER).reading_el(bytes, f));
+    }
+    for (what, parts, due) in TOLD {
+        let bytes = parts.concat();
+        tried.one(what, due, told(&engine::views(&bytes, 1)), told(&Model(PAPER).views(&bytes, 1)));
+    }
+}
+
 fn reading(tried: &mut Tried) {
+    reading_views(tried);
     for (what, f, parts, due) in MESSAGES {
         let bytes = parts.concat();
         tried.one(what, due, engine::reading(&bytes, f), model::reading(&bytes, f));
@@ -151,9 +258,11 @@ fn reading(tried: &mut Tried) {
 /// A message for a group of f = 1: the refusal's number; kind, decision, view and count as its head has them; the list's first two pairs.
 type Listed = (u8, [u64; 4], [(u8, u8); 2]);
 
-const LISTED: [(&str, &[&[u8]], Listed); 13] = [
+const LISTED: [(&str, &[&[u8]], Listed); 15] = [
     ("values of a PR", &[b"PR", BODY], (0, [0, 0, 0, 0], [(0, 0); 2])),
     ("values of an RD", &[RD], (0, [0, 0, 0, 0], [(0, 0); 2])),
+    ("values of an IV", &[b"IV", BODY, VIEW], (0, [0, 0, 0, 0], [(0, 0); 2])),
+    ("values of an LD", &[b"LD", BODY, ELECTED], (0, [0, 0, 0, 0], [(0, 0); 2])),
     ("values of an LG", &[b"LG", BODY, VOTE], (0, [1, 1, 0, 1], [(0, 1), (0, 0)])),
     ("values of a DC of votes", &[b"DC", BODY, b"VL\x01\x02\x02\x03\x02\x05\x01"], (0, [1, 2, 0, 2], [(3, 2), (5, 1)])),
     ("values of a DC of logs", &[b"DC", BODY, b"VL\x02\x02\x02\0\0\x03\x02\x05\x01"], (0, [2, 2, 0, 2], [(3, 2), (5, 1)])),
@@ -189,7 +298,7 @@ const fn too_few(lacking: u8) -> Answer {
 }
 
 /// A message by an entrance, for f and a capacity, on an empty table for eight entries: the answer.
-const ENTERED: [(&str, Entrance, u64, u64, &[&[u8]], Answer); 31] = [
+const ENTERED: [(&str, Entrance, u64, u64, &[&[u8]], Answer); 40] = [
     ("a PR by receive", Entrance::Receive, 1, 8, &[b"PR", BODY], COMMIT),
     ("a PR", Entrance::Due(1), 1, 8, &[b"PR", BODY], COMMIT),
     ("an LG", Entrance::Due(2), 1, 8, &[b"LG", BODY, VOTE], too_few(3)),
@@ -209,7 +318,16 @@ const ENTERED: [(&str, Entrance, u64, u64, &[&[u8]], Answer); 31] = [
     ("1 before 2: one byte of another mark", Entrance::Due(1), 1, 8, &[b"R"], refused(1)),
     ("2 before 1: another mark, cut", Entrance::Due(1), 1, 8, &[b"RD"], refused(2)),
     ("mark 0", Entrance::Due(0), 1, 8, &[b"PR", BODY], refused(2)),
-    ("mark 5", Entrance::Due(5), 1, 8, &[RD], refused(2)),
+    ("an IV", Entrance::Due(5), 1, 8, &[b"IV", BODY, VIEW], refused(22)),
+    ("an IV by receive", Entrance::Receive, 1, 8, &[b"IV", BODY, VIEW], refused(22)),
+    ("an LD", Entrance::Due(6), 1, 8, &[b"LD", BODY, ELECTED], refused(23)),
+    ("an LD by receive", Entrance::Receive, 1, 8, &[b"LD", BODY, ELECTED], refused(23)),
+    ("an LD where an IV is due", Entrance::Due(5), 1, 8, &[b"LD", BODY, ELECTED], refused(2)),
+    ("an IV where an LD is due", Entrance::Due(6), 1, 8, &[b"IV", BODY, VIEW], refused(2)),
+    ("an LG where an LD is due", Entrance::Due(6), 1, 8, &[b"LG", BODY, VOTE], refused(2)),
+    ("an RD where an IV is due", Entrance::Due(5), 1, 8, &[RD], refused(2)),
+    ("a mark that is LD but for its upper half", Entrance::Due((1 << 32) + 6), 1, 8, &[b"LD", BODY, ELECTED], refused(2)),
+    ("mark 7", Entrance::Due(7), 1, 8, &[RD], refused(2)),
     ("mark 9", Entrance::Due(9), 1, 8, &[b"PR", BODY], refused(2)),
     ("a mark that is PR but for its upper half", Entrance::Due((1 << 32) + 1), 1, 8, &[b"PR", BODY], refused(2)),
     ("the largest mark", Entrance::Due(u64::MAX), 1, 8, &[RD], refused(2)),
@@ -253,8 +371,8 @@ const ABORTS: &[u8] = b"VL\x01\x02\x02\0\x02\x01\x02";
 const PROVES_COMMIT: &[u8] = b"VL\x01\x01\x06\0\x01\x01\x01\x02\x01\x03\x01\x04\x01\x05\x01";
 const PROVES_ABORT: &[u8] = b"VL\x01\x02\x04\0\x02\x01\x02\x02\x02\x03\x02";
 
-const LOGGED: Answer = Answer::Logged(Decision::Commit);
-const LOGGED_ABORT: Answer = Answer::Logged(Decision::Abort);
+const LOGGED: Answer = Answer::Logged(Decision::Commit, 0);
+const LOGGED_ABORT: Answer = Answer::Logged(Decision::Abort, 0);
 const DECIDED_ABORT: Answer = Answer::Decided(Decision::Abort);
 
 const fn abort(reason: u8) -> Answer {
@@ -593,7 +711,7 @@ fn due_of(log: bool, decided: u8, lacking: u8, before: Before) -> Answer {
         (true, Before::Decided) => Answer::Decided(Decision::Commit),
         _ if lacking > 0 => too_few(lacking),
         (_, Before::Full) => refused(13),
-        (true, _) => Answer::Logged(decision),
+        (true, _) => Answer::Logged(decision, 0),
         (false, Before::Decided) if decided == 2 => refused(12),
         (false, _) => Answer::Done,
     }
@@ -658,7 +776,7 @@ const fn of_view(kind: u8, view: u16, decision: u8, count: usize, number: u8, an
 /// A record for a group of f and a buffer of so many bytes: the refusal's number, or the bytes that are written.
 type Written = (&'static str, u64, Record, usize, Result<&'static [&'static [u8]], u8>);
 
-const WRITTEN: [Written; 68] = [
+const WRITTEN: [Written; 98] = [
     ("a TX", 1, Record::Tx(both(50, 3, 40)), 40, Ok(&[BOTH])),
     ("a TX into its own length", 1, Record::Tx(both(50, 3, 40)), 32, Ok(&[BOTH])),
     ("a TX, one byte short", 1, Record::Tx(both(50, 3, 40)), 31, Err(17)),
@@ -727,7 +845,47 @@ const WRITTEN: [Written; 68] = [
     ("6 before 17", 1, Record::Vl(list(1, 2, 26, 5, 2)), 8, Err(6)),
     ("7 before 17", 1, Record::Tx(both(50, 3, 50)), 31, Err(7)),
     ("5 before 17", 1, Record::Rd { key: 512, stamp: 60 }, 11, Err(5)),
+    ("a VS", 1, Record::Vs(ballots(1, 0, 0x1234)), 7, Ok(&[VIEW])),
+    ("a VS into its own length", 1, Record::Vs(ballots(1, 0, 0x1234)), 6, Ok(&[VIEW])),
+    ("a VS, one byte short", 1, Record::Vs(ballots(1, 0, 0x1234)), 5, Err(17)),
+    ("a VS, what only an EL has lent beside it", 1, Record::Vs(led_by(9, 9, 9, 1, 0, 9, 0x1234)), 6, Ok(&[VIEW])),
+    ("a VS of the last view", 1, Record::Vs(ballots(1, 5, 65535)), 6, Ok(&[b"VS\x01\x05\xff\xff"])),
+    ("a VS, f 0", 0, Record::Vs(ballots(27, 6, 0)), 6, Err(14)),
+    ("a VS of none", 1, Record::Vs(ballots(0, 0, 0)), 6, Err(3)),
+    ("a VS of 27", 1, Record::Vs(ballots(27, 6, 0)), 6, Err(3)),
+    ("a VS, box 6 of 6", 1, Record::Vs(ballots(1, 6, 0)), 6, Err(5)),
+    ("a VS, 5 before 6", 1, Record::Vs(ballots(2, 6, 0)), 9, Err(5)),
+    ("a VS, box 5 twice, before 17", 1, Record::Vs(ballots(2, 5, 0)), 8, Err(6)),
+    ("an EL", 1, Record::El(led_by(3, 1, 1, 1, 0, 1, 1)), 12, Ok(&[ELECTED])),
+    ("an EL into its own length", 1, Record::El(led_by(3, 1, 1, 1, 0, 1, 1)), 11, Ok(&[ELECTED])),
+    ("an EL, one byte short", 1, Record::El(led_by(3, 1, 1, 1, 0, 1, 1)), 10, Err(17)),
+    ("an EL of views whose bytes differ", 1, Record::El(led_by(5, 2, 0x1234, 1, 5, 2, 256)), 11, Ok(&[b"EL\x05\x02\x34\x12\x01\x05\x02\0\x01"])),
+    ("an EL of 27", 1, Record::El(led_by(6, 3, 1, 27, 6, 3, 1)), 11, Err(3)),
+    ("an EL, decision 3", 1, Record::El(led_by(6, 3, 1, 1, 6, 1, 1)), 11, Err(8)),
+    ("an EL, answer 0", 1, Record::El(led_by(6, 1, 1, 1, 6, 0, 1)), 11, Err(8)),
+    ("an EL, box 6 of 6 leads", 1, Record::El(led_by(6, 1, 1, 2, 0, 1, 1)), 15, Err(5)),
+    ("an EL, box 6 of 6", 1, Record::El(led_by(3, 1, 1, 2, 6, 1, 1)), 15, Err(5)),
+    ("an EL, box 0 twice, before 17", 1, Record::El(led_by(3, 1, 1, 2, 0, 1, 1)), 14, Err(6)),
+    ("an IV", 1, Record::Iv(both(50, 3, 40), ballots(1, 0, 0x1234)), 40, Ok(&[b"IV", BOTH, VIEW])),
+    ("an IV, one byte short", 1, Record::Iv(both(50, 3, 40), ballots(1, 0, 0x1234)), 39, Err(17)),
+    ("an IV, 3 of the views before 5", 1, Record::Iv(both(0, 3, 40), ballots(27, 0, 0)), 40, Err(3)),
+    ("an IV, 7 before 5 of the views", 1, Record::Iv(both(50, 3, 50), ballots(1, 6, 0)), 40, Err(7)),
+    ("an LD", 1, Record::Ld(both(50, 3, 40), led_by(3, 1, 1, 1, 0, 1, 1)), 45, Ok(&[b"LD", BOTH, ELECTED])),
+    ("an LD, one byte short", 1, Record::Ld(both(50, 3, 40), led_by(3, 1, 1, 1, 0, 1, 1)), 44, Err(17)),
+    ("an LD, 14 before 3", 6, Record::Ld(counted(50, 9, 1, 3, 40), led_by(3, 1, 1, 27, 0, 1, 1)), 45, Err(14)),
+    ("an LD, 3 of the transaction", 1, Record::Ld(counted(50, 9, 1, 3, 40), led_by(3, 1, 1, 1, 0, 1, 1)), 45, Err(3)),
+    ("an LD, 7 before 8", 1, Record::Ld(both(50, 3, 50), led_by(3, 3, 1, 1, 0, 1, 1)), 45, Err(7)),
 ];
+
+/// So many boxes, all of one number, in a view.
+const fn ballots(count: usize, number: u8, view: u16) -> ViewsDraft {
+    led_by(0, 0, 0, count, number, 0, view)
+}
+
+/// A leader's decision and view, and so many answers, all of one box.
+const fn led_by(leader: u8, decision: u8, view: u16, count: usize, number: u8, answer: u8, answered: u16) -> ViewsDraft {
+    ViewsDraft { leader, decision, view, count, ballots: [(number, answer, answered); 26] }
+}
 
 /// What a buffer's bytes are before.
 const CLEAR: u8 = 0xaa;
@@ -875,21 +1033,31 @@ fn sheets(tried: &mut Tried) {
 /// False where an answer is not the one due, or where none was tried.
 pub fn check() -> bool {
     let mut tried = Tried::default();
-    reading(&mut tried);
-    let read = tried.all;
-    entering(&mut tried);
-    let entered = tried.all - read;
-    missing_the_prepare(&mut tried);
-    let missed = tried.all - read - entered;
-    lists(&mut tried);
-    let listed = tried.all - read - entered - missed;
-    writing(&mut tried);
-    let written = tried.all - read - entered - missed - listed;
-    sheets(&mut tried);
-    let taken = tried.all - read - entered - missed - listed - written;
-    println!(
-        "vectors of the papers: {read} of reading, {entered} of entrances, {missed} of LGs before the PR, {listed} of lists, {written} of writing, {taken} of the tally; {} differ",
-        tried.wrong
-    );
-    tried.wrong == 0 && [read, entered, missed, listed, written, taken].iter().all(|of| *of > 0)
+    let parts: [(&str, fn(&mut Tried)); 13] = [
+        ("reading", reading),
+        ("entrances", entering),
+        ("LGs before the PR", missing_the_prepare),
+        ("lists", lists),
+        ("the fallback", fallback::rescues),
+        ("moving on", fallback::moves),
+        ("a leader's decisions", fallback::led),
+        ("leaders", fallback::leaders),
+        ("writing", writing),
+        ("the tally", sheets),
+        ("elections", fallback::elections),
+        ("elections refused", fallback::elections_refused),
+        ("views told", fallback::views_told),
+    ];
+    let mut all = true;
+    let told: Vec<String> = parts
+        .iter()
+        .map(|(what, part)| {
+            let before = tried.all;
+            part(&mut tried);
+            all &= tried.all > before;
+            format!("{} of {what}", tried.all - before)
+        })
+        .collect();
+    println!("vectors of the papers: {}; {} differ", told.join(", "), tried.wrong);
+    tried.wrong == 0 && all
 }

@@ -137,7 +137,7 @@ pub fn call(name: Name, size: usize) -> Call {
         Name::PrNew | Name::PrSmall => (prepared(&fresh(highest)), Undo::Entry, Answer::Commit),
         Name::PrLate => (prepared(&fresh(middle)), Undo::Entry, Answer::Commit),
         Name::PrAgain => (prepared(&last(&lent)), Undo::Nothing, Answer::Commit),
-        Name::Lg => (listed(b"LG", &last(&lent), 1), Undo::Log, Answer::Logged(Decision::Commit)),
+        Name::Lg => (listed(b"LG", &last(&lent), 1), Undo::Log, Answer::Logged(Decision::Commit, 0)),
         Name::Dc => (listed(b"DC", &last(&lent), 1), Undo::Decision, Answer::Done),
         Name::DcNew => (listed(b"DC", &fresh(highest), 1), Undo::Entry, Answer::Done),
         Name::Rd => read(&lent, highest),

@@ -1,7 +1,11 @@
 //! The paper's rules over the lent table itself, in ordinary Rust that copies and allocates nothing: what the engine does, unproved.
 
 use crate::model::{row_at, Answer, Decision, Settings, THRESHOLDS};
-use stobbarel::layout::{table_len, BODY_AT, DECIDED_AT, HEAD, LOG_AT, REASON_AT, ROW, VOTE_AT};
+use stobbarel::layout::{table_len, BODY_AT, DECIDED_AT, HEAD, LOG_AT, LOG_VIEW_AT, REASON_AT, ROW, VIEW_AT, VOTE_AT};
+
+fn u16_at(bytes: &[u8], at: usize) -> u16 {
+    u16::from_le_bytes([bytes[at], bytes[at + 1]])
+}
 
 fn u64_at(bytes: &[u8], at: usize) -> u64 {
     u64::from_le_bytes(bytes[at..at + 8].try_into().expect("eight bytes"))
@@ -49,8 +53,14 @@ struct Codes {
     vote: u8,
     reason: u8,
     log: u8,
+    /// 0 where nothing is logged.
+    log_view: u16,
+    view: u16,
     decided: u8,
 }
+
+/// Of an entry that a call makes.
+const NEW: Codes = Codes { vote: NONE, reason: 0, log: NONE, log_view: 0, view: 0, decided: NONE };
 
 /// A row of the table.
 #[derive(Clone, Copy)]
@@ -62,7 +72,9 @@ impl<'a> Row<'a> {
     }
 
     fn codes(self) -> Codes {
-        Codes { vote: self.0[VOTE_AT], reason: self.0[REASON_AT], log: self.0[LOG_AT], decided: self.0[DECIDED_AT] }
+        let log = self.0[LOG_AT];
+        let log_view = if log == NONE { 0 } else { u16_at(self.0, LOG_VIEW_AT) };
+        Codes { vote: self.0[VOTE_AT], reason: self.0[REASON_AT], log, log_view, view: u16_at(self.0, VIEW_AT), decided: self.0[DECIDED_AT] }
     }
 
     fn same(self, tx: Body) -> bool {
@@ -300,7 +312,7 @@ fn prepare(rows: Rows, marks: &[u64], tx: Body, settings: &Settings) -> Step {
             return keep(Answer::Refused(13));
         }
         let (vote, reason) = rows.first_vote(marks, tx, settings);
-        return (told(vote, reason), Some((rows.0.len(), Codes { vote, reason, log: NONE, decided: NONE })));
+        return (told(vote, reason), Some((rows.0.len(), Codes { vote, reason, ..NEW })));
     };
     let held = Row(&rows.0[place]);
     if !held.same(tx) {
@@ -327,8 +339,8 @@ fn log(rows: Rows, tx: Body, list: &List, settings: &Settings) -> Step {
         if rows.0.len() as u64 >= settings.capacity {
             return keep(Answer::Refused(13));
         }
-        let stored = Codes { vote: NONE, reason: 0, log: list.decision, decided: NONE };
-        return (Answer::Logged(decision(list.decision)), Some((rows.0.len(), stored)));
+        let stored = Codes { log: list.decision, ..NEW };
+        return (Answer::Logged(decision(list.decision), 0), Some((rows.0.len(), stored)));
     };
     let held = Row(&rows.0[place]);
     if !held.same(tx) {
@@ -339,13 +351,13 @@ fn log(rows: Rows, tx: Body, list: &List, settings: &Settings) -> Step {
         return keep(Answer::Decided(decision(codes.decided)));
     }
     if codes.log != NONE {
-        return keep(Answer::Logged(decision(codes.log)));
+        return keep(Answer::Logged(decision(codes.log), codes.log_view));
     }
     let lacking = list.lacking(settings, true);
     if lacking > 0 {
         return keep(Answer::TooFew(lacking));
     }
-    (Answer::Logged(decision(list.decision)), Some((place, Codes { log: list.decision, ..codes })))
+    (Answer::Logged(decision(list.decision), 0), Some((place, Codes { log: list.decision, log_view: 0, ..codes })))
 }
 
 fn decide(rows: Rows, tx: Body, list: &List, settings: &Settings) -> Step {
@@ -353,7 +365,7 @@ fn decide(rows: Rows, tx: Body, list: &List, settings: &Settings) -> Step {
     if lacking > 0 {
         return keep(Answer::TooFew(lacking));
     }
-    let alone = Codes { vote: NONE, reason: 0, log: NONE, decided: list.decision };
+    let alone = Codes { decided: list.decision, ..NEW };
     let Some(place) = rows.place(tx.stamp()) else {
         if rows.0.len() as u64 >= settings.capacity {
             return keep(Answer::Refused(13));
@@ -369,6 +381,115 @@ fn decide(rows: Rows, tx: Body, list: &List, settings: &Settings) -> Step {
         (false, COMMIT) => keep(Answer::Refused(12)),
         (false, _) => (Answer::Done, Some((place, alone))),
     }
+}
+
+/// A VS or an EL: what stands before the count, where that is, and the ballots, of so many bytes each; the box first, the view last.
+struct Told<'a> {
+    head: &'a [u8],
+    ballots: &'a [u8],
+    each: usize,
+}
+
+fn cut_told<'a>(bytes: &'a [u8], mark: &[u8; 2]) -> Result<Told<'a>, u8> {
+    if bytes.len() < 2 {
+        return Err(1);
+    }
+    if !bytes.starts_with(mark) {
+        return Err(2);
+    }
+    let (from, each) = if mark == b"VS" { (3, 3) } else { (7, 4) };
+    let count = usize::from(*bytes.get(from - 1).ok_or(1)?);
+    if count == 0 || count > 26 {
+        return Err(3);
+    }
+    let (told, behind) = bytes.split_at_checked(from + each * count).ok_or(1)?;
+    if !behind.is_empty() {
+        return Err(4);
+    }
+    Ok(Told { head: &told[..from], ballots: &told[from..], each })
+}
+
+impl Told<'_> {
+    fn each(&self) -> impl Iterator<Item = &[u8]> {
+        self.ballots.chunks_exact(self.each)
+    }
+
+    fn views(&self) -> impl Iterator<Item = u16> + '_ {
+        self.each().map(|ballot| u16_at(ballot, self.each - 2))
+    }
+
+    fn judge(&self, settings: &Settings) -> Result<(), u8> {
+        let odd = |code: u8| code != 1 && code != 2;
+        let wide = |number: u8| u64::from(number) >= settings.boxes();
+        let election = self.each == 4;
+        if election && (odd(self.head[3]) || self.each().any(|ballot| odd(ballot[1]))) {
+            return Err(8);
+        }
+        if election && wide(self.head[2]) || self.each().any(|ballot| wide(ballot[0])) {
+            return Err(5);
+        }
+        if !rises(self.each().map(|ballot| u16::from(ballot[0]))) {
+            return Err(6);
+        }
+        Ok(())
+    }
+
+    /// The largest view that so many are at or above.
+    fn reached(&self, needed: usize) -> Option<u16> {
+        self.views().filter(|view| self.views().filter(|other| other >= view).count() >= needed).max()
+    }
+}
+
+fn leader(settings: &Settings, view: u16, stamp: u64) -> u8 {
+    ((u64::from(view) + stamp % settings.boxes()) % settings.boxes()) as u8
+}
+
+fn invoke(rows: Rows, tx: Body, told: &Told, settings: &Settings) -> Step {
+    let Some(place) = rows.place(tx.stamp()) else { return keep(Answer::Refused(22)) };
+    let (held, codes) = (Row(&rows.0[place]), Row(&rows.0[place]).codes());
+    if !held.same(tx) {
+        return keep(Answer::Refused(9));
+    }
+    if codes.decided != NONE {
+        return keep(Answer::Decided(decision(codes.decided)));
+    }
+    if codes.log == NONE {
+        return keep(Answer::Refused(22));
+    }
+    let row = THRESHOLDS[settings.f as usize - 1];
+    let view = match (told.reached(row[0]), told.reached(row[1])) {
+        (Some(65535), _) => return keep(Answer::Refused(24)),
+        (Some(view), _) => codes.view.max(view + 1),
+        (None, Some(view)) => codes.view.max(view),
+        (None, None) => codes.view,
+    };
+    let answer = Answer::Elected { decision: decision(codes.log), view, leader: leader(settings, view, tx.stamp()) };
+    (answer, Some((place, Codes { view, ..codes })))
+}
+
+fn lead(rows: Rows, tx: Body, told: &Told, settings: &Settings) -> Step {
+    let place = rows.place(tx.stamp());
+    let codes = match place.map(|place| Row(&rows.0[place])) {
+        Some(held) if !held.same(tx) => return keep(Answer::Refused(9)),
+        Some(held) => held.codes(),
+        None => NEW,
+    };
+    if codes.decided != NONE {
+        return keep(Answer::Decided(decision(codes.decided)));
+    }
+    let (decided, view, all) = (told.head[3], u16_at(told.head, 4), THRESHOLDS[settings.f as usize - 1][4]);
+    let agree = told.each().filter(|ballot| ballot[1] == decided).count();
+    let leads = told.head[2] == leader(settings, view, tx.stamp()) && told.each().count() == all && told.views().all(|one| one == view) && 2 * agree > all;
+    if !leads {
+        return keep(Answer::Refused(23));
+    }
+    if codes.view > view || codes.log_view >= view {
+        return keep(Answer::Refused(21));
+    }
+    if place.is_none() && rows.0.len() as u64 >= settings.capacity {
+        return keep(Answer::Refused(13));
+    }
+    (Answer::Logged(decision(decided), view), Some((place.unwrap_or(rows.0.len()), Codes { log: decided, log_view: view, view, ..codes })))
 }
 
 fn read(rows: Rows, marks: &mut [u64], message: &[u8], settings: &Settings) -> Result<Answer, u8> {
@@ -405,7 +526,7 @@ fn taken(table: &[u8], capacity: usize) -> Result<Rows<'_>, u8> {
     }
 }
 
-/// PR, LG or DC as one step, and the length of the message's body.
+/// Any message but an RD as one step, and the length of its body.
 fn step(rows: Rows, marks: &[u64], message: &[u8], settings: &Settings) -> Result<(Step, usize), u8> {
     let (tx, behind) = cut_transaction(&message[2..])?;
     if message.starts_with(b"PR") {
@@ -414,6 +535,14 @@ fn step(rows: Rows, marks: &[u64], message: &[u8], settings: &Settings) -> Resul
         }
         judge_transaction(tx)?;
         return Ok((prepare(rows, marks, tx, settings), tx.0.len()));
+    }
+    if message.starts_with(b"IV") || message.starts_with(b"LD") {
+        let invoking = message.starts_with(b"IV");
+        let told = cut_told(behind, if invoking { b"VS" } else { b"EL" })?;
+        judge_transaction(tx)?;
+        told.judge(settings)?;
+        let step = if invoking { invoke(rows, tx, &told, settings) } else { lead(rows, tx, &told, settings) };
+        return Ok((step, tx.0.len()));
     }
     let list = cut_list(behind)?;
     judge_transaction(tx)?;
@@ -432,7 +561,7 @@ fn tried(table: &mut [u8], marks: &mut [u64], settings: &Settings, message: &[u8
     if mark == b"RD" {
         return read(rows, marks, message, settings);
     }
-    if !matches!(mark, b"PR" | b"LG" | b"DC") {
+    if !matches!(mark, b"PR" | b"LG" | b"DC" | b"IV" | b"LD") {
         return Err(2);
     }
     let ((answer, stored), length) = step(rows, marks, message, settings)?;
@@ -440,12 +569,14 @@ fn tried(table: &mut [u8], marks: &mut [u64], settings: &Settings, message: &[u8
         table[0] = table[0].max(place as u8 + 1);
         let row = &mut table[row_at(place)..][..ROW];
         (row[VOTE_AT], row[REASON_AT], row[LOG_AT], row[DECIDED_AT]) = (codes.vote, codes.reason, codes.log, codes.decided);
+        row[LOG_VIEW_AT..LOG_VIEW_AT + 2].copy_from_slice(&codes.log_view.to_le_bytes());
+        row[VIEW_AT..VIEW_AT + 2].copy_from_slice(&codes.view.to_le_bytes());
         row[BODY_AT..BODY_AT + length].copy_from_slice(&message[2..2 + length]);
     }
     Ok(answer)
 }
 
-/// Any of the four messages.
+/// Any of the six messages.
 pub fn receive(table: &mut [u8], marks: &mut [u64], settings: &Settings, message: &[u8]) -> Answer {
     tried(table, marks, settings, message).unwrap_or_else(Answer::Refused)
 }
