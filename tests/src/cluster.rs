@@ -232,8 +232,8 @@ enum Act {
     Die,
     /// An IV at these boxes.
     InvokeAt(u32, Told),
-    /// A leader's decision in a view at these boxes: this one, if it can be made, or any.
-    LeadAt(u32, u16, Option<Decision>, Lie),
+    /// A leader's decision in a view at these boxes: this one, or the other where it cannot be made.
+    LeadAt(u32, u16, Decision, Lie),
 }
 
 /// A message on its way.
@@ -1190,8 +1190,9 @@ impl Cluster<'_> {
             Word::Vote(Decision::Abort) => "abort proof from votes",
             Word::Log(Decision::Commit, 0) => "commit proof from logs",
             Word::Log(Decision::Abort, 0) => "abort proof from logs",
-            Word::Log(Decision::Commit, _) | Word::Elect(Decision::Commit, _) => "commit proof from logs of a later view",
-            Word::Log(Decision::Abort, _) | Word::Elect(Decision::Abort, _) => "abort proof from logs of a later view",
+            Word::Log(Decision::Commit, _) => "commit proof from logs of a later view",
+            Word::Log(Decision::Abort, _) => "abort proof from logs of a later view",
+            Word::Elect(..) => unreachable!("an election answer proves nothing"),
         });
         // the judge says so once for a view, when they are just enough
         if matches!(word, Word::Log(_, 0)) && self.judge.bodies[body].given(word) & self.seen[body].missed != 0 {

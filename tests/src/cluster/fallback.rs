@@ -106,7 +106,7 @@ impl Cluster<'_> {
         let decision = self.random.one_of(&[Decision::Commit, Decision::Abort]);
         let against = if decision == Decision::Commit { all & !committed } else { committed };
         let (here, few, lie) = (self.about_half(all), self.few_of(against, self.f), self.some_lie());
-        let lead = |boxes, view, decision, lie| Act::LeadAt(boxes, view, Some(decision), lie);
+        let lead = |boxes, view, decision, lie| Act::LeadAt(boxes, view, decision, lie);
         self.seen[body].slow_leaders = self.random.chance(60);
         match self.random.below(10) {
             0 => vec![Act::Prove],
@@ -128,7 +128,7 @@ impl Cluster<'_> {
             0..=6 => Act::InvokeAt(boxes, self.some_told()),
             7..=15 => {
                 let (view, decision) = (self.random.one_of(&[1, 1, 1, 2, 2, 3]), self.random.one_of(&[Decision::Commit, Decision::Abort]));
-                Act::LeadAt(boxes, view, Some(decision), self.some_lie())
+                Act::LeadAt(boxes, view, decision, self.some_lie())
             }
             16 | 17 => Act::LogAt(boxes),
             _ => Act::Prove,
@@ -167,8 +167,7 @@ impl Cluster<'_> {
     }
 
     /// A leader's decision to each box.
-    pub(super) fn lead_these(&mut self, from: usize, boxes: Vec<usize>, view: u16, decision: Option<Decision>, lie: Lie) {
-        let decision = decision.unwrap_or(self.random.one_of(&[Decision::Commit, Decision::Abort]));
+    pub(super) fn lead_these(&mut self, from: usize, boxes: Vec<usize>, view: u16, decision: Decision, lie: Lie) {
         let Some(election) = self.election(from, view, decision, lie).or_else(|| self.election(from, view, other(decision), lie)) else {
             return;
         };
