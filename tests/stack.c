@@ -1,6 +1,6 @@
 /* How much stack a call takes, all its callees with it: the call is made on a stack of its own, filled with a pattern beforehand, and
  * the bytes that no longer hold the pattern are counted. Prints a line for each call, made by receive and by due; fails where one
- * takes more than 7 KiB; the smallest box has 8 KiB (docs/STACK.md). */
+ * takes more than 4 KiB, half of what the smallest box has (docs/STACK.md). */
 #define _GNU_SOURCE
 #include "../include/stobbarel.h"
 #include <stdio.h>
@@ -8,7 +8,7 @@
 #include <string.h>
 #include <ucontext.h>
 
-enum { STACK = 1 << 18, LIMIT = 7 * 1024, CAPACITY = 255, PATTERN = 0xA5 };
+enum { STACK = 1 << 18, LIMIT = 4 * 1024, CAPACITY = 255, PATTERN = 0xA5 };
 
 static uint8_t stack[STACK], table[STOBBAREL_TABLE_LEN(CAPACITY)], message[STOBBAREL_LONGEST];
 static uint64_t marks[STOBBAREL_KEYS], answer[5];

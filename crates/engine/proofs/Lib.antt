@@ -1,7 +1,6 @@
 pub mod Guards
 pub mod Lent
 pub mod Raised
-pub mod ByMark
 pub mod Steps
 pub mod Bridge
 pub mod Alone

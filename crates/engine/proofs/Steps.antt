@@ -13,17 +13,14 @@ use Rattle.records.specs.declared.Mark.the-variants.{PR, LG, DC, RD, IV, LD}
 use Rattle.records.specs.declared.ViewMark.{ViewMark}
 use Rattle.records.specs.declared.ViewMark.the-variants.{VS, EL}
 use Rattle.records.specs.declared.ViewList.{ViewList}
-use Rattle.records.specs.Views.{Views, viewsIn, viewsOf, heldViews, viewsCount}
+use Rattle.records.specs.Views.{Views, viewsIn, heldViews}
 use Rattle.records.specs.Vl.{Vl}
 use Rattle.records.specs.Cutting.{txCut, behindMark, txPart}
 use Rattle.records.specs.Messages.{dueRefusal, listBehind, viewsBehind, rdKey, rdStamp}
 use Rattle.records.specs.declared.VoteList.{VoteList}
-use Rattle.records.specs.Vl.{vlOf, vlCount, listIn, heldList}
-use Rattle.records.specs.Cutting.{vlCut, viewsCut, listPart}
-use Rattle.records.proofs.Held.{list-in, views-in, own-views}
-use Rattle.reading.proofs.Answers.{behind-view}
-use Rattle.terms.proofs.Scans.{tab-length}
-use Rattle.reading.proofs.Cuts.{vl-there, views-there}
+use Rattle.records.specs.Vl.{listIn, heldList}
+use Rattle.records.proofs.Held.{list-in, views-in}
+use Rattle.reading.proofs.Answers.{behind-view, behind-own}
 use Rattle.reading.proofs.Due.{tx-due}
 use Rattle.rules.specs.declared.Answer.{Answer}
 use Rattle.rules.specs.declared.Answer.the-variants.{Refused as refusedAnswer}
@@ -126,35 +123,12 @@ module _ (told : Told) (t marks m : List ℕ) (lent : lentWrong told t ≡ 0) wh
         marks = makes-marks (a .change);
       })
 
--- ---- the list of a message that is cut fits its array, and is the message's
-module _ (m : List ℕ) (l : VoteList) (p : l ≡ heldList (listBehind m)) where
-  pub few-pairs : vlCut (listPart m) ≡ 0 → l .count ≤ 26
-  unfolding heldList listBehind vlOf
-  few-pairs c =
-      let h = vl-there (listPart m) _ refl c .0 in
-      let n : l .count ≡ vlCount (listPart m) = ap (λ (y : VoteList). y .count) p ∙ tab-length _ 0 _ in
-      rw n h
+-- ---- the list of a message that is cut is the message's, and so are the views
+pub list-is : (m : List ℕ) (l : VoteList) → l ≡ heldList (listBehind m) → listIn l ≡ listBehind m
+list-is m l p = ap listIn p ∙ list-in (listBehind m) (behind-view m)
 
-  pub list-is : listIn l ≡ listBehind m
-  list-is = ap listIn p ∙ list-in (listBehind m) (behind-view m)
-
--- ---- so are the views
-ballots-long : (k : ViewMark) (s : List ℕ) → length (viewsOf k s .ballots) ≡ viewsCount k s
-unfolding viewsOf
-ballots-long VS s = tab-length _ 0 _
-ballots-long EL s = tab-length _ 0 _
-
-module _ (k : ViewMark) (m : List ℕ) (l : ViewList) (p : l ≡ heldViews (viewsBehind k m)) where
-  pub few-ballots : viewsCut k (listPart m) ≡ 0 → l .count ≤ 26
-  unfolding heldViews viewsBehind
-  few-ballots c =
-      let h = views-there k (listPart m) _ refl c .0 in
-      let n : l .count ≡ viewsCount k (listPart m) = ap (λ (y : ViewList). y .count) p ∙ ballots-long k (listPart m) in
-      rw n h
-
-  pub views-are : viewsIn k l ≡ viewsBehind k m
-  unfolding viewsBehind
-  views-are = ap (viewsIn k) p ∙ views-in k (viewsBehind k m) (own-views k (listPart m))
+pub views-are : (k : ViewMark) (m : List ℕ) (l : ViewList) → l ≡ heldViews (viewsBehind k m) → viewsIn k l ≡ viewsBehind k m
+views-are k m l p = ap (viewsIn k) p ∙ views-in k (viewsBehind k m) (behind-own k m)
 
 -- ---- the step on the rows is the lent table's: rows, their number and the body as the code has them
 module _ (told : Told) (t m rs : List ℕ) (n : ℕ) (p : rs ≡ drop headLen t) (q : n ≡ countOf t) (marks : List ℕ) (r : Step) where

@@ -2,12 +2,12 @@
 ghost use mathlib.Core.Path.{_≡_};
 ghost use Prim.Native.Nat.{_≤_};
 ghost use Rattle.records.specs.Cutting.{txPart};
-ghost use Rattle.records.specs.Messages.{dueRefusal, readDue};
-ghost use Rattle.rules.specs.Act.{receive, due, dueMark, toldWrong, rule, raise};
+ghost use Rattle.records.specs.Messages.{dueRefusal};
+ghost use Rattle.rules.specs.Act.{receive, due, dueAct, dueMark, toldWrong, rule, raise};
 ghost use Rattle.engine.specs.Outcome.{kept, boxIn, lentWrong, calledBy, called, tableOf, marksOf, Leaves, Ready, Does};
 use records::Mark;
 use records::Marked;
-use records::Reading;
+use records::ViewMark;
 use rules::Answer;
 use rules::Told;
 use steps::Change;
@@ -40,23 +40,45 @@ fn lent_wrong(t: &[u8], told: Told) -> u8
     table::table_wrong(t, told.capacity as usize)
 }
 
-// A message that was read, on a table that is taken: by its mark, one step of the rules.
-fn step_of(mark: Mark, t: &[u8], marks: &[u64], told: Told, m: &[u8], reading: Reading) -> Step
-    requires { ⌜ (lentWrong told (now t) ≡ 0) × (dueRefusal mark (told .f) (now m) ≡ 0) × (reading ≡ readDue mark (told .f) (now m)) ⌝ }
+// A message that is in order, on a table that is taken: by its mark, one step of the rules.
+fn step_of(mark: Mark, t: &[u8], marks: &[u64], told: Told, m: &[u8]) -> Step
+    requires { ⌜ (lentWrong told (now t) ≡ 0) × (dueRefusal mark (told .f) (now m) ≡ 0) ⌝ }
     ensures { λ r. ⌜ Does (rule mark told (boxIn (kept (now (t .entry)) (now (marks .entry)))) (now (m .entry))) (now (t .entry)) (now (m .entry)) r ⌝ }
 {
     let n = table::count_of(t);
     let rows = table::rows(t);
-    let list = reading.list;
-    let views = reading.views;
     match mark {
         Mark::PR => steps::pr_step(rows, n, marks, told, reading::tx_part_of(m)),
-        Mark::LG => steps::lg_step(rows, n, told, reading::tx_part_of(m), list),
-        Mark::DC => steps::dc_step(rows, n, told, reading::tx_part_of(m), list),
-        Mark::RD => steps::rd_step(rows, n, told, reading.key, reading.stamp),
-        Mark::IV => steps::iv_step(rows, n, told, reading::tx_part_of(m), views),
-        Mark::LD => steps::ld_step(rows, n, told, reading::tx_part_of(m), views),
+        Mark::LG => {
+            let list = reading::list_behind(m);
+            steps::lg_step(rows, n, told, reading::tx_part_of(m), list)
+        }
+        Mark::DC => {
+            let list = reading::list_behind(m);
+            steps::dc_step(rows, n, told, reading::tx_part_of(m), list)
+        }
+        Mark::RD => steps::rd_step(rows, n, told, reading::rd_key(m), reading::rd_stamp(m)),
+        Mark::IV => {
+            let views = reading::views_behind(ViewMark::VS, m);
+            steps::iv_step(rows, n, told, reading::tx_part_of(m), views)
+        }
+        Mark::LD => {
+            let answers = reading::views_behind(ViewMark::EL, m);
+            steps::ld_step(rows, n, told, reading::tx_part_of(m), answers)
+        }
     }
+}
+
+// A message where one with this mark is due, on a table that is taken: its refusal, or its step.
+fn due_step(mark: Mark, t: &[u8], marks: &[u64], told: Told, m: &[u8]) -> Step
+    requires { ⌜ lentWrong told (now t) ≡ 0 ⌝ }
+    ensures { λ r. ⌜ Does (dueAct mark told (boxIn (kept (now (t .entry)) (now (marks .entry)))) (now (m .entry))) (now (t .entry)) (now (m .entry)) r ⌝ }
+{
+    let wrong = reading::due_wrong(mark, told.f, m);
+    if wrong != 0 {
+        return Step::refuse(Refusal::of(wrong));
+    }
+    step_of(mark, t, marks, told, m)
 }
 
 // 14, 16, then the message by the mark that is due, or by its own.
@@ -67,11 +89,9 @@ fn called(marked: Marked, t: &[u8], marks: &[u64], told: Told, m: &[u8]) -> Step
     if wrong != 0 {
         return Step::refuse(Refusal::of(wrong));
     }
-    let reading = reading::read_marked(marked, told.f, m);
-    let found = reading.found;
-    match found {
+    match marked {
+        Marked::Is(mark) => due_step(mark, t, marks, told, m),
         Marked::Refused(n) => Step::refuse(Refusal::of(n)),
-        Marked::Is(mark) => step_of(mark, t, marks, told, m, reading),
     }
 }
 

@@ -28,7 +28,7 @@ use Rattle.records.specs.Cutting.{carrier, txPart, listPart}
 use Rattle.records.specs.Messages.{listBehind, viewsBehind, txReadingBy, vlReadingBy, viewsReadingBy, refusedReading, messageTx, messageList, messageViews, messageKey, messageStamp, contentsWrong, dueRefusal, readingBy, readDue, readMarked, readingAfter}
 use Rattle.records.proofs.Held.{tx-in, list-in, own-view, views-in, own-views}
 use Rattle.records.proofs.Mark as M
-use Rattle.reading.specs.Judging.{txReadingOf, vlReadingOf, viewsReadingOf, noLists, listAlone, viewsAlone, readingOf, early, listWrongIn, judgedBy}
+use Rattle.reading.specs.Judging.{txReadingOf, vlReadingOf, viewsReadingOf, noLists, listAlone, viewsAlone, readingOf, early, listWrongIn, listedWrong, judgedBy}
 use Rattle.reading.specs.declared.Lists.{Lists}
 use Rattle.reading.proofs.Cuts.{Listed, by-list}
 
@@ -118,13 +118,21 @@ module _ (k : Mark) (m : List ℕ) where
   reading-by (suc n) N t l key s p a b c d = rw (← p)
 
 -- the list of another message than an LG
-pub other-list : (k : Mark) (f : ℕ) (l : Lists) → OneOf (0 ∷ 2 ∷ 3 ∷ []) (tagOf M.the-type k) → listWrong f (listIn (l .list)) ≡ listWrongIn k f l
+pub other-list : (k : Mark) (f : ℕ) (l : Vl) → OneOf (0 ∷ 2 ∷ 3 ∷ 4 ∷ 5 ∷ []) (tagOf M.the-type k) → listWrong f l ≡ listedWrong k f l
 other-list PR f l h = refl
-other-list LG f l h = absurd (elim h [ inl e ↦ omega arith | inr r ↦ elim r [ inl e ↦ omega arith | inr e ↦ omega arith ] ])
+other-list LG f l h = absurd (elim h [ inl e ↦ omega arith | inr r ↦ elim r [ inl e ↦ omega arith | inr r ↦ elim r [ inl e ↦ omega arith | inr r ↦ elim r [ inl e ↦ omega arith | inr e ↦ omega arith ] ] ] ])
 other-list DC f l h = refl
 other-list RD f l h = refl
-other-list IV f l h = absurd (elim h [ inl e ↦ omega arith | inr r ↦ elim r [ inl e ↦ omega arith | inr e ↦ omega arith ] ])
-other-list LD f l h = absurd (elim h [ inl e ↦ omega arith | inr r ↦ elim r [ inl e ↦ omega arith | inr e ↦ omega arith ] ])
+other-list IV f l h = refl
+other-list LD f l h = refl
+
+pub other-lists : (k : Mark) (f : ℕ) (l : Lists) → OneOf (0 ∷ 2 ∷ 3 ∷ []) (tagOf M.the-type k) → listWrong f (listIn (l .list)) ≡ listWrongIn k f l
+other-lists PR f l h = refl
+other-lists LG f l h = absurd (elim h [ inl e ↦ omega arith | inr r ↦ elim r [ inl e ↦ omega arith | inr e ↦ omega arith ] ])
+other-lists DC f l h = refl
+other-lists RD f l h = refl
+other-lists IV f l h = absurd (elim h [ inl e ↦ omega arith | inr r ↦ elim r [ inl e ↦ omega arith | inr e ↦ omega arith ] ])
+other-lists LD f l h = absurd (elim h [ inl e ↦ omega arith | inr r ↦ elim r [ inl e ↦ omega arith | inr e ↦ omega arith ] ])
 
 -- judged with what stands behind it: the transaction's refusal, then that one's
 pub judged-at : (k : Mark) (f : ℕ) (r r′ : TxReading) (l l′ : Lists) → r ≡ r′ → l ≡ l′ → judgedBy r k f l ≡ judgedBy r′ k f l′
@@ -162,6 +170,11 @@ unfolding txReadingBy orElse readingBy
 judged-is k m zero f x l n a b c d e =
     reading-by k m _ _ _ _ _ _ e (ap heldTx a) b (ap (λ (n : ℕ). record { 0 = n }) c) (ap (λ (n : ℕ). record { 0 = n }) d)
 judged-is k m (suc N) f x l n a b c d e = refl
+
+-- the refusal of an LG's or a DC's contents, in two parts
+pub listed-contents : (f : ℕ) (m : List ℕ) (k : Mark) → Listed k → orElse (txWrong (txOf (txPart m))) (listedWrong k f (listBehind m)) ≡ contentsWrong k f m
+unfolding contentsWrong
+listed-contents f m = by-list (λ (k : Mark). orElse (txWrong (txOf (txPart m))) (listedWrong k f (listBehind m)) ≡ contentsWrong k f m) refl refl
 
 pub listed-read : (f : ℕ) (m : List ℕ) (k : Mark) → Listed k
     → judgedBy (txReadingBy (txWrong (txOf (txPart m))) (txOf (txPart m))) k f (listAlone (listBehind m)) ≡ readingBy (contentsWrong k f m) k m

@@ -69,12 +69,21 @@ readBy (suc n) t = readRefused (suc n)
 abbrev pub readOf : TxReading → TxRead
 readOf r = readBy (r .wrong) (r .tx)
 
--- "code: .. kind 2 in an LG"; an IV and an LD have views
+-- "code: .. kind 2 in an LG"
+abbrev pub listedWrong : Mark → ℕ → Vl → ℕ
+listedWrong PR f l = listWrong f l
+listedWrong LG f l = logListWrong f l
+listedWrong DC f l = listWrong f l
+listedWrong RD f l = listWrong f l
+listedWrong IV f l = listWrong f l
+listedWrong LD f l = listWrong f l
+
+-- an IV and an LD have views
 abbrev pub listWrongIn : Mark → ℕ → Lists → ℕ
-listWrongIn PR f l = listWrong f (listIn (l .list))
-listWrongIn LG f l = logListWrong f (listIn (l .list))
-listWrongIn DC f l = listWrong f (listIn (l .list))
-listWrongIn RD f l = listWrong f (listIn (l .list))
+listWrongIn PR f l = listedWrong PR f (listIn (l .list))
+listWrongIn LG f l = listedWrong LG f (listIn (l .list))
+listWrongIn DC f l = listedWrong DC f (listIn (l .list))
+listWrongIn RD f l = listedWrong RD f (listIn (l .list))
 listWrongIn IV f l = viewsWrong VS f (viewsIn VS (l .views))
 listWrongIn LD f l = viewsWrong EL f (viewsIn EL (l .views))
 

@@ -6,10 +6,11 @@ ghost use Rattle.records.specs.declared.Mark.the-variants.{PR, RD};
 ghost use Rattle.records.specs.Tx.{txOf, heldTx, noTx, TxThere};
 ghost use Rattle.records.specs.Vl.{heldList, noList};
 ghost use Rattle.records.specs.Views.{heldViews, noViews};
-ghost use Rattle.records.specs.Contents.{txWrong, rdWrong};
+ghost use Rattle.terms.specs.Checks.{orElse};
+ghost use Rattle.records.specs.Contents.{txWrong, rdWrong, viewsWrong};
 ghost use Rattle.records.specs.Cutting.{markWrong, txCut, vlCut, viewsCut, behindWrong, behindMark, carrier, txPart, listPart, listedCut, viewedCut, restCut, messageCut, listedLen, viewedLen, messageLen, rdLen};
-ghost use Rattle.records.specs.Messages.{txReadingBy, readTX, readVL, readViews, listBehind, viewsBehind, rdKey, rdStamp, refusedReading, readingBy, readDue, isMark, markOf, readMarked, readMessage, handedBack};
-ghost use Rattle.reading.specs.Judging.{txReadingOf, vlReadingOf, viewsReadingOf, noLists, listAlone, viewsAlone, readingOf, early, readOf, listWrongIn, listedReading, judgedBy, markedOr, hasTx};
+ghost use Rattle.records.specs.Messages.{txReadingBy, readTX, readVL, readViews, listBehind, viewsBehind, rdKey, rdStamp, contentsWrong, dueRefusal, refusedReading, readingBy, readDue, isMark, markOf, readMarked, readMessage, handedBack};
+ghost use Rattle.reading.specs.Judging.{txReadingOf, vlReadingOf, viewsReadingOf, noLists, listAlone, viewsAlone, readingOf, early, readOf, listWrongIn, listedWrong, listedReading, judgedBy, markedOr, hasTx};
 use records::Ballot;
 use records::Mark;
 use records::Marked;
@@ -183,6 +184,38 @@ pub fn list_part_of(m: &[u8]) -> &[u8]
 {
     let s = behind(m, 2);
     behind(s, records::tx_len(s))
+}
+
+// The list behind the TX part.
+pub fn list_behind(m: &[u8]) -> VoteList
+    requires { ⌜ (2 ≤ length (now m)) × (txCut (behindMark (now m)) ≡ 0) × (vlCut (listPart (now m)) ≡ 0) ⌝ }
+    ensures { λ l. ⌜ (l ≡ heldList (listBehind (now (m .entry)))) × (l .count ≤ 26) ⌝ }
+{
+    records::list_of(list_part_of(m))
+}
+
+// The views, or the election answers, behind the TX part.
+pub fn views_behind(k: ViewMark, m: &[u8]) -> ViewList
+    requires { ⌜ (2 ≤ length (now m)) × (txCut (behindMark (now m)) ≡ 0) × (viewsCut k (listPart (now m)) ≡ 0) ⌝ }
+    ensures { λ l. ⌜ (l ≡ heldViews (viewsBehind k (now (m .entry)))) × (l .count ≤ 26) ⌝ }
+{
+    records::views_of(k, list_part_of(m))
+}
+
+// The key of an RD.
+pub fn rd_key(m: &[u8]) -> Key
+    requires { ⌜ rdLen ≤ length (now m) ⌝ }
+    ensures { λ k. ⌜ k .0 ≡ rdKey (now (m .entry)) ⌝ }
+{
+    Key(records::u16_at(m, 2))
+}
+
+// Its stamp.
+pub fn rd_stamp(m: &[u8]) -> Stamp
+    requires { ⌜ rdLen ≤ length (now m) ⌝ }
+    ensures { λ s. ⌜ s .0 ≡ rdStamp (now (m .entry)) ⌝ }
+{
+    Stamp(records::u64_at(m, 4))
 }
 
 // The length of an LG or a DC.
@@ -492,7 +525,7 @@ fn read_listed(mark: Mark, f: u64, m: &[u8]) -> Reading
     requires { ⌜ (f ≤ 5) × (2 ≤ length (now m)) × (txCut (behindMark (now m)) ≡ 0) × (vlCut (listPart (now m)) ≡ 0) ⌝ }
     ensures { λ r. ⌜ r ≡ judgedBy (txReadingBy (txWrong (txOf (txPart (now (m .entry))))) (txOf (txPart (now (m .entry))))) mark f (listAlone (listBehind (now (m .entry)))) ⌝ }
 {
-    let list = records::list_of(list_part_of(m));
+    let list = list_behind(m);
     let views = no_views();
     read_behind(mark, f, m, Lists { list, views })
 }
@@ -502,7 +535,7 @@ fn read_viewed(k: ViewMark, f: u64, m: &[u8]) -> Reading
     requires { ⌜ (f ≤ 5) × (2 ≤ length (now m)) × (txCut (behindMark (now m)) ≡ 0) × (viewsCut k (listPart (now m)) ≡ 0) ⌝ }
     ensures { λ r. ⌜ r ≡ judgedBy (txReadingBy (txWrong (txOf (txPart (now (m .entry))))) (txOf (txPart (now (m .entry))))) (carrier k) f (viewsAlone (viewsBehind k (now (m .entry)))) ⌝ }
 {
-    let views = records::views_of(k, list_part_of(m));
+    let views = views_behind(k, m);
     let list = no_list();
     read_behind(k.carrier(), f, m, Lists { list, views })
 }
@@ -512,8 +545,8 @@ fn read_rd(m: &[u8]) -> Reading
     requires { ⌜ rdLen ≤ length (now m) ⌝ }
     ensures { λ r. ⌜ r ≡ readingBy (rdWrong (rdKey (now (m .entry))) (rdStamp (now (m .entry)))) RD (now (m .entry)) ⌝ }
 {
-    let key = Key(records::u16_at(m, 2));
-    let stamp = Stamp(records::u64_at(m, 4));
+    let key = rd_key(m);
+    let stamp = rd_stamp(m);
     let wrong = contents::rd_wrong(key, stamp);
     reading_of(wrong, Mark::RD, no_tx(), no_lists(), key, stamp)
 }
@@ -533,6 +566,78 @@ pub fn read_due(mark: Mark, f: u64, m: &[u8]) -> Reading
         Mark::IV => read_viewed(ViewMark::VS, f, m),
         Mark::LD => read_viewed(ViewMark::EL, f, m),
     }
+}
+
+// ---- the refusal alone: a box needs no more of a message before its step, which takes what it needs from the bytes
+
+// What is wrong in the transaction of a message that is cut.
+fn tx_wrong_in(m: &[u8]) -> u8
+    requires { ⌜ (2 ≤ length (now m)) × (txCut (behindMark (now m)) ≡ 0) ⌝ }
+    ensures { λ r. ⌜ r ≡ txWrong (txOf (txPart (now (m .entry)))) ⌝ }
+{
+    contents::tx_wrong(records::transaction_of(tx_part_of(m)))
+}
+
+// What is wrong in the list of an LG or a DC that is cut.
+fn list_wrong_behind(mark: Mark, g: Group, m: &[u8]) -> u8
+    requires { ⌜ (2 ≤ length (now m)) × (txCut (behindMark (now m)) ≡ 0) × (vlCut (listPart (now m)) ≡ 0) ⌝ }
+    ensures { λ r. ⌜ r ≡ listedWrong mark (g .f) (listBehind (now (m .entry))) ⌝ }
+{
+    let list = list_behind(m);
+    match mark {
+        Mark::LG => contents::log_list_wrong(g, list),
+        _ => contents::list_wrong(g, list),
+    }
+}
+
+// What is wrong in an LG or a DC that is cut: the list is judged only when the transaction is in order.
+fn listed_wrong(mark: Mark, g: Group, m: &[u8]) -> u8
+    requires { ⌜ (2 ≤ length (now m)) × (txCut (behindMark (now m)) ≡ 0) × (vlCut (listPart (now m)) ≡ 0) ⌝ }
+    ensures { λ r. ⌜ r ≡ orElse (txWrong (txOf (txPart (now (m .entry))))) (listedWrong mark (g .f) (listBehind (now (m .entry)))) ⌝ }
+{
+    let wrong = tx_wrong_in(m);
+    if wrong != 0 {
+        return wrong;
+    }
+    list_wrong_behind(mark, g, m)
+}
+
+// What is wrong in an IV or an LD that is cut.
+fn viewed_wrong(k: ViewMark, g: Group, m: &[u8]) -> u8
+    requires { ⌜ (2 ≤ length (now m)) × (txCut (behindMark (now m)) ≡ 0) × (viewsCut k (listPart (now m)) ≡ 0) ⌝ }
+    ensures { λ r. ⌜ r ≡ orElse (txWrong (txOf (txPart (now (m .entry))))) (viewsWrong k (g .f) (viewsBehind k (now (m .entry)))) ⌝ }
+{
+    let wrong = tx_wrong_in(m);
+    if wrong != 0 {
+        return wrong;
+    }
+    contents::views_wrong(k, g, views_behind(k, m))
+}
+
+// What is wrong in the contents of a message that is cut.
+fn contents_wrong(mark: Mark, f: u64, m: &[u8]) -> u8
+    requires { ⌜ (f ≤ 5) × (messageCut mark (now m) ≡ 0) ⌝ }
+    ensures { λ r. ⌜ r ≡ contentsWrong mark f (now (m .entry)) ⌝ }
+{
+    let g = Group { f: f as u8 };
+    match mark {
+        Mark::PR => tx_wrong_in(m),
+        Mark::LG | Mark::DC => listed_wrong(mark, g, m),
+        Mark::RD => contents::rd_wrong(rd_key(m), rd_stamp(m)),
+        Mark::IV => viewed_wrong(ViewMark::VS, g, m),
+        Mark::LD => viewed_wrong(ViewMark::EL, g, m),
+    }
+}
+
+// What is refused of a message where one with this mark is due.
+pub fn due_wrong(mark: Mark, f: u64, m: &[u8]) -> u8
+    ensures { λ r. ⌜ r ≡ dueRefusal mark f (now (m .entry)) ⌝ }
+{
+    let early = early_wrong(mark, f, m);
+    if early != 0 {
+        return early;
+    }
+    contents_wrong(mark, f, m)
 }
 
 pub fn is_mark(m: &[u8], mark: &[u8; 2]) -> bool

@@ -1,21 +1,10 @@
-use Rattle.records.specs.declared.Reading.{Reading}
-use mathlib.Core.Path.{sym, _∙_, ap, refl}
+use mathlib.Core.Path.{sym, _∙_}
 use Rattle.engine.specs.Outcome.{calledBy}
-use Rattle.rules.specs.Act.{markedAct, dueAct}
-use Rattle.engine.proofs.Steps.{stops, passes, refuses, does-as}
-use Rattle.engine.proofs.Guards.{through}
-use Rattle.engine.proofs.ByMark.{marked-refused, marked-read}
-use native.Mathlib.Omega.{arith}
+use Rattle.rules.specs.Act.{markedAct}
+use Rattle.engine.proofs.Steps.{stops, passes, refuses}
 use borrow.Author.Needs.{needs}
 use Rattle.engine.proofs.called.Statement.{statement}
 use Rattle.engine.proofs.called.Tie as tie
-use Rattle.engine.proofs.called.Reads as reads
-use Rattle.engine.proofs.called.Lts as lts
-use Rattle.engine.proofs.lent_wrong.Reads as lent-wrong-reads
-use Rattle.engine.proofs.step_of.Reads as step-of-reads
-use Rattle.reading.proofs.read_marked.Reads as read-marked-reads
-use Rattle.steps.proofs.Step.refuse.Reads as refuse-reads
-use Rattle.terms.proofs.Refusal.of.Reads as of-reads
 
 lent-wrong-requires : tie.Need-lent-wrong-requires
 lent-wrong-requires c κs = search needs
@@ -30,11 +19,14 @@ returns : tie.Need-returns
 unfolding calledBy
 returns c = rw (c .refuse .ensures, c .before .of .ensures) (stops _ _ _ (c .before .before .before .lent-wrong .ensures) (c .before .before .if1 .taken))
 
-read-marked-requires : tie.Need-read-marked-requires
-read-marked-requires c κs = search needs
+enum-known-marked : tie.Need-enum-known-marked
+enum-known-marked c = search needs
 
-enum-known-found : tie.Need-enum-known-found
-enum-known-found c = search needs
+due-step-requires : tie.Need-due-step-requires
+due-step-requires c κs = sym (c .before .before .before .before .lent-wrong .ensures) ∙ c .before .before .before .if1 .left
+
+enum-known-marked-2 : tie.Need-enum-known-marked-2
+enum-known-marked-2 c = search needs
 
 of-requires-2 : tie.Need-of-requires-2
 of-requires-2 c κs = search needs
@@ -42,19 +34,13 @@ of-requires-2 c κs = search needs
 refuse-requires-2 : tie.Need-refuse-requires-2
 refuse-requires-2 c κs = search needs
 
-enum-known-found-2 : tie.Need-enum-known-found-2
-enum-known-found-2 c = search needs
-
-step-of-requires : tie.Need-step-of-requires
-step-of-requires c κs = let z = sym (c .before .before .before .before .before .lent-wrong .ensures) ∙ c .before .before .before .before .if1 .left in let f = ap (λ (y : Reading). y .found) (sym (c .before .before .before .read-marked .ensures)) ∙ c .before .found2 .given .1 in let w = marked-read _ _ _ _ f in (z, w .read, c .before .before .before .read-marked .ensures ∙ w .reading)
-
 returns-2 : tie.Need-returns-2
-unfolding calledBy
-returns-2 c = let z = sym (c .before .before .before .before .before .before .before .lent-wrong .ensures) ∙ c .before .before .before .before .before .before .if1 .left in let f = ap (λ (y : Reading). y .found) (sym (c .before .before .before .before .before .read-marked .ensures)) ∙ c .before .before .before .found .given .1 in rw (c .refuse2 .ensures, c .before .of2 .ensures) (passes _ z (does-as (marked-refused _ _ _ _ _ f) (refuses _)))
+unfolding calledBy markedAct
+returns-2 c = rw (c .before .before .marked .given .1) (passes _ (sym (c .before .before .before .before .before .lent-wrong .ensures) ∙ c .before .before .before .before .if1 .left) (c .due-step .ensures))
 
 returns-3 : tie.Need-returns-3
-unfolding calledBy markedAct dueAct
-returns-3 c = let z = sym (c .before .before .before .before .before .before .lent-wrong .ensures) ∙ c .before .before .before .before .before .if1 .left in let f = ap (λ (y : Reading). y .found) (sym (c .before .before .before .before .read-marked .ensures)) ∙ c .before .before .found2 .given .1 in let w = marked-read _ _ _ _ f in rw (w .marked) (passes _ z (passes _ (w .read) (c .step-of .ensures)))
+unfolding calledBy markedAct
+returns-3 c = rw (c .refuse2 .ensures, c .before .of2 .ensures, c .before .before .before .marked2 .given .1) (passes _ (sym (c .before .before .before .before .before .before .lent-wrong .ensures) ∙ c .before .before .before .before .before .if1 .left) (refuses _))
 
 pub called-spec : {M : Type 1} → statement M
 called-spec =
@@ -64,11 +50,10 @@ called-spec =
     of-requires
     refuse-requires
     returns
-    read-marked-requires
-    enum-known-found
+    enum-known-marked
+    due-step-requires
+    enum-known-marked-2
     of-requires-2
     refuse-requires-2
-    enum-known-found-2
-    step-of-requires
     returns-2
     returns-3)

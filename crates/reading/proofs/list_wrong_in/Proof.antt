@@ -1,5 +1,5 @@
 use mathlib.Core.Path.{_∙_}
-use Rattle.reading.proofs.Answers.{other-list}
+use Rattle.reading.proofs.Answers.{other-lists}
 use borrow.Author.Needs.{needs}
 use Rattle.reading.proofs.list_wrong_in.Statement.{statement}
 use Rattle.reading.proofs.list_wrong_in.Tie as tie
@@ -35,7 +35,7 @@ returns-3 : tie.Need-returns-3
 returns-3 c = rw (c .before .enum-told3 .given .1) (c .views-wrong2 .ensures)
 
 returns-4 : tie.Need-returns-4
-returns-4 c = c .list-wrong .ensures ∙ other-list (c .before .before .args .due) _ _ (c .before .match .keys4)
+returns-4 c = c .list-wrong .ensures ∙ other-lists (c .before .before .args .due) _ _ (c .before .match .keys4)
 
 pub list-wrong-in-spec : {M : Type 1} → statement M
 list-wrong-in-spec =

@@ -7,11 +7,11 @@ use borrow.Author.Needs.{needs}
 use Rattle.reading.proofs.read_rd.Statement.{statement}
 use Rattle.reading.proofs.read_rd.Tie as tie
 
-u16-at-requires : tie.Need-u16-at-requires
-u16-at-requires c κs = search needs
+rd-key-requires : tie.Need-rd-key-requires
+rd-key-requires c κs = search needs
 
-u64-at-requires : tie.Need-u64-at-requires
-u64-at-requires c κs = search needs
+rd-stamp-requires : tie.Need-rd-stamp-requires
+rd-stamp-requires c κs = search needs
 
 rd-wrong-requires : tie.Need-rd-wrong-requires
 rd-wrong-requires c κs = search needs
@@ -27,14 +27,14 @@ reading-of-requires c κs = search needs
 
 returns : tie.Need-returns
 unfolding noLists messageTx messageList messageViews messageKey messageStamp
-returns c = c .reading-of .ensures ∙ reading-by RD _ _ _ _ _ _ _ (c .before .before .before .rd-wrong .ensures ∙ rd-same (c .before .before .before .before .before .u16-at .ensures) (c .before .before .before .before .u64-at .ensures)) (c .before .before .no-tx .ensures) (c .before .no-lists .ensures) (rw (c .before .before .before .before .before .u16-at .ensures)) (rw (c .before .before .before .before .u64-at .ensures))
+returns c = c .reading-of .ensures ∙ reading-by RD _ _ _ _ _ _ _ (c .before .before .before .rd-wrong .ensures ∙ rd-same (c .before .before .before .before .before .rd-key .ensures) (c .before .before .before .before .rd-stamp .ensures)) (c .before .before .no-tx .ensures) (c .before .no-lists .ensures) (rw (c .before .before .before .before .before .rd-key .ensures)) (rw (c .before .before .before .before .rd-stamp .ensures))
 
 pub read-rd-spec : {M : Type 1} → statement M
 read-rd-spec =
     tie.close
     (tie.spec
-    u16-at-requires
-    u64-at-requires
+    rd-key-requires
+    rd-stamp-requires
     rd-wrong-requires
     no-tx-requires
     no-lists-requires

@@ -1,0 +1,31 @@
+use mathlib.Core.Path.{sym, _∙_}
+use Rattle.rules.specs.Act.{dueAct}
+use Rattle.engine.proofs.Steps.{stops, passes}
+use borrow.Author.Needs.{needs}
+use Rattle.engine.proofs.due_step.Statement.{statement}
+use Rattle.engine.proofs.due_step.Tie as tie
+
+due-wrong-requires : tie.Need-due-wrong-requires
+due-wrong-requires c κs = search needs
+
+of-requires : tie.Need-of-requires
+of-requires c κs = search needs
+
+refuse-requires : tie.Need-refuse-requires
+refuse-requires c κs = search needs
+
+returns : tie.Need-returns
+unfolding dueAct
+returns c = rw (c .refuse .ensures, c .before .of .ensures) (stops _ _ _ (c .before .before .before .due-wrong .ensures) (c .before .before .if1 .taken))
+
+step-of-requires : tie.Need-step-of-requires
+step-of-requires c κs = (c .before .before .before .before .before .pre, sym (c .before .due-wrong .ensures) ∙ c .if1 .left)
+
+returns-2 : tie.Need-returns-2
+unfolding dueAct
+returns-2 c = passes _ (sym (c .before .before .due-wrong .ensures) ∙ c .before .if1 .left) (c .step-of .ensures)
+
+pub due-step-spec : {M : Type 1} → statement M
+due-step-spec =
+    tie.close
+    (tie.spec due-wrong-requires of-requires refuse-requires returns step-of-requires returns-2)
