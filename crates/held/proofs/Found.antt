@@ -1,26 +1,22 @@
 -- Where the body that is held stands, and what is told of it.
 use Prim.Native.Nat.{ℕ, zero, suc, _+_, _-_, _*_, _<_, _≤_}
 use native.Mathlib.Omega.{arith}
-use mathlib.Core.Path.{_≡_, refl, ap, sym, _∙_}
-use mathlib.Core.List.{List, [], _∷_}
-use mathlib.Core.Option.{Option, some, none}
-use lib.ListN.{length, take, drop, length-take, length-drop}
-use lib.Seq.{take-take, drop-drop}
+use mathlib.Core.Path.{_≡_, refl, ap}
+use mathlib.Core.List.{List}
+use mathlib.Core.Option.{some, none}
+use lib.ListN.{length, drop}
 use Rattle.terms.specs.Checks.{orElse}
 use Rattle.terms.specs.Group.{groupWrong}
 use Rattle.terms.proofs.Checks.{first-none, rest-none, not-less}
-use Rattle.records.specs.Tx.{txLen}
-use Rattle.rules.specs.Bodies.{Body}
 use Rattle.rules.specs.declared.Told.{Told}
 use Rattle.rules.specs.Table.{find}
 use Rattle.rules.specs.Act.{toldWrong}
 use Rattle.table.specs.declared.State.{State}
-use Rattle.table.specs.Table.{headLen, rowLen, bodyAt, rowAt, rowTx, rowBody, entryWith, entryOf, entries, entriesOf, stateAt, stateIn, countOf, tableWrong, place, WfRow, Wf}
-use Rattle.table.proofs.Bodies.{row-there}
+use Rattle.table.specs.Table.{headLen, rowLen, bodyAt, rowAt, entryWith, entryOf, entries, entriesOf, stateAt, stateIn, countOf, tableWrong, place, Wf}
 use Rattle.table.proofs.Checked.{table-room, table-count, table-wf}
 use Rattle.table.proofs.Looking.{find-none, find-some, entries-are}
 use Rattle.held.specs.declared.Holding.{Holding}
-use Rattle.held.specs.Held.{capacityWrong, heldWrong, nothing, holdingOf, bodyPlace, foundIn, heldBy, heldOf, bodyIn, bodyBy, bodyHeld, BodyThere}
+use Rattle.held.specs.Held.{capacityWrong, heldWrong, nothing, holdingOf, bodyPlace, foundIn, heldBy, heldOf}
 
 -- 14 is the rules' check of the capacity
 pub as-told : (told : Told) → toldWrong told ≡ orElse (groupWrong (told .f)) (capacityWrong (told .capacity))

@@ -1,18 +1,19 @@
 -- What a table holds under a stamp: the entry that the rules look up under it, and where its body stands in the lent bytes.
-use Prim.Native.Nat.{ℕ, zero, suc, _+_, _*_, _≤_}
+use Prim.Native.Nat.{ℕ, zero, suc, _+_, _*_, _<_, _≤_}
 use mathlib.Core.List.{List, [], _∷_}
 use mathlib.Core.Option.{Option, some, none}
 use mathlib.Core.Path.{_≡_}
 use lib.ListN.{length, take, drop}
 use Rattle.terms.specs.Checks.{orElse, ifLess, group}
+use Rattle.records.specs.Tx.{txLen, TxThere}
 use Rattle.rules.specs.declared.Log.the-variants.{None as unlogged}
 use Rattle.rules.specs.declared.Settled.the-variants.{None as unsettled}
 use Rattle.rules.specs.declared.Vote.the-variants.{None as unvoted}
 use Rattle.rules.specs.Answers.{voteNumber, voteReason, settledNumber, logNumber, logView, viewAs}
-use Rattle.rules.specs.Bodies.{Body}
+use Rattle.rules.specs.Bodies.{Body, stampOf}
 use Rattle.rules.specs.Table.{Entry, find}
 use Rattle.table.specs.declared.State.{State}
-use Rattle.table.specs.Table.{headLen, rowLen, bodyAt, entriesOf, tableWrong, stateIn, place}
+use Rattle.table.specs.Table.{headLen, rowLen, bodyAt, entriesOf, tableWrong, stateIn, place, stored}
 use Rattle.held.specs.declared.Holding.{Holding}
 
 -- 14: "capacity not 1 to 255"; f is not told here
@@ -67,6 +68,13 @@ There t h b = (h .at + h .len ≤ length t) × (take (h .len) (drop (h .at) t) �
 
 abbrev pub BodyThere : Type 0
 BodyThere = (t : List ℕ) (capacity s : ℕ) → There t (heldOf t capacity s) (bodyHeld t capacity s)
+
+-- what a call stores in its place is what is told of its stamp afterwards: the body, and what is held beside it
+abbrev pub StoredHeld : Type 0
+StoredHeld =
+    (capacity i : ℕ) (b : Body) (x : State) → length b ≡ txLen b → TxThere b → i < capacity → (t : List ℕ) → heldWrong capacity t ≡ 0
+    → i ≡ place (stampOf b) (entriesOf t)
+    → (bodyHeld (stored t i b x) capacity (stampOf b) ≡ b) × (heldOf (stored t i b x) capacity (stampOf b) .state ≡ x)
 
 -- as eight numbers: place and length of the body, vote, reason, decision, log, the log's view, the current view
 abbrev pub holdingRow : Holding → List ℕ

@@ -1,13 +1,8 @@
 use Rattle.terms.specs.Checks.{when, ifLess}
 use Rattle.held.specs.Held.{capacityWrong}
-use native.Mathlib.Omega.{arith}
 use borrow.Author.Needs.{needs}
 use Rattle.held.proofs.capacity_wrong.Statement.{statement}
 use Rattle.held.proofs.capacity_wrong.Tie as tie
-use Rattle.held.proofs.capacity_wrong.Reads as reads
-use Rattle.held.proofs.capacity_wrong.Lts as lts
-use Rattle.terms.proofs.first.Reads as first-reads
-use Rattle.terms.proofs.refuse_if.Reads as refuse-if-reads
 
 refuse-if-requires : tie.Need-refuse-if-requires
 refuse-if-requires c κs = search needs

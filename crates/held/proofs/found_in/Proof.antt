@@ -1,19 +1,10 @@
 use Rattle.held.proofs.Found.{rows-wf, row-found, row-none}
-use Rattle.held.proofs.Found.{tells-found, tells-none}
 use Rattle.table.proofs.Bodies.{row-fits}
-use mathlib.Core.Path.{_≡_, refl, ap, sym, _∙_}
+use mathlib.Core.Path.{_∙_}
 use native.Mathlib.Omega.{arith}
 use borrow.Author.Needs.{needs}
 use Rattle.held.proofs.found_in.Statement.{statement}
 use Rattle.held.proofs.found_in.Tie as tie
-use Rattle.held.proofs.found_in.Reads as reads
-use Rattle.held.proofs.found_in.Lts as lts
-use Rattle.held.proofs.in_row.Reads as in-row-reads
-use Rattle.held.proofs.nothing.Reads as nothing-reads
-use Rattle.table.proofs.count_of.Reads as count-of-reads
-use Rattle.table.proofs.place.Reads as place-reads
-use Rattle.table.proofs.row.Reads as row-reads
-use Rattle.table.proofs.rows.Reads as rows-reads
 
 count-of-requires : tie.Need-count-of-requires
 count-of-requires c κs = search needs

@@ -1,14 +1,8 @@
 use Rattle.held.proofs.Found.{right, stopped, passed}
-use mathlib.Core.Path.{_≡_, refl, ap, sym, _∙_}
-use native.Mathlib.Omega.{arith}
+use mathlib.Core.Path.{sym, _∙_}
 use borrow.Author.Needs.{needs}
 use Rattle.held.proofs.held.Statement.{statement}
 use Rattle.held.proofs.held.Tie as tie
-use Rattle.held.proofs.held.Reads as reads
-use Rattle.held.proofs.held.Lts as lts
-use Rattle.held.proofs.found_in.Reads as found-in-reads
-use Rattle.held.proofs.held_wrong.Reads as held-wrong-reads
-use Rattle.held.proofs.nothing.Reads as nothing-reads
 
 held-wrong-requires : tie.Need-held-wrong-requires
 held-wrong-requires c κs = search needs

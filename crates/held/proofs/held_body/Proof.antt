@@ -1,11 +1,7 @@
 use Rattle.held.proofs.There.{told-there, part-there}
-use native.Mathlib.Omega.{arith}
 use borrow.Author.Needs.{needs}
 use Rattle.held.proofs.held_body.Statement.{statement}
 use Rattle.held.proofs.held_body.Tie as tie
-use Rattle.held.proofs.held_body.Reads as reads
-use Rattle.held.proofs.held_body.Lts as lts
-use Rattle.held.proofs.held.Reads as held-reads
 
 held-requires : tie.Need-held-requires
 held-requires c κs = search needs

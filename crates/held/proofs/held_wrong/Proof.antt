@@ -1,15 +1,10 @@
 use Rattle.held.proofs.Found.{capacity-small}
 use Rattle.held.specs.Held.{heldWrong}
 use Rattle.terms.proofs.Checks.{pass, stop}
-use mathlib.Core.Path.{_≡_, refl, ap, sym, _∙_}
-use native.Mathlib.Omega.{arith}
+use mathlib.Core.Path.{sym, _∙_}
 use borrow.Author.Needs.{needs}
 use Rattle.held.proofs.held_wrong.Statement.{statement}
 use Rattle.held.proofs.held_wrong.Tie as tie
-use Rattle.held.proofs.held_wrong.Reads as reads
-use Rattle.held.proofs.held_wrong.Lts as lts
-use Rattle.held.proofs.capacity_wrong.Reads as capacity-wrong-reads
-use Rattle.table.proofs.table_wrong.Reads as table-wrong-reads
 
 capacity-wrong-requires : tie.Need-capacity-wrong-requires
 capacity-wrong-requires c κs = search needs

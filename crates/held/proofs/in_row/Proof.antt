@@ -2,15 +2,10 @@ use Rattle.held.proofs.Found.{told-of}
 use lib.ListN.{length}
 use mathlib.Core.List.{List}
 use Prim.Native.Nat.{ℕ}
-use mathlib.Core.Path.{_≡_, refl, ap, sym, _∙_}
-use native.Mathlib.Omega.{arith}
+use mathlib.Core.Path.{ap}
 use borrow.Author.Needs.{needs}
 use Rattle.held.proofs.in_row.Statement.{statement}
 use Rattle.held.proofs.in_row.Tie as tie
-use Rattle.held.proofs.in_row.Reads as reads
-use Rattle.held.proofs.in_row.Lts as lts
-use Rattle.table.proofs.body_of.Reads as body-of-reads
-use Rattle.table.proofs.state_of.Reads as state-of-reads
 
 body-of-requires : tie.Need-body-of-requires
 body-of-requires c κs = search needs

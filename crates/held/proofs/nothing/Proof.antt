@@ -1,11 +1,7 @@
 use Rattle.held.specs.Held.{nothing}
-use mathlib.Core.Path.{_≡_, refl, ap, sym, _∙_}
-use native.Mathlib.Omega.{arith}
-use borrow.Author.Needs.{needs}
+use mathlib.Core.Path.{refl}
 use Rattle.held.proofs.nothing.Statement.{statement}
 use Rattle.held.proofs.nothing.Tie as tie
-use Rattle.held.proofs.nothing.Reads as reads
-use Rattle.held.proofs.nothing.Lts as lts
 
 returns : tie.Need-returns
 unfolding nothing

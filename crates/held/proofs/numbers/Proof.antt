@@ -1,16 +1,6 @@
-use mathlib.Core.Path.{_≡_, refl, ap, sym, _∙_}
-use native.Mathlib.Omega.{arith}
 use borrow.Author.Needs.{needs}
 use Rattle.held.proofs.numbers.Statement.{statement}
 use Rattle.held.proofs.numbers.Tie as tie
-use Rattle.held.proofs.numbers.Reads as reads
-use Rattle.held.proofs.numbers.Lts as lts
-use Rattle.records.proofs.widened.Reads as widened-reads
-use Rattle.rules.proofs.Log.number.Reads as Log-number-reads
-use Rattle.rules.proofs.Log.view.Reads as view-reads
-use Rattle.rules.proofs.Settled.number.Reads as Settled-number-reads
-use Rattle.rules.proofs.Vote.number.Reads as Vote-number-reads
-use Rattle.rules.proofs.Vote.reason.Reads as reason-reads
 
 number-requires : tie.Need-number-requires
 number-requires c κs = search needs
