@@ -301,6 +301,9 @@ void stobbarel_take(uint8_t kind, uint32_t *commits, uint32_t *aborts, uint64_t 
 
 /* ---- a transaction that a dead gateway left
  *
+ * A gateway that takes over needs the transaction whole: a box's host reads its bytes off the table by stobbarel_held, and they go behind
+ * the mark of a message as they are.
+ *
  * A gateway that finds logs of both decisions, or of several views, asks each box what its current view is, by an IV with what it
  * knows, and sends what it is told in the next IV; box numbers and views go to stobbarel_tell and come back from stobbarel_told. Each
  * election answer is carried to the leader that it names. That one takes them on a sheet for its transaction and view by
