@@ -1,3 +1,4 @@
 pub mod Found
 pub mod There
 pub mod Stored
+pub mod Shown

@@ -69,6 +69,14 @@ There t h b = (h .at + h .len ≤ length t) × (take (h .len) (drop (h .at) t) �
 abbrev pub BodyThere : Type 0
 BodyThere = (t : List ℕ) (capacity s : ℕ) → There t (heldOf t capacity s) (bodyHeld t capacity s)
 
+-- an entry that is held has a body of twelve bytes or more: mark, counts and stamp; so where no bytes are told, nothing is held
+abbrev pub shortest : ℕ
+shortest = 12
+
+abbrev pub HeldLong : Type 0
+HeldLong =
+    (t : List ℕ) (capacity s : ℕ) (e : Entry) → heldWrong capacity t ≡ 0 → find s (entriesOf t) ≡ some e → shortest ≤ heldOf t capacity s .len
+
 -- what a call stores in its place is what is told of its stamp afterwards: the body, and what is held beside it
 abbrev pub StoredHeld : Type 0
 StoredHeld =
