@@ -1,0 +1,4 @@
+pub mod Found
+pub mod There
+pub mod Stored
+pub mod Shown
