@@ -1,18 +1,17 @@
 -- The claims of specs/Order.
-use Prim.Native.Nat.{ℕ, zero, suc, _+_, _≤_, _<_}
+use Prim.Native.Nat.{ℕ, zero, suc, _+_}
 use mathlib.Core.Bool.{Bool, true, false, not}
 use mathlib.Core.Path.{_≡_, refl, sym, _∙_, ap}
 use mathlib.Core.Logic.{_⊎_, inl, inr}
 use mathlib.Core.Option.{Option, some, none}
 use mathlib.Core.List.{List}
 use native.Mathlib.Omega.{arith}
-use lib.Dec.{T, leb, leb→le, le→leb, nleb→lt, not-T}
+use lib.Dec.{T, leb, leb→le, le→leb, not-T}
 use lib.ListN.{length}
 use Rattle.terms.specs.Choice.{pick}
 use Rattle.terms.specs.declared.Refusal.{Refusal}
 use Rattle.terms.specs.declared.Refusal.the-variants.{Full, TooFew}
 use Rattle.records.specs.declared.Mark.the-variants.{DC}
-use Rattle.records.specs.declared.Marked.the-variants.{Is}
 use Rattle.records.specs.Cutting.{txPart}
 use Rattle.records.specs.Messages.{dueRefusal, listBehind}
 use Rattle.records.specs.Vl.{Vl}
@@ -22,10 +21,9 @@ use Rattle.rules.specs.Lists.{decisionOf, forProof, kindOf, lacking, mee
 use Rattle.rules.specs.Table.{Box, Entry, Told, find, put}
 use Rattle.rules.specs.Calls.{Act, Change, dcByEntry, dcOther, dcRule, dcSame, decideAct, guarded, isFull, needing, nothing, puts, raises, refuse}
 use Rattle.rules.specs.Calls.{roomFor, sameDecision}
-use Rattle.rules.specs.Act.{EntryPoint, act, after, boxAfter, dueAct, markBy, markedAct, marksAfter, rule, tableAfter, toldWrong}
-use Rattle.rules.specs.Order.{Call, DecisionsCommute, EitherOrder, IsDC, NeedsNew, OneRefused, Reordered, Room, next, reply, same, stampIn}
+use Rattle.rules.specs.Act.{act, after, boxAfter, dueAct, markedAct, marksAfter, rule, tableAfter, toldWrong}
+use Rattle.rules.specs.Order.{Call, DecisionsCommute, IsDC, NeedsNew, OneRefused, Reordered, Room, next, reply, same, stampIn}
 use Rattle.rules.proofs.Laws.{decideT, find-put-other, pick-elim, pick-false, pick-true}
-use Rattle.rules.proofs.Moves.{none-some}
 use Rattle.rules.proofs.Deeds.{guarded-elim}
 use Rattle.rules.proofs.Room.{Fit, FitsBy, FitsIn, act-fits}
 use Rattle.rules.proofs.Reordered.{put-held, put-new, put-put}
@@ -153,14 +151,16 @@ module _ (x : Box) (c : Call) (d : IsDC c) (new : find (stampIn c) x.table ≡ n
       → actOf x c ≡ fresh
   unfolding dcRule needing dcByEntry roomFor
   is-taken n m k r =
-      dc-act x c d ∙ unguarded _ _ _ n m ∙ pick-true (meets _ (listBehind (c .message))) _ _ k ∙ (rw new (pick-false (isFull (c .told) x) (refuse Full) fresh r))
+      dc-act x c d ∙ unguarded _ _ _ n m ∙ pick-true (meets _ (listBehind (c .message))) _ _ k
+      ∙ (rw new (pick-false (isFull (c .told) x) (refuse Full) fresh r))
 
   -- refused with 13, where they pass and there is none
   is-refused : toldWrong (c .told) ≡ 0 → dueRefusal DC (c .told .f) (c .message) ≡ 0 → Enough c → T (isFull (c .told) x)
       → actOf x c ≡ refuse Full
   unfolding dcRule needing dcByEntry roomFor
   is-refused n m k r =
-      dc-act x c d ∙ unguarded _ _ _ n m ∙ pick-true (meets _ (listBehind (c .message))) _ _ k ∙ (rw new (pick-true (isFull (c .told) x) (refuse Full) fresh r))
+      dc-act x c d ∙ unguarded _ _ _ n m ∙ pick-true (meets _ (listBehind (c .message))) _ _ k
+      ∙ (rw new (pick-true (isFull (c .told) x) (refuse Full) fresh r))
 
   checks-pass : reply x c ≡ Done → (toldWrong (c .told) ≡ 0) × (dueRefusal DC (c .told .f) (c .message) ≡ 0) × Enough c
   unfolding reply dcRule

@@ -94,14 +94,18 @@ pick-both true false F G o h = refl
 pick-both false true F G o h = refl
 pick-both false false F G o h = refl
 
+newest-swap : (p : Entry → Bool) (k s : ℕ) (a b : Entry) (t : List Entry) → (stampOf a.body ≡ stampOf b.body → ⊥)
+    → newest p k s (a ∷ b ∷ t) ≡ newest p k s (b ∷ a ∷ t)
+unfolding newest
+newest-swap p k s a b t n =
+    pick-both (p a && (writesKey a.body k && ltb (stampOf a.body) s)) (p b && (writesKey b.body k && ltb (stampOf b.body) s)) (better a) (better b)
+    (newest p k s t) (better-swap a b (newest p k s t) n)
+
 pub newest-same : {t u : List Entry} (p : Entry → Bool) (k s : ℕ) → Reordered t u → newest p k s t ≡ newest p k s u
 unfolding newest
 newest-same p k s same = refl
-newest-same p k s (behind {e = e} w) =
-    ap (λ o. pick (p e && (writesKey e.body k && ltb (stampOf e.body) s)) (better e o) o) (newest-same p k s w)
-newest-same p k s (swapped {a = a} {b = b} {t = t} n) =
-    pick-both (p a && (writesKey a.body k && ltb (stampOf a.body) s)) (p b && (writesKey b.body k && ltb (stampOf b.body) s)) (better a) (better b)
-    (newest p k s t) (better-swap a b (newest p k s t) n)
+newest-same p k s (behind w) = rw (newest-same p k s w)
+newest-same p k s (swapped {a = a} {b = b} {t = t} n) = newest-swap p k s a b t n
 newest-same p k s (further w v) = newest-same p k s w ∙ newest-same p k s v
 
 -- ---- an entry that is put into both

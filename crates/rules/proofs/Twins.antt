@@ -19,15 +19,15 @@ use Rattle.records.specs.Messages.{listBehind, rdKey, rdStamp, viewsBehind}
 use Rattle.records.specs.Tx.{readKey, readVersion, writeKey}
 use Rattle.records.specs.Vl.{Vl}
 use Rattle.records.specs.Views.{Views}
-use Rattle.rules.specs.Answers.{Answer, Decision, Dependency, Settled, Vote, settled, unsettled, unvoted, voteAbort, voteCommit, waiting}
+use Rattle.rules.specs.Answers.{Decision, Dependency, Settled, Vote, settled, unsettled, unvoted, voteAbort, voteCommit, waiting}
 use Rattle.rules.specs.Bodies.{Body, readsOf, stampOf, writesOf}
-use Rattle.rules.specs.Lists.{decisionOf, forLogging, forProof, kindOf}
+use Rattle.rules.specs.Lists.{decisionOf}
 use Rattle.rules.specs.Table.{Box, Entry, Told, find, live}
-use Rattle.rules.specs.Tests.{Status, fine, firstVote, isBad, isPending, liveWriter, status, statusOf, test2, test3, test4, test5, waitingRule}
+use Rattle.rules.specs.Tests.{fine, firstVote, isBad, isPending, liveWriter, status, statusOf, test2, test3, test4, test5, waitingRule}
 use Rattle.rules.specs.Calls.{Act, Change, castAct, dcByEntry, dcRule, firstLog, guarded, isCommitted, isFull, isUndecided, lgByEntry, lgRule, lookAct}
-use Rattle.rules.specs.Calls.{needing, newest, nothing, prByDecision, prByEntry, prByVote, prRule, puts, raises, rdAnswer, rdRule, refuse, roomFor}
+use Rattle.rules.specs.Calls.{nothing, prByDecision, prByEntry, prByVote, prRule, puts, raises, rdAnswer, rdRule, refuse, roomFor}
 use Rattle.rules.specs.Fallback.{ivByEntry, ivRule, ldByEntry, ldRule, ledAct, takeAct}
-use Rattle.rules.specs.Act.{EntryPoint, act, after, boxAfter, dueAct, markBy, markedAct, marksAfter, raise, rule, tableAfter, toldWrong}
+use Rattle.rules.specs.Act.{EntryPoint, act, after, boxAfter, dueAct, markBy, markedAct, rule, tableAfter, toldWrong}
 use Rattle.rules.specs.Order.{Call, Reordered, apartFromNumber, next, replies, reply}
 use Rattle.rules.proofs.Reordered.{any-same, find-same, length-same, newest-same, put-same}
 

@@ -6,7 +6,7 @@ use Rattle.terms.specs.declared.Refusal.the-variants.{Full}
 use Rattle.records.specs.declared.Mark.the-variants.{DC as markedDC}
 use Rattle.records.specs.declared.Marked.the-variants.{Is}
 use Rattle.rules.specs.Answers.{Answer, Decided, Done, NoVersion, Refused, abort, commit, settled, unsettled, unvoted, voteCommit, votes, waiting}
-use Rattle.rules.specs.Table.{Box, Entry, Told}
+use Rattle.rules.specs.Table.{Box, Entry}
 use Rattle.rules.specs.Act.{due, receive}
 use Rattle.rules.specs.Order.{Call, EitherOrder, NeedsNew, next, replies, reply}
 use Rattle.rules.specs.Cases.{DC, LG, PR, RD, aborts, commits, elections, found, iv, ld, line, logs0, reads, seen, write, tx, writes}
@@ -43,11 +43,13 @@ unfoldable pub calls : List (List ℕ) → List Call
 calls [] = []
 calls (m ∷ ms) = record { entry = receive; told = line; message = m } ∷ calls ms
 
+unfoldable pub laterMessages : List (List ℕ)
+laterMessages =
+    PR (writes 65 5) ∷ PR (reads 80 5 65) ∷ PR (reads 81 5 70) ∷ RD 5 90 ∷ LG (writes 82 5) commit 4 ∷ iv (writes 82 5) (seen 0 4 0)
+    ∷ ld (writes 82 5) 0 commit 2 (elections 0 5 commit 2) ∷ DC (writes 50 3) votes commit 6 ∷ PR (reads 60 3 50) ∷ RD 3 90 ∷ PR (writes 83 6) ∷ []
+
 unfoldable pub laterCalls : List Call
-laterCalls =
-    calls
-    (PR (writes 65 5) ∷ PR (reads 80 5 65) ∷ PR (reads 81 5 70) ∷ RD 5 90 ∷ LG (writes 82 5) commit 4 ∷ iv (writes 82 5) (seen 0 4 0)
-    ∷ ld (writes 82 5) 0 commit 2 (elections 0 5 commit 2) ∷ DC (writes 50 3) votes commit 6 ∷ PR (reads 60 3 50) ∷ RD 3 90 ∷ PR (writes 83 6) ∷ [])
+laterCalls = calls laterMessages
 
 unfoldable pub laterAnswers : List Answer
 laterAnswers =
