@@ -6,11 +6,14 @@ use crate::compare::{first_difference, first_difference_in_ballots, first_differ
 use crate::engine::Entrance;
 use crate::member::{Engine, Member, Model};
 use crate::model::{self, row_at, Answer, Decision, Election, ElectionReply, ElectionSheet, Holding, Reply, Rule, Rules, Settings, Sheet, ViewSheet, PAPER};
+use crate::order;
 use crate::records;
 use stobbarel::layout::{BODY_AT, HEAD, REASON_AT, ROW, VOTE_AT};
 
 /// Messages, or answers for sheets, within which the comparison has to notice a wrong box.
 const COMPARED: u64 = 50_000;
+/// Pairs of decisions within which a box has to show in which order they came.
+const PAIRS: u64 = 2_000;
 /// Records within which the comparison of records has to notice one.
 const RECORDS: u64 = 1_000;
 /// Clusters in which demand 3 has to hold where it is said to hold.
@@ -227,6 +230,8 @@ enum Bad {
     MessageFirst,
     /// It drops the entries that are above the capacity.
     DropsEntries,
+    /// A DC's new entry stands before all others.
+    DecidesInFront,
     /// Its tally counts a box that has not answered.
     InventsAnAnswer,
     /// Beside 11 it says that one answer is lacking, whatever is.
@@ -287,6 +292,16 @@ impl Member for Bad {
             Bad::DropsEntries if settings.in_order() && !table.is_empty() => {
                 table[0] = table[0].min(settings.capacity as u8);
                 properly(table, marks)
+            }
+            Bad::DecidesInFront => {
+                let entries = |table: &[u8]| usize::from(table.first().copied().unwrap_or(0));
+                let before = entries(table);
+                let answer = properly(table, marks)?;
+                let after = entries(table);
+                if answer == Answer::Done && after > before {
+                    table[HEAD..HEAD + after * ROW].rotate_right(ROW);
+                }
+                Ok(answer)
             }
             Bad::OneIsLacking => Ok(match properly(table, marks)? {
                 Answer::TooFew(_) => Answer::TooFew(1),
@@ -404,6 +419,41 @@ fn compared(what: &str, mut one: impl Member, seed: u64, wrong: bool) -> bool {
     passed
 }
 
+/// Boxes by whose answers one can tell in which order two decisions came.
+const ORDER: [(&str, Rule); 4] = [
+    ("RD takes the last writer in the table", Rule::HighestStamp),
+    ("a look-up ends at the first higher stamp", Rule::AnyPlace),
+    ("test 3 ends at the first live writer", Rule::EveryWriter),
+    ("a DC's new entry takes the place of an aborted one", Rule::AbortedStay),
+];
+
+/// Boxes that are wrong, but whose answers do not go by the order of entries with different stamps.
+const ORDERLY: [(&str, Rule); 2] = [("RD takes the last among equals", Rule::FirstAmongEquals), ("a look-up takes the last of a stamp", Rule::FirstOfAStamp)];
+
+/// A box, and whether two decisions in both orders must show it.
+fn ordered(what: &str, one: &mut dyn Member, seed: u64, wrong: bool) -> bool {
+    let first = order::first_difference(one, PAIRS, seed);
+    let passed = first.is_some() == wrong;
+    let seen = first.map_or(format!("no order seen in {PAIRS} pairs"), |(at, _)| format!("order seen at pair {at}"));
+    println!("{what:60} {seen}{}", if passed { "" } else { "  FAILED" });
+    passed
+}
+
+/// Either order of decisions: what must be seen there, and what only the comparison sees.
+fn either_order(seed: u64) -> bool {
+    let mut passed = true;
+    for (rules, seen) in [(&ORDER[..], true), (&ORDERLY[..], false)] {
+        for (what, rule) in rules {
+            let broken = std::slice::from_ref(rule);
+            passed &= ordered(what, &mut Model(Rules { broken }), seed, seen);
+            passed &= compared(what, Model(Rules { broken }), seed, true);
+        }
+    }
+    passed &= ordered("a DC's new entry stands before all others", &mut Bad::DecidesInFront, seed, false);
+    passed &= compared("a DC's new entry stands before all others", Bad::DecidesInFront, seed, true);
+    passed & ordered("the engine", &mut Engine, seed, false)
+}
+
 /// Each in turn. False where one was not noticed, or the engine was.
 pub fn check(most: u64, seed: u64) -> bool {
     let search = Search { most, seed };
@@ -444,6 +494,7 @@ pub fn check(most: u64, seed: u64) -> bool {
     passed &= compared("a box that holds a body to the end of its row", Bad::HoldsTheWholeRow, seed, true);
     passed &= compared("a box that tells the current view for the log's", Bad::HoldsOneView, seed, true);
     passed &= compared("the engine", Engine, seed, false);
+    passed &= either_order(seed);
     println!("{}", if passed { "each broken rule and each bad box was noticed" } else { "FAILED" });
     passed
 }

@@ -57,7 +57,7 @@ const ANSWERS: [&str; 38] = [
 /// The one that is no longer given.
 const NEVER: &str = "refused 10";
 
-fn name(answer: Answer) -> &'static str {
+pub fn name(answer: Answer) -> &'static str {
     let second = |decision| usize::from(decision == Decision::Abort);
     ANSWERS[match answer {
         Answer::Commit => 0,
@@ -75,12 +75,12 @@ fn name(answer: Answer) -> &'static str {
     }]
 }
 
-fn hex(bytes: &[u8]) -> String {
+pub fn hex(bytes: &[u8]) -> String {
     bytes.iter().map(|byte| format!("{byte:02x}")).collect::<Vec<_>>().join(" ")
 }
 
 /// Any of the ways in, mostly one that takes the message.
-fn entrance_for(random: &mut Random, message: &[u8]) -> Entrance {
+pub fn entrance_for(random: &mut Random, message: &[u8]) -> Entrance {
     match random.below(100) {
         0..=39 => Entrance::Receive,
         40..=43 => Entrance::Due(random.between(1, 6)),
@@ -666,7 +666,7 @@ impl Counts {
 }
 
 /// Prints how often each of these occurred; how many did not.
-fn print(times: &BTreeMap<&'static str, u64>, due: &[&'static str]) -> u64 {
+pub fn print(times: &BTreeMap<&'static str, u64>, due: &[&'static str]) -> u64 {
     let mut missing = 0;
     for one in due {
         let times = times.get(one).copied().unwrap_or(0);

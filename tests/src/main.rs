@@ -13,6 +13,7 @@ mod member;
 mod messages;
 mod mix;
 mod model;
+mod order;
 mod passages;
 mod random;
 mod records;
@@ -31,6 +32,7 @@ stobbarel-tests bodies                     two bodies under one stamp that diffe
 stobbarel-tests records [COUNT [SEED]]     COUNT records (500000) written by engine and model, each read as it is and damaged
 stobbarel-tests cluster [RUNS [SEED]]      RUNS clusters (20000) of the engine, demand 3 judged after every call
 stobbarel-tests broken [MOST [SEED]]       boxes with a broken rule, and bad boxes: each must be noticed, within MOST clusters (20000)
+stobbarel-tests order [COUNT [SEED]]       COUNT pairs of decisions (10000) in both orders, later calls on both tables answered alike
 stobbarel-tests passages [COUNT [SEED]]    COUNT looks (200000) at passages: reports, corrections and entries beside a model
 stobbarel-tests incident                   the night that one correction was decided both ways, and why it cannot be again
 stobbarel-tests bench PROGRAM [RUNS [SEED]]  RUNS inputs (400) for the bench program, its output against the model's
@@ -81,6 +83,7 @@ fn main() {
         Some("bodies") => bodies::check(),
         Some("cluster") => cluster::check(&mut Beside, number(rest, 0, 20_000), number(rest, 1, 1)),
         Some("broken") => broken::check(number(rest, 0, 20_000), number(rest, 1, 1)),
+        Some("order") => order::check(number(rest, 0, 10_000), number(rest, 1, 1)),
         Some("passages") => passages::check(number(rest, 0, 200_000), number(rest, 1, 1)),
         Some("incident") => incident::check(),
         Some("stored") if rest.len() == 2 => stored::check(&rest[0], &rest[1]),

@@ -377,6 +377,21 @@ impl Run {
         }
     }
 
+    /// A DC, by what the table holds and what was sent before; now and then damaged.
+    pub fn decision(&mut self, random: &mut Random) -> Vec<u8> {
+        let held = self.held();
+        let body = if !held.is_empty() && random.chance(30) {
+            held[random.below(held.len() as u64) as usize].body.clone()
+        } else {
+            self.known_or_new(random, 50)
+        };
+        let mut message = [b"DC".to_vec(), transaction_bytes(&body), self.list(random, false)].concat();
+        if random.chance(self.damage / 3) {
+            self.spoil(random, &mut message);
+        }
+        message
+    }
+
     /// One place of a message set wrong.
     fn spoil(&self, random: &mut Random, m: &mut Vec<u8>) {
         if m.starts_with(b"RD") {

@@ -11,6 +11,7 @@ mod held;
 
 pub use fallback::*;
 pub use held::*;
+use std::cmp::Ordering;
 use stobbarel::layout::{table_len, BODY_AT, DECIDED_AT, HEAD, LOG_AT, LOG_VIEW_AT, REASON_AT, ROW, VIEW_AT, VOTE_AT};
 
 /// For each f from 1 on: commit list, abort list, commit proof, abort proof, proof from logs.
@@ -139,6 +140,18 @@ pub enum Rule {
     LogLeavesView,
     /// A proof from logs: equal decisions, of whatever views. It is no box's rule, but that of who counts them.
     EqualViews,
+    /// RD: the last among equals.
+    FirstAmongEquals,
+    /// A look-up by stamp takes the last such entry.
+    FirstOfAStamp,
+    /// RD: the last writer in the table, be its stamp not the highest.
+    HighestStamp,
+    /// A look-up ends at the first higher stamp, as if entries stood in stamp order.
+    AnyPlace,
+    /// Test 3 ends at the first live writer of a key.
+    EveryWriter,
+    /// DC: a new entry takes the place of the first that is aborted.
+    AbortedStay,
     /// The contents of an EL: 5 before 8.
     CodeFirst,
     /// The contents of an EL: a leader n or more.
@@ -763,7 +776,14 @@ pub const CASES: [&str; 74] = [
 
 impl Store {
     fn place(&self, stamp: u64) -> Option<usize> {
-        self.entries.iter().position(|entry| entry.body.stamp == stamp)
+        let is = |entry: &Entry| entry.body.stamp == stamp;
+        if !self.rules.hold(Rule::FirstOfAStamp) {
+            return self.entries.iter().rposition(is);
+        }
+        if !self.rules.hold(Rule::AnyPlace) {
+            return self.entries.iter().take_while(|entry| entry.body.stamp <= stamp).position(is);
+        }
+        self.entries.iter().position(is)
     }
 
     fn lives(&self, entry: &Entry) -> bool {
@@ -795,6 +815,9 @@ impl Store {
     fn misses_a_write(&self, tx: &Transaction) -> bool {
         tx.reads.iter().any(|(key, version)| {
             let missed = |entry: &Entry| entry.body.stamp > *version && entry.body.stamp < tx.stamp;
+            if !self.rules.hold(Rule::EveryWriter) {
+                return self.live().find(|entry| entry.body.writes_key(*key)).is_some_and(missed);
+            }
             self.live().any(|entry| missed(entry) && entry.body.writes_key(*key))
         })
     }
@@ -1074,6 +1097,13 @@ impl Store {
                 return Answer::Refused(FULL);
             }
             self.met.push("DC new");
+            if !self.rules.hold(Rule::AbortedStay) {
+                if let Some(place) = self.entries.iter().position(|entry| entry.decision == Some(Decision::Abort)) {
+                    self.entries[place] = Entry { decision: Some(list.decision), ..Entry::new(tx, Vote::None) };
+                    self.touched = Some(place);
+                    return Answer::Done;
+                }
+            }
             self.store(Entry { decision: Some(list.decision), ..Entry::new(tx, Vote::None) }, settings);
             return Answer::Done;
         };
@@ -1131,7 +1161,12 @@ impl Store {
         let mut best: Option<(u64, u64)> = None;
         for entry in self.entries.iter().filter(|entry| wanted(entry) && entry.body.stamp < below) {
             if let Some((_, value)) = entry.body.writes.iter().find(|(written, _)| *written == key) {
-                if best.map_or(true, |(stamp, _)| entry.body.stamp > stamp) {
+                let higher = |(stamp, _)| match entry.body.stamp.cmp(&stamp) {
+                    Ordering::Less => !self.rules.hold(Rule::HighestStamp),
+                    Ordering::Equal => !self.rules.hold(Rule::FirstAmongEquals),
+                    Ordering::Greater => true,
+                };
+                if best.map_or(true, higher) {
                     best = Some((entry.body.stamp, *value));
                 }
             }

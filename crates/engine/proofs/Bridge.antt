@@ -36,7 +36,7 @@ unfolding markedAct dueAct Bodied
 marked-bodied (Is k) told x m = guarded-bodied m _ _ (rule-bodied k told x m)
 marked-bodied (Unmarked n) told x m = tt
 
-act-bodied : (way : EntryPoint) (told : Told) (x : Box) (m : List ℕ) → Bodied m (act way told x m .change)
+pub act-bodied : (way : EntryPoint) (told : Told) (x : Box) (m : List ℕ) → Bodied m (act way told x m .change)
 unfolding act
 act-bodied way told x m = guarded-bodied m _ _ (λ _. marked-bodied (markBy way m) told x m)
 

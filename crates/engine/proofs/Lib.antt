@@ -7,3 +7,5 @@ pub mod Alone
 pub mod Safety
 pub mod Starts
 pub mod Busy
+pub mod Order
+pub mod Crossed

@@ -29,3 +29,7 @@ pub mod Running
 pub mod Cases
 pub mod Traces
 pub mod Leading
+pub mod Reordered
+pub mod Twins
+pub mod Order
+pub mod Crossed

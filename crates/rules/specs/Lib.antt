@@ -9,6 +9,8 @@ pub mod Fallback
 pub mod Act
 pub mod Quorums
 pub mod System
+pub mod Order
 pub mod Cases
 pub mod Vectors
+pub mod Crossed
 pub mod Traces

@@ -6,6 +6,7 @@
 #[allow(dead_code)]
 mod engine;
 #[path = "../../mix.rs"]
+#[allow(dead_code)]
 mod mix;
 #[path = "../../model.rs"]
 #[allow(dead_code)]
