@@ -1034,7 +1034,7 @@ fn sheets(tried: &mut Tried) {
 /// False where an answer is not the one due, or where none was tried.
 pub fn check() -> bool {
     let mut tried = Tried::default();
-    let parts: [(&str, fn(&mut Tried)); 15] = [
+    let parts: [(&str, fn(&mut Tried)); 17] = [
         ("reading", reading),
         ("entrances", entering),
         ("LGs before the PR", missing_the_prepare),
@@ -1044,7 +1044,9 @@ pub fn check() -> bool {
         ("a leader's decisions", fallback::led),
         ("leaders", fallback::leaders),
         ("what is held after messages", held::after_messages),
+        ("what is held at each place", held::each_place),
         ("what is held in lent tables", held::as_lent),
+        ("what is held, refused", held::refusals),
         ("writing", writing),
         ("the tally", sheets),
         ("elections", fallback::elections),

@@ -100,15 +100,31 @@ fn put(table: &mut [u8], place: usize, body: &[u8]) {
     row[BODY_AT..BODY_AT + body.len()].copy_from_slice(body);
 }
 
-/// In tables as they are lent: each place, the first of two, places that are not looked at, and what is refused.
-pub(super) fn as_lent(tried: &mut Tried) {
-    let voted = |place: usize, body: &[u8]| Ok(Some(holding((place, body, (Vote::Commit, None, None, 0)))));
+/// What is told of an entry that is voted commit.
+fn voted(place: usize, body: &[u8]) -> Result<Option<Holding>, u8> {
+    Ok(Some(holding((place, body, (Vote::Commit, None, None, 0)))))
+}
+
+/// A table of one entry, 50, and seven bytes more.
+fn one() -> Vec<u8> {
+    let mut table = full(1);
+    put(&mut table, 0, BODY);
+    table.extend([0xee; 7]);
+    table
+}
+
+/// Each place of a full table.
+pub(super) fn each_place(tried: &mut Tried) {
     let all = full(255);
     for place in 0..255 {
         let body = &all[row_at(place) + BODY_AT..][..12 + 20 * (place % 9)];
         asked(tried, &format!("entry {place} of 255"), &all, 255, place as u64 + 1, voted(place, body));
     }
     asked(tried, "none of 255", &all, 255, 256, Ok(None));
+}
+
+/// In tables as they are lent: the first of two, places that are not looked at, views.
+pub(super) fn as_lent(tried: &mut Tried) {
     let mut table = full(3);
     put(&mut table, 2, BODY);
     put(&mut table, 1, OTHER);
@@ -116,34 +132,41 @@ pub(super) fn as_lent(tried: &mut Tried) {
     table[0] = 2;
     put(&mut table, 1, &tx(51, &[], &[(3, 7)]));
     asked(tried, "what stands behind the last entry", &table, 3, 50, Ok(None));
-    let mut one = vec![0; table_len(1)];
-    one[0] = 1;
-    asked(tried, "a row of zeros", &one, 1, 0, Ok(Some(holding((0, &[0; 12], (Vote::None, None, None, 0))))));
-    put(&mut one, 0, BODY);
-    one.extend([0xee; 7]);
-    asked(tried, "a slice longer than needed", &one, 1, 50, voted(0, BODY));
-    one[HEAD + LOG_VIEW_AT] = 5;
-    asked(tried, "a view beside no log", &one, 1, 50, voted(0, BODY));
-    (one[HEAD + LOG_AT], one[HEAD + LOG_VIEW_AT + 1], one[HEAD + VIEW_AT + 1]) = (2, 1, 2);
-    asked(tried, "views above a byte", &one, 1, 50, Ok(Some(holding((0, BODY, (Vote::Commit, None, Some((A, 256 + 5)), 512))))));
+    let mut table = vec![0; table_len(1)];
+    table[0] = 1;
+    asked(tried, "a row of zeros", &table, 1, 0, Ok(Some(holding((0, &[0; 12], (Vote::None, None, None, 0))))));
+    let mut table = one();
+    asked(tried, "a slice longer than needed", &table, 1, 50, voted(0, BODY));
+    table[HEAD + LOG_VIEW_AT] = 5;
+    asked(tried, "a view beside no log", &table, 1, 50, voted(0, BODY));
+    (table[HEAD + LOG_AT], table[HEAD + LOG_VIEW_AT + 1], table[HEAD + VIEW_AT + 1]) = (2, 1, 2);
+    asked(tried, "views above a byte", &table, 1, 50, Ok(Some(holding((0, BODY, (Vote::Commit, None, Some((A, 256 + 5)), 512))))));
+}
+
+/// A byte of a table that makes it one that is not in order.
+const WRONG: [(&str, usize, u8); 7] = [
+    ("more entries than the capacity", 0, 2),
+    ("a vote outside its list", HEAD + VOTE_AT, 4),
+    ("a reason beside commit", HEAD + REASON_AT, 1),
+    ("a log outside its list", HEAD + LOG_AT, 3),
+    ("a decision outside its list", HEAD + DECIDED_AT, 3),
+    ("nine reads", HEAD + BODY_AT + 2, 9),
+    ("nine writes", HEAD + BODY_AT + 3, 9),
+];
+
+/// 14 for the capacity, then 16 for the table.
+pub(super) fn refusals(tried: &mut Tried) {
+    let table = one();
     for capacity in [0, 256, (1 << 32) + 1, u64::MAX] {
-        asked(tried, &format!("capacity {capacity}"), &one, capacity, 50, Err(14));
+        asked(tried, &format!("capacity {capacity}"), &table, capacity, 50, Err(14));
         asked(tried, &format!("14 before 16: capacity {capacity}"), &[], capacity, 50, Err(14));
     }
     asked(tried, "a table of no bytes", &[], 1, 50, Err(16));
-    asked(tried, "a table of 15 bytes", &one[..15], 1, 50, Err(16));
-    asked(tried, "a byte is missing", &one[..table_len(1) - 1], 1, 50, Err(16));
-    asked(tried, "a larger capacity", &one, 2, 50, Err(16));
-    for (what, at, code) in [
-        ("more entries than the capacity", 0, 2),
-        ("a vote outside its list", HEAD + VOTE_AT, 4),
-        ("a reason beside commit", HEAD + REASON_AT, 1),
-        ("a log outside its list", HEAD + LOG_AT, 3),
-        ("a decision outside its list", HEAD + DECIDED_AT, 3),
-        ("nine reads", HEAD + BODY_AT + 2, 9),
-        ("nine writes", HEAD + BODY_AT + 3, 9),
-    ] {
-        let mut wrong = one.clone();
+    asked(tried, "a table of 15 bytes", &table[..15], 1, 50, Err(16));
+    asked(tried, "a byte is missing", &table[..table_len(1) - 1], 1, 50, Err(16));
+    asked(tried, "a larger capacity", &table, 2, 50, Err(16));
+    for (what, at, code) in WRONG {
+        let mut wrong = table.clone();
         wrong[at] = code;
         asked(tried, what, &wrong, 1, 50, Err(16));
         asked(tried, &format!("{what}, another stamp"), &wrong, 1, 51, Err(16));
