@@ -21,7 +21,7 @@ use Rattle.rules.specs.Tests.{test5}
 use Rattle.rules.specs.Calls.{Act, lookAct, raises, rdAnswer}
 use Rattle.rules.specs.Act.{act, after, boxAfter, markBy, marksAfter, raise, tableAfter}
 use Rattle.rules.specs.System.{Event, Word, answerTo, boxAt, gave, givesNow, isWord, toldAt, vote, wordIn}
-use Rattle.rules.specs.SlipUnder.{NoneHeld, NothingSlipsUnder, asks, everHeld, holds, isFound, isRd, readWithout, readsNow, watched}
+use Rattle.rules.specs.SlipUnder.{NoneHeld, NothingSlipsUnder, Watched, asks, everHeld, holds, isFound, isRd, readWithout, readsNow, watched}
 use Rattle.rules.proofs.Laws.{ands, any-found, any-of, find-in, no-both, not-any, or-cases, or-l, or-r, pick-true, sameBody-refl}
 use Rattle.rules.proofs.Counting.{meet}
 use Rattle.rules.proofs.Moves.{Clear, none-some}
@@ -33,10 +33,10 @@ use Rattle.rules.proofs.Global.{quorum}
 use Rattle.rules.proofs.Marks.{Looks, all-marks, look-raises, looks-found, mark-up, marks}
 
 -- what is held is held at some time
-held-ever : (f i : ℕ) (b : Body) (es : List Event) → T (holds b (table f i es)) → T (everHeld (watched f i) b es)
-unfolding everHeld table
-held-ever f i b [] h = h
-held-ever f i b (e ∷ es) h = or-l (holds b (boxAt f i (e ∷ es) .table)) (everHeld (watched f i) b es) h
+pub held-ever : (x : Watched) (b : Body) (es : List Event) → T (holds b (x .held es)) → T (everHeld x b es)
+unfolding everHeld
+held-ever x b [] h = h
+held-ever x b (e ∷ es) h = or-l (holds b (x .held (e ∷ es))) (everHeld x b es) h
 
 -- and what a box gave it held
 gave-held : (f i : ℕ) (b : Body) (w : Word) (es : List Event) → T (gave f i b w es) → T (everHeld (watched f i) b es)
@@ -59,9 +59,10 @@ gave-held f i b w (e ∷ es) h =
             (rw (y .body, u .0) (sameBody-refl b))))
 
 -- so is what stands
-stands-held : (f i : ℕ) (b : Body) (es : List Event) → Upright (table f i es) b → T (holds b (table f i es))
-unfolding holds
-stands-held f i b es u = any-of (λ o. sameBody o.body b) (table f i es) (u .entry) (u .inside) (rw (u .body) (sameBody-refl b))
+stands-held : (f i : ℕ) (b : Body) (es : List Event) → Upright (table f i es) b → T (everHeld (watched f i) b es)
+unfolding holds table
+stands-held f i b es u =
+    held-ever (watched f i) b es (any-of (λ o. sameBody o.body b) (table f i es) (u .entry) (u .inside) (rw (u .body) (sameBody-refl b)))
 
 module _ (f i k s : ℕ) (b : Body) (writes : T (writesKey b k)) (below : stampOf b < s) where
   -- from the answer on: the mark stands at s or above, no entry of b stands, and no commit vote was given for it
@@ -131,7 +132,7 @@ module _ (f i k s : ℕ) (b : Body) (writes : T (writesKey b k)) (below : stampO
     shut-now = record {
       key = rw key-is at (looks .key);
       mark = rw marks-are (look-raises (marks f i es) k s (rw (all-marks f i es) (omega (arith, rw key-is at (looks .key)))));
-      idle = λ u. no-both (everHeld (watched f i) b es) (held-ever f i b es (stands-held f i b es (rw table-is at u))) n;
+      idle = λ u. no-both (everHeld (watched f i) b es) (stands-held f i b es (rw table-is at u)) n;
       mute = mute-now;
     }
 

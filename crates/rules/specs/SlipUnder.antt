@@ -57,7 +57,7 @@ isFound Done = false
 isFound (Found committed undecided) = true
 isFound (Refused r) = false
 
--- with this message box i answers an RD of key k at stamp s, and has not held b "at any time up to its answer"
+-- with this message box i answers an RD of key k at stamp s, and has not held b "at any time up to its answer", which puts no entry
 unfoldable pub readsNow : Watched → ℕ → ℕ → ℕ → Body → Event → List Event → Bool
 readsNow x i k s b e es = eqb (e .box) i && (asks k s e && (isFound (x .answer e es) && not (everHeld x b es)))
 
