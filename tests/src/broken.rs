@@ -34,7 +34,7 @@ const fn holds(what: &'static str, broken: &'static [Rule], safe: &'static str) 
     Broken { what, rules: Rules { broken }, safe, slips: false }
 }
 
-/// Demand 3 holds, and something slips under a read.
+/// Demand 3 holds, and something slips under a read, or comes between it and what it showed.
 const fn slips(what: &'static str, broken: &'static [Rule], safe: &'static str) -> Broken {
     Broken { what, rules: Rules { broken }, safe, slips: true }
 }
@@ -61,7 +61,7 @@ const THRESHOLDS_AND_LISTS: [Broken; 7] = [
     falls("answers against the list's decision are counted", &[Rule::NamedAnswer]),
 ];
 
-const TESTS: [Broken; 8] = [
+const TESTS: [Broken; 9] = [
     holds("no test 1", &[Rule::Test(1)], "a clock proves nothing"),
     // an aborted version, and one without the key, still give reason 6
     holds("no test 2", &[Rule::Test(2)], "the waiting rule stands behind it"),
@@ -70,6 +70,8 @@ const TESTS: [Broken; 8] = [
     slips("no test 5", &[Rule::Test(5)], "read marks are for readers"),
     slips("an RD raises no read mark", &[Rule::MarkRaised], "read marks are for readers"),
     slips("a later RD lowers the read mark", &[Rule::MarkStays], "read marks are for readers"),
+    // nothing slips under the read, but something comes between it and what it showed
+    slips("an RD shows no undecided version", &[Rule::UndecidedShown], "what is shown is for readers"),
     falls("a version above the own stamp may be read", &[Rule::PastReads]),
 ];
 

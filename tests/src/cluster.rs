@@ -708,7 +708,7 @@ impl Cluster<'_> {
         match answer {
             Answer::Found { committed, undecided } => {
                 self.counts.count("found");
-                self.answered(number, key, stamp)?;
+                self.answered(number, key, stamp, committed.0.max(undecided.0))?;
                 Ok(if self.random.chance(80) { committed.0.max(undecided.0) } else { committed.0 })
             }
             Answer::Refused(number) => {

@@ -61,14 +61,26 @@ impl Body {
         self.tx.writes.iter().any(|write| write.0 == key)
     }
 
-    /// How many of those that answered, so many at such a time, had not held it at any time up to their answer.
+    /// How many of those that answered had not held it at any time up to their answer.
     fn unheld(&self, answered: &Answered) -> usize {
-        answered.iter().filter(|(number, at)| self.held.get(number).is_none_or(|since| since > at)).count()
+        answered.iter().filter(|(number, read)| self.held.get(number).is_none_or(|since| *since > read.first)).count()
+    }
+
+    /// How many of them showed versions below it.
+    fn unshown(&self, answered: &Answered) -> usize {
+        answered.values().filter(|read| read.shown < self.tx.stamp).count()
     }
 }
 
-/// When each sound box first answered an RD of one key at one stamp.
-type Answered = BTreeMap<usize, u64>;
+/// A sound box's answers to an RD of one key at one stamp.
+struct Read {
+    /// When it first answered.
+    first: u64,
+    /// The higher of the two versions that it showed, the least of them where it answered more than once.
+    shown: u64,
+}
+
+type Answered = BTreeMap<usize, Read>;
 
 pub struct Judge {
     rules: Rules,
@@ -177,11 +189,13 @@ impl Judge {
         self.bodies[body].held.entry(number).or_insert(self.now);
     }
 
-    /// A sound box answered an RD: have 3f + 1 now, of which the liars may be some, for the first time? An error says that A10 is broken.
-    pub fn answer(&mut self, number: usize, key: u16, stamp: u64) -> Result<bool, String> {
+    /// A sound box answered an RD, and showed versions up to this one: have 3f + 1 now, of which the liars may be some, for the first time? An error says that A10
+    /// is broken, or what a panel goes by.
+    pub fn answer(&mut self, number: usize, key: u16, stamp: u64, shown: u64) -> Result<bool, String> {
         self.now += 1;
         let before = self.answered(key, stamp);
-        self.reads.entry((key, stamp)).or_default().entry(number).or_insert(self.now);
+        let read = self.reads.entry((key, stamp)).or_default().entry(number).or_insert(Read { first: self.now, shown });
+        read.shown = read.shown.min(shown);
         self.committed.values().try_for_each(|body| self.under(*body, key, stamp))?;
         Ok(before < self.enough() && self.answered(key, stamp) == self.enough())
     }
@@ -205,12 +219,23 @@ impl Judge {
         self.reads.get(&(key, stamp)).is_some_and(|answered| self.bodies[body].unheld(answered) + self.liars >= self.enough())
     }
 
-    /// A body with a commit proof: it is not under this read.
+    /// All of enough boxes that answered this RD, liars aside, showed versions below the body.
+    fn none_shown(&self, body: usize, key: u16, stamp: u64) -> bool {
+        self.reads.get(&(key, stamp)).is_some_and(|answered| self.bodies[body].unshown(answered) + self.liars >= self.enough())
+    }
+
+    /// A body with a commit proof: it is not under this read, nor between it and what was shown.
     fn under(&self, body: usize, key: u16, stamp: u64) -> Result<(), String> {
         let held = &self.bodies[body];
         let below = held.tx.stamp < stamp || held.tx.stamp == stamp && !self.rules.hold(Rule::ReadAbove);
-        if self.slips && below && held.writes(key) && self.none_held(body, key, stamp) {
+        if !self.slips || !below || !held.writes(key) {
+            return Ok(());
+        }
+        if self.none_held(body, key, stamp) {
             return Err(format!("body {body} has a commit proof, and slipped under a read of key {key} at {stamp}"));
+        }
+        if self.none_shown(body, key, stamp) {
+            return Err(format!("body {body} has a commit proof, and came between what was shown of key {key} and {stamp}"));
         }
         Ok(())
     }

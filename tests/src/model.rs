@@ -52,6 +52,8 @@ pub enum Rule {
     MarkRaised,
     /// RD: the read mark becomes the stamp, be it lower.
     MarkStays,
+    /// RD: no undecided version is shown.
+    UndecidedShown,
     /// One of the three kinds of live entries: dropped from the live set.
     CommittedLives,
     VotedLives,
@@ -1153,7 +1155,7 @@ impl Store {
         };
         Answer::Found {
             committed: self.newest(key, stamp, Entry::committed),
-            undecided: self.newest(key, stamp, |entry| entry.decision.is_none() && self.lives(entry)),
+            undecided: self.newest(key, stamp, |entry| entry.decision.is_none() && self.lives(entry) && self.rules.hold(Rule::UndecidedShown)),
         }
     }
 

@@ -56,9 +56,9 @@ impl Cluster<'_> {
         }
     }
 
-    /// A sound box has answered an RD.
-    pub(super) fn answered(&mut self, number: usize, key: u16, stamp: u64) -> Result<(), String> {
-        if self.judge.answer(number, key, stamp)? {
+    /// A sound box has answered an RD, with versions up to this one.
+    pub(super) fn answered(&mut self, number: usize, key: u16, stamp: u64, shown: u64) -> Result<(), String> {
+        if self.judge.answer(number, key, stamp, shown)? {
             self.counts.count("a read that 3f + 1 boxes answered");
         }
         Ok(())
