@@ -66,7 +66,7 @@ module _ (i : ℕ) (b : Body) where
           → (T (readWithout (watched 1 i) i k s b rs) → T (readWithout (keptFor 1 eight i) i k s b es)) → T (readWithout (keptFor 1 eight i) i k s b (e ∷ es))
       go (inl y) before =
           or-l (readsNow (keptFor 1 eight i) i k s b e es) (readWithout (keptFor 1 eight i) i k s b es)
-          (reads-on (watched 1 i) (keptFor 1 eight i) i k s b e rs es (λ _. sym (answers r e c)) (ever-runs r) y)
+          (reads-on (watched 1 i) (keptFor 1 eight i) i k s b e rs es (sym (answers r e c)) (ever-runs r) y)
       go (inr y) before = or-r (readsNow (keptFor 1 eight i) i k s b e es) (readWithout (keptFor 1 eight i) i k s b es) (before y)
   read-runs {es = e ∷ es} k s (drops e₁ n q o r) h =
       or-r (readsNow (keptFor 1 eight i) i k s b e es) (readWithout (keptFor 1 eight i) i k s b es) (read-runs k s r h)

@@ -18,7 +18,7 @@ use Rattle.terms.specs.Refusals.{refusalOf}
 use Rattle.rules.specs.Calls.{Act, guarded, refuse}
 use Rattle.rules.specs.Act.{EntryPoint, act, after, marksAfter}
 use Rattle.rules.specs.System.{Event, toldAt, boxAt, answerTo, Word, wordIn, isWord, givesNow, gave, givenIn, Sound, HonestBy, Fair}
-use Rattle.rules.specs.SlipUnder.{Watched, everHeld, holds, isFound, readWithout, readsNow, watched}
+use Rattle.rules.specs.SlipUnder.{Watched, everHeld, holds, isFound, readWithout, readsNow, shownBelow, showsNow, watched}
 use Rattle.rules.proofs.Laws.{decideT, no-both, or-cases, or-l, or-r}
 use Rattle.rules.proofs.Safety.{safety}
 use Rattle.rules.proofs.Alike.{Alike, carries-alike, safe-alike}
@@ -28,7 +28,7 @@ use Rattle.engine.specs.Safety.{leaves, keptAt, answered, gaveBy, Empty,
 use Rattle.engine.specs.SlipUnder.{keptFor}
 use Rattle.engine.proofs.Lent.{taken}
 use Rattle.engine.proofs.Bridge.{called-act, bridge}
-use Rattle.engine.proofs.Watching.{reads-none, reads-on}
+use Rattle.engine.proofs.Watching.{reads-none, reads-on, shows-none, shows-on}
 
 pub and-none : (a : Bool) → (a && false) ≡ false
 and-none true = refl
@@ -72,6 +72,7 @@ module _ (f : ℕ) (faulty : ℕ → Bool) where
       pub ever : (i : ℕ) → Sound f faulty i → (b : Body) → T (everHeld (watched f i) b rules) → T (everHeld (keptFor f start i) b es)
       pub read : (i : ℕ) → Sound f faulty i → (k s : ℕ) (b : Body) → T (readWithout (keptFor f start i) i k s b es)
           → T (readWithout (watched f i) i k s b rules)
+      pub shown : (i : ℕ) → Sound f faulty i → (k s v : ℕ) → T (shownBelow (keptFor f start i) i k s v es) → T (shownBelow (watched f i) i k s v rules)
 
     module _ (e : Event) (es : List Event) (S : Shadow es) where
       abbrev now : ℕ → Kept
@@ -93,6 +94,8 @@ module _ (f : ℕ) (faulty : ℕ → Bool) where
         ever = λ i s b h. or-r (holds b (keptFor f start i .held (e ∷ es))) (everHeld (keptFor f start i) b es) (S .ever i s b h);
         read = λ i s k t b h.
             S .read i s k t b (reads-none (keptFor f start i) i k t b e es (λ y. n (rw (eqb→eq (e .box) i y) s) .2) h);
+        shown = λ i s k t v h.
+            S .shown i s k t v (shows-none (keptFor f start i) i k t v e es (λ y. n (rw (eqb→eq (e .box) i y) s) .2) h);
       }
         where
           held-by : (i : ℕ) → Sound f faulty i → (t : Bool) → eqb (e .box) i ≡ t → boxIn (pick t (left i) (now i)) ≡ boxAt f i (S .rules)
@@ -159,8 +162,24 @@ module _ (f : ℕ) (faulty : ℕ → Bool) where
             go : T (readsNow x i k t b e es) ⊎ T (readWithout x i k t b es) → T (readsNow y i k t b e (S .rules) || readWithout y i k t b (S .rules))
             go (inl u) =
                 or-l (readsNow y i k t b e (S .rules)) (readWithout y i k t b (S .rules))
-                (reads-on x y i k t b e es (S .rules) (λ _. alike) (S .ever i z b) u)
+                (reads-on x y i k t b e es (S .rules) alike (S .ever i z b) u)
             go (inr u) = or-r (readsNow y i k t b e (S .rules)) (readWithout y i k t b (S .rules)) (S .read i z k t b u)
+
+        shown-by : (i : ℕ) → Sound f faulty i → (k t v : ℕ) → T (shownBelow (keptFor f start i) i k t v (e ∷ es))
+            → T (shownBelow (watched f i) i k t v (e ∷ S .rules))
+        unfolding shownBelow
+        shown-by i z k t v h = go (or-cases (showsNow x i k t v e es) (shownBelow x i k t v es) h)
+          where
+            x : Watched
+            x = keptFor f start i
+
+            y : Watched
+            y = watched f i
+
+            go : T (showsNow x i k t v e es) ⊎ T (shownBelow x i k t v es) → T (showsNow y i k t v e (S .rules) || shownBelow y i k t v (S .rules))
+            go (inl u) =
+                or-l (showsNow y i k t v e (S .rules)) (shownBelow y i k t v (S .rules)) (shows-on x y i k t v e es (S .rules) alike u)
+            go (inr u) = or-r (showsNow y i k t v e (S .rules)) (shownBelow y i k t v (S .rules)) (S .shown i z k t v u)
 
         adds : Shadow (e ∷ es)
         unfolding gaveBy gave givesNow Fair FairCalls HonestBy
@@ -171,6 +190,7 @@ module _ (f : ℕ) (faulty : ℕ → Bool) where
           fair = λ F. (S .fair (F .0), λ _ k q z. carries-alike f faulty _ _ (S .said) k _ (F .1 s k q z));
           ever = ever-by;
           read = read-by;
+          shown = shown-by;
         }
 
       step : Shadow (e ∷ es)
@@ -192,7 +212,7 @@ module _ (f : ℕ) (faulty : ℕ → Bool) where
           go (inr n) = skips (λ s. absurd (n s))
 
     pub shadow : ((i : ℕ) → Sound f faulty i → Empty (start i)) → (es : List Event) → Shadow es
-    unfolding keptAt boxAt boxIn empty entriesOf gaveBy gave Fair everHeld holds readWithout
+    unfolding keptAt boxAt boxIn empty entriesOf gaveBy gave Fair everHeld holds readWithout shownBelow
     shadow fresh [] = record {
       rules = [];
       held = λ i s. rw (fresh i s .none, fresh i s .unread);
@@ -200,6 +220,7 @@ module _ (f : ℕ) (faulty : ℕ → Bool) where
       fair = λ _. tt;
       ever = λ i s b h. absurd h;
       read = λ i s k t b h. absurd h;
+      shown = λ i s k t v h. absurd h;
     }
     shadow fresh (e ∷ es) = step e es (shadow fresh es)
 

@@ -6,7 +6,7 @@ use Rattle.terms.specs.Group.{boxes}
 use Rattle.terms.specs.declared.Decision.the-variants.{Commit as commit}
 use Rattle.rules.specs.Bodies.{Body}
 use Rattle.rules.specs.System.{Event, ProofBy, Sound, howMany}
-use Rattle.rules.specs.SlipUnder.{NoneHeld, Watched}
+use Rattle.rules.specs.SlipUnder.{NoneHeld, NoneShown, Watched}
 use Rattle.table.specs.Table.{entriesOf}
 use Rattle.engine.specs.Outcome.{Kept}
 use Rattle.engine.specs.Safety.{Empty, FairCalls, answered, gaveBy, keptAt}
@@ -23,4 +23,13 @@ NothingSlipsUnderCalls =
     → (start : ℕ → Kept) → ((i : ℕ) → Sound f faulty i → Empty (start i))
     → (es later : List Event) → FairCalls f faulty start (later ++ es)
     → (k s : ℕ) (b : Body) → NoneHeld f faulty (keptFor f start) k s b es
+    → ProofBy f faulty (gaveBy f start (later ++ es)) b commit → ⊥
+
+-- beside it the rules' `NothingComesBetween`, of calls
+abbrev pub NothingComesBetweenCalls : Type 0
+NothingComesBetweenCalls =
+    (f : ℕ) (faulty : ℕ → Bool) → howMany faulty (boxes f) ≤ f
+    → (start : ℕ → Kept) → ((i : ℕ) → Sound f faulty i → Empty (start i))
+    → (es later : List Event) → FairCalls f faulty start (later ++ es)
+    → (k s : ℕ) (b : Body) → NoneShown f faulty (keptFor f start) k s b es
     → ProofBy f faulty (gaveBy f start (later ++ es)) b commit → ⊥

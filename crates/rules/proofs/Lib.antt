@@ -25,6 +25,7 @@ pub mod Made
 pub mod Exist
 pub mod Safety
 pub mod Marks
+pub mod Shown
 pub mod SlipUnder
 pub mod Alike
 pub mod Running

@@ -6,7 +6,7 @@ use mathlib.Core.Logic.{_⊎_, inl, inr}
 use mathlib.Core.List.{List, [], _∷_}
 use native.Mathlib.Omega.{arith}
 use lib.Dec.{T, eqb, eqb→eq}
-use lib.ListN.{length, getD, set, length-set, length-replicate}
+use lib.ListN.{length, getD, set, length-replicate}
 use lib.Seq.{getD-set-same, getD-set-other}
 use Rattle.terms.specs.Checks.{ifLess, ahead}
 use Rattle.records.specs.Contents.{largestKey}
@@ -20,15 +20,10 @@ use Rattle.rules.specs.Act.{EntryPoint, act, after, boxAfter, dueAct, ma
 use Rattle.rules.specs.System.{Event, boxAt, toldAt}
 use Rattle.rules.specs.SlipUnder.{isFound, isRd}
 use Rattle.rules.proofs.Laws.{decideT, not-eqb, pick-elim}
+use Rattle.rules.proofs.Outcome.{marks-long}
 use Rattle.rules.proofs.Room.{rd-key}
 
 -- ---- one change
-marks-long : (marks : List ℕ) (c : Change) → length (marksAfter marks c) ≡ length marks
-unfolding marksAfter raise
-marks-long marks nothing = refl
-marks-long marks (puts e) = refl
-marks-long marks (raises k s) = length-set marks k (max (getD marks k 0) s)
-
 marks-up : (marks : List ℕ) (c : Change) (k : ℕ) → k < length marks → getD marks k 0 ≤ getD (marksAfter marks c) k 0
 unfolding marksAfter raise
 marks-up marks nothing k h = omega arith
@@ -45,11 +40,11 @@ module _ (f i : ℕ) where
   marks es = boxAt f i es .marks
 
   pub all-marks : (es : List Event) → length (marks es) ≡ 512
-  unfolding boxAt empty after boxAfter marks
+  unfolding boxAt empty marks
   all-marks [] = length-replicate {A = ℕ} 512 0
   all-marks (e ∷ es) =
       pick-elim (λ (x : Box). length (x .marks) ≡ 512) (eqb e.box i)
-      (λ _. marks-long (boxAt f i es .marks) (act e.entry (toldAt f e) (boxAt f i es) e.message .change) ∙ all-marks es)
+      (λ _. marks-long (toldAt f e) (boxAt f i es) e.entry e.message ∙ all-marks es)
       (λ _. all-marks es)
 
   pub mark-up : (e : Event) (es : List Event) (k : ℕ) → k ≤ largestKey → getD (marks es) k 0 ≤ getD (marks (e ∷ es)) k 0

@@ -13,7 +13,7 @@ use Rattle.rules.specs.Answers.{ReadMark, Refused, commit, votes}
 use Rattle.rules.specs.Bodies.{Body, stampOf, writesKey}
 use Rattle.rules.specs.Act.{receive}
 use Rattle.rules.specs.System.{Event, Fair, Sound, answerTo, gave, howMany, vote}
-use Rattle.rules.specs.SlipUnder.{NoneHeld, asks, everHeld, holds, isFound, isRd, readWithout, readsNow, watched}
+use Rattle.rules.specs.SlipUnder.{NoneHeld, NoneShown, asks, everHeld, holds, isFound, isRd, readWithout, readsNow, shownBelow, showsBelow, showsNow, watched}
 use Rattle.rules.specs.Cases.{PR, RD, aborts, found, lg, list, writes}
 use Rattle.rules.specs.Traces.{at, each, liar, withLiar}
 use Rattle.rules.specs.Panel.{Panel, Slipped, afterwards, asked, looked, slipped, threeAsked, threeLooked}
@@ -24,7 +24,7 @@ use Rattle.rules.proofs.Traces.{checking, fair-by, fairTest, few}
 use Rattle.rules.proofs.SlipUnder.{nothing-slips-under}
 
 unfoldable looking : ℕ
-unfolding holds everHeld isRd asks isFound readsNow readWithout asked looked afterwards threeAsked threeLooked slipped
+unfolding holds everHeld isRd asks isFound readsNow readWithout showsBelow showsNow shownBelow asked looked afterwards threeAsked threeLooked slipped
 looking = 0
 
 -- a sound box below n is 0, 1 or 2; the liar is not sound
@@ -51,12 +51,18 @@ module _ (P : ℕ → Type 0) where
 abbrev Unheld : List Event → ℕ → ℕ → Type 0
 Unheld es t i = T (readWithout (watched 1 i) i 3 90 (txBytes (writes t 3)) es)
 
+abbrev Unshown : List Event → ℕ → Type 0
+Unshown es i = T (shownBelow (watched 1 i) i 3 90 (stampOf (txBytes (writes 60 3))) es)
+
 record PanelTests : Type 0 where
   fair : T (fairTest 1 liar (afterwards ++ looked))
   enough : howMany asked (boxes 1) ≡ 4
   unheld-0 : Unheld looked 60 0
   unheld-1 : Unheld looked 60 1
   unheld-2 : Unheld looked 60 2
+  unshown-0 : Unshown looked 0
+  unshown-1 : Unshown looked 1
+  unshown-2 : Unshown looked 2
   writes-it : T (writesKey (txBytes (writes 60 3)) 3)
   stamp : stampOf (txBytes (writes 60 3)) ≡ 60
   liar-asked : T (asked 5)
@@ -80,6 +86,9 @@ panel-tests = record {
   unheld-0 = tt;
   unheld-1 = tt;
   unheld-2 = tt;
+  unshown-0 = tt;
+  unshown-1 = tt;
+  unshown-2 = tt;
   writes-it = tt;
   stamp = refl;
   liar-asked = tt;
@@ -109,6 +118,16 @@ panel-none-held = record {
   below = omega (arith, panel-tests .stamp);
 }
 
+panel-none-shown : NoneShown 1 liar (watched 1) 3 90 (txBytes (writes 60 3)) looked
+unfolding asked
+panel-none-shown = record {
+  asked = asked;
+  enough = omega (arith, panel-tests .enough);
+  answered = or-liar (Unshown looked) 3 (three (Unshown looked) (panel-tests .unshown-0) (panel-tests .unshown-1) (panel-tests .unshown-2));
+  writes = panel-tests .writes-it;
+  below = omega (arith, panel-tests .stamp);
+}
+
 pub panel-trace : Panel
 unfolding asked panel-none-held
 panel-trace = record {
@@ -117,6 +136,7 @@ panel-trace = record {
   these = refl;
   liar-asked = (panel-tests .liar-asked, panel-tests .liar-lies);
   shown = panel-tests .shown;
+  none-shown = panel-none-shown;
   held-elsewhere = panel-tests .held-elsewhere;
   voted-elsewhere = panel-tests .voted-elsewhere;
   stopped = panel-tests .stopped;

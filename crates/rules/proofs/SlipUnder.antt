@@ -1,8 +1,7 @@
--- A10: after its answer a box that had not held a body below the stamp never votes commit for it; and 3f + 1 such boxes leave too few that do.
-use Prim.Native.Nat.{ℕ, _≤_, _<_}
+-- A10: after its answer a box that had not held, or does not show, a body below the stamp accepts it no more; 3f + 1 such boxes leave too few that do.
+use Prim.Native.Nat.{ℕ, _+_, _*_, _≤_, _<_}
 use mathlib.Core.Bool.{Bool, not, _&&_, _||_}
-use mathlib.Core.Option.{some}
-use mathlib.Core.Path.{_≡_, refl, sym, _∙_, ap}
+use mathlib.Core.Path.{_≡_, refl, _∙_, ap}
 use mathlib.Core.Logic.{_⊎_, inl, inr}
 use mathlib.Core.List.{List, [], _∷_, _++_}
 use native.Mathlib.Omega.{arith}
@@ -14,29 +13,39 @@ use Rattle.records.specs.Tx.{writeKey}
 use Rattle.records.specs.Contents.{largestKey}
 use Rattle.records.specs.Cutting.{txPart}
 use Rattle.records.specs.Messages.{rdKey, rdStamp}
-use Rattle.rules.specs.Answers.{commit}
+use Rattle.rules.specs.Answers.{Answer, Decided, Done, Elected, Found, Logged, Refused, Voted, commit}
 use Rattle.rules.specs.Bodies.{Body, sameBody, stampOf, writesKey, writesOf}
-use Rattle.rules.specs.Table.{Box, Entry, empty}
+use Rattle.rules.specs.Table.{Box}
 use Rattle.rules.specs.Tests.{test5}
 use Rattle.rules.specs.Calls.{Act, lookAct, raises, rdAnswer}
 use Rattle.rules.specs.Act.{act, after, boxAfter, markBy, marksAfter, raise, tableAfter}
-use Rattle.rules.specs.System.{Event, Word, answerTo, boxAt, gave, givesNow, isWord, toldAt, vote, wordIn}
-use Rattle.rules.specs.SlipUnder.{NoneHeld, NothingSlipsUnder, Watched, asks, everHeld, holds, isFound, isRd, readWithout, readsNow, watched}
-use Rattle.rules.proofs.Laws.{ands, any-found, any-of, find-in, no-both, not-any, or-cases, or-l, or-r, pick-true, sameBody-refl}
+use Rattle.rules.specs.System.{Event, Fair, Proof, Sound, Word, answerTo, boxAt, gave, givesNow, howMany, isWord, toldAt, vote, wordIn}
+use Rattle.rules.specs.SlipUnder.{NoneHeld, NoneShown, NothingComesBetween, NothingSlipsUnder, Watched, asks, everHeld, holds, isFound, isRd}
+use Rattle.rules.specs.SlipUnder.{readWithout, readsNow, shownBelow, showsBelow, showsNow, watched}
+use Rattle.rules.proofs.Laws.{ands, any-found, any-of, find-in, no-both, or-cases, or-l, or-r, pick-true, sameBody-refl}
 use Rattle.rules.proofs.Counting.{meet}
-use Rattle.rules.proofs.Moves.{Clear, none-some}
+use Rattle.rules.proofs.Moves.{Clear}
 use Rattle.rules.proofs.Said.{spoken}
-use Rattle.rules.proofs.Fresh.{Upright, upright-cases, upright-spoken}
+use Rattle.rules.proofs.Fresh.{Upright}
 use Rattle.rules.proofs.Trace.{New, Step, arrives, step, still, table}
 use Rattle.rules.proofs.Backing.{upheld, upheld-gave}
-use Rattle.rules.proofs.Global.{quorum}
+use Rattle.rules.proofs.Rests.{rests}
+use Rattle.rules.proofs.Apart.{Accepts, Dead, accepted, by-entry, by-vote, dead-later, here-or-dead}
+use Rattle.rules.proofs.Global.{alive, quorum}
 use Rattle.rules.proofs.Marks.{Looks, all-marks, look-raises, looks-found, mark-up, marks}
+use Rattle.rules.proofs.Shown.{shows-what-stands}
 
 -- what is held is held at some time
 pub held-ever : (x : Watched) (b : Body) (es : List Event) → T (holds b (x .held es)) → T (everHeld x b es)
 unfolding everHeld
 held-ever x b [] h = h
 held-ever x b (e ∷ es) h = or-l (holds b (x .held (e ∷ es))) (everHeld x b es) h
+
+-- so is what stands
+stands-held : (f i : ℕ) (b : Body) (es : List Event) → Upright (table f i es) b → T (everHeld (watched f i) b es)
+unfolding holds table
+stands-held f i b es u =
+    held-ever (watched f i) b es (any-of (λ o. sameBody o.body b) (table f i es) (u .entry) (u .inside) (rw (u .body) (sameBody-refl b)))
 
 -- and what a box gave it held
 gave-held : (f i : ℕ) (b : Body) (w : Word) (es : List Event) → T (gave f i b w es) → T (everHeld (watched f i) b es)
@@ -58,19 +67,27 @@ gave-held f i b w (e ∷ es) h =
             (any-of (λ o. sameBody o.body b) (tableAfter (table f i es) (s .act .change)) (y .entry) (find-in (stampOf (txPart e.message)) _ (y .entry) (y .at))
             (rw (y .body, u .0) (sameBody-refl b))))
 
--- so is what stands
-stands-held : (f i : ℕ) (b : Body) (es : List Event) → Upright (table f i es) b → T (everHeld (watched f i) b es)
-unfolding holds table
-stands-held f i b es u =
-    held-ever (watched f i) b es (any-of (λ o. sameBody o.body b) (table f i es) (u .entry) (u .inside) (rw (u .body) (sameBody-refl b)))
+-- an answer that shows versions is an answer
+pub shows-found : (v : ℕ) (a : Answer) → T (showsBelow v a) → T (isFound a)
+unfolding showsBelow isFound
+shows-found v (Voted w) h = absurd h
+shows-found v (Decided d) h = absurd h
+shows-found v (Logged d w) h = absurd h
+shows-found v (Elected d w l) h = absurd h
+shows-found v Done h = absurd h
+shows-found v (Found committed undecided) h = tt
+shows-found v (Refused r) h = absurd h
 
-module _ (f i k s : ℕ) (b : Body) (writes : T (writesKey b k)) (below : stampOf b < s) where
-  -- from the answer on: the mark stands at s or above, no entry of b stands, and no commit vote was given for it
+module _ (f : ℕ) (faulty : ℕ → Bool) (i : ℕ) (sound : Sound f faulty i) (k s : ℕ) (b : Body) (writes : T (writesKey b k)) (below : stampOf b < s) where
+  -- what the box accepts of it, a vote or an entry that stands, is of a body that never commits
+  abbrev Out : List Event → Type 0
+  Out es = Accepts f faulty i es b → Dead f faulty es b
+
+  -- from the answer on: the mark stands at s or above, and the body is shut out
   record Shut (es : List Event) : Type 0 where
     key : k ≤ largestKey
     mark : s ≤ getD (marks f i es) k 0
-    idle : Upright (table f i es) b → ⊥
-    mute : T (gave f i b (vote commit) es) → ⊥
+    out : Out es
 
   -- test 5 stops it
   marked : (x : Box) → s ≤ getD (x .marks) k 0 → Clear x b → ⊥
@@ -81,9 +98,8 @@ module _ (f i k s : ℕ) (b : Body) (writes : T (writesKey b k)) (below : stampO
       c .unread
       (any-of (λ (v : Write). ltb (stampOf b) (getD (x .marks) (writeKey v) 0)) (writesOf b) (w .0) (w .1) (lt→ltb (stampOf b) _ (rw e (omega arith))))
 
-  -- the answer shuts it out: an RD raises its mark, puts no entry and gives no word
-  module _ (e : Event) (es : List Event) (q : T (eqb e.box i)) (h : T (asks k s e)) (g : T (isFound (answerTo f e es)))
-      (n : T (not (everHeld (watched f i) b es))) where
+  -- the answer: an RD raises its mark, puts no entry and gives no word
+  module _ (e : Event) (es : List Event) (q : T (eqb e.box i)) (h : T (asks k s e)) (g : T (isFound (answerTo f e es))) where
     here : e.box ≡ i
     here = eqb→eq e.box i q
 
@@ -103,10 +119,11 @@ module _ (f i k s : ℕ) (b : Body) (writes : T (writesKey b k)) (below : stampO
     unfolding answerTo
     looks = looks-found (toldAt f e) (boxAt f i es) e.message e.entry is-rd (rw here at g)
 
-    answer-is : answerTo f e es ≡ rdAnswer (boxAt f i es) (rdKey e.message) (rdStamp e.message)
+    answer-is : answerTo f e es ≡ rdAnswer (boxAt f i es) k s
     unfolding answerTo lookAct
     answer-is =
-        ap (λ (j : ℕ). act e.entry (toldAt f e) (boxAt f j es) e.message .answer) here ∙ ap (λ (a : Act). a .answer) (looks .is)
+        ap (λ (j : ℕ). act e.entry (toldAt f e) (boxAt f j es) e.message .answer) here
+        ∙ (ap (λ (a : Act). a .answer) (looks .is) ∙ rw (key-is, stamp-is) refl)
 
     box-is : boxAt f i (e ∷ es) ≡ boxAfter (boxAt f i es) (raises (rdKey e.message) (rdStamp e.message))
     unfolding boxAt after lookAct
@@ -120,53 +137,50 @@ module _ (f i k s : ℕ) (b : Body) (writes : T (writesKey b k)) (below : stampO
     unfolding table boxAfter tableAfter
     table-is = ap (λ (x : Box). x.table) box-is
 
-    mute-now : T (gave f i b (vote commit) (e ∷ es)) → ⊥
+    accepted-before : Accepts f faulty i (e ∷ es) b → Accepts f faulty i es b
     unfolding gave givesNow rdAnswer wordIn isWord
-    mute-now y = go (or-cases (givesNow f i b (vote commit) e es) (gave f i b (vote commit) es) y)
+    accepted-before (by-entry u) = by-entry (rw table-is at u)
+    accepted-before (by-vote y) = go (or-cases (givesNow f i b (vote commit) e es) (gave f i b (vote commit) es) y)
       where
-        go : T (givesNow f i b (vote commit) e es) ⊎ T (gave f i b (vote commit) es) → ⊥
-        go (inl u) = let v : T (isWord (vote commit) (wordIn (answerTo f e es))) = search ands in rw answer-is at v
-        go (inr u) = no-both (everHeld (watched f i) b es) (gave-held f i b (vote commit) es u) n
+        go : T (givesNow f i b (vote commit) e es) ⊎ T (gave f i b (vote commit) es) → Accepts f faulty i es b
+        go (inl u) = let v : T (isWord (vote commit) (wordIn (answerTo f e es))) = search ands in absurd (rw answer-is at v)
+        go (inr u) = by-vote u
 
-    shut-now : Shut (e ∷ es)
-    shut-now = record {
+    shut-now : Out es → Shut (e ∷ es)
+    shut-now out = record {
       key = rw key-is at (looks .key);
       mark = rw marks-are (look-raises (marks f i es) k s (rw (all-marks f i es) (omega (arith, rw key-is at (looks .key)))));
-      idle = λ u. no-both (everHeld (watched f i) b es) (stands-held f i b es (rw table-is at u)) n;
-      mute = mute-now;
+      out = λ a. dead-later f faulty e es b (out (accepted-before a));
     }
 
   -- and it stays shut out
-  idle-step : (e : Event) (es : List Event) → Step f i e es → Shut es → Upright (table f i (e ∷ es)) b → ⊥
+  out-step : (e : Event) (es : List Event) → Step f i e es → Shut es → Out (e ∷ es)
   unfolding table marks
-  idle-step e es (still y) S u = S .idle (rw (y .table-now) at u)
-  idle-step e es (arrives y) S u = by (upright-cases (y .act) (y .move) b (rw (y .table-now) at u))
+  out-step e es (still y) S a = dead-later f faulty e es b (S .out (before a))
     where
-      by : Upright (table f i es) b ⊎ ((txPart e.message ≡ b) × Clear (boxAt f i es) (txPart e.message)) → ⊥
-      by (inl o) = S .idle o
-      by (inr o) = marked (boxAt f i es) (S .mark) (rw (o .0) at (o .1))
-
-  mute-step : (e : Event) (es : List Event) → Step f i e es → Shut es → T (gave f i b (vote commit) (e ∷ es)) → ⊥
-  unfolding table
-  mute-step e es (still y) S h = S .mute (y .unsaid b (vote commit) h)
-  mute-step e es (arrives y) S h = by (y .given b (vote commit) h)
+      before : Accepts f faulty i (e ∷ es) b → Accepts f faulty i es b
+      before (by-vote h) = by-vote (y .unsaid b (vote commit) h)
+      before (by-entry u) = by-entry (rw (y .table-now) at u)
+  out-step e es (arrives y) S a = by (accepted f faulty i e es y b a)
     where
-      by : New f i e es (y .act) b (vote commit) → ⊥
-      by (inr u) = S .mute u
-      by (inl u) = idle-step e es (arrives y) S (rw (y .table-now) (rw (u .0) at (upright-spoken (spoken (y .move) (vote commit) (u .1)))))
+      by : Accepts f faulty i es b ⊎ ((txPart e.message ≡ b) × Clear (boxAt f i es) (txPart e.message)) → Dead f faulty (e ∷ es) b
+      by (inl o) = dead-later f faulty e es b (S .out o)
+      by (inr o) = absurd (marked (boxAt f i es) (S .mark) (rw (o .0) at (o .1)))
 
   shut-step : (e : Event) (es : List Event) → Shut es → Shut (e ∷ es)
-  shut-step e es S = record {
-    key = S .key;
-    mark = omega (arith, S .mark, mark-up f i e es k (S .key));
-    idle = idle-step e es (step f i e es) S;
-    mute = mute-step e es (step f i e es) S;
-  }
+  shut-step e es S =
+      record { key = S .key; mark = omega (arith, S .mark, mark-up f i e es k (S .key)); out = out-step e es (step f i e es) S }
 
-  shut : (es : List Event) → T (readWithout (watched f i) i k s b es) → Shut es
+  -- where it had not been held
+  out-unheld : (es : List Event) → T (not (everHeld (watched f i) b es)) → Out es
+  out-unheld es n (by-entry u) = absurd (no-both (everHeld (watched f i) b es) (stands-held f i b es u) n)
+  out-unheld es n (by-vote g) = absurd (no-both (everHeld (watched f i) b es) (gave-held f i b (vote commit) es g) n)
+
+  shut-unheld : (es : List Event) → T (readWithout (watched f i) i k s b es) → Shut es
   unfolding readWithout readsNow
-  shut [] h = absurd h
-  shut (e ∷ es) h = go (or-cases (readsNow (watched f i) i k s b e es) (readWithout (watched f i) i k s b es) h) (λ y. shut-step e es (shut es y))
+  shut-unheld [] h = absurd h
+  shut-unheld (e ∷ es) h =
+      go (or-cases (readsNow (watched f i) i k s b e es) (readWithout (watched f i) i k s b es) h) (λ y. shut-step e es (shut-unheld es y))
     where
       go : T (readsNow (watched f i) i k s b e es) ⊎ T (readWithout (watched f i) i k s b es)
           → (T (readWithout (watched f i) i k s b es) → Shut (e ∷ es)) → Shut (e ∷ es)
@@ -176,19 +190,66 @@ module _ (f i k s : ℕ) (b : Body) (writes : T (writesKey b k)) (below : stampO
           let h : T (asks k s e) = search ands in
           let g : T (isFound (answerTo f e es)) = search ands in
           let n : T (not (everHeld (watched f i) b es)) = search ands in
-          shut-now e es q h g n
+          shut-now e es q h g (out-unheld es n)
 
-  shut-out : (es later : List Event) → T (readWithout (watched f i) i k s b es) → T (gave f i b (vote commit) (later ++ es)) → ⊥
-  shut-out es later h = onward later .mute
+  -- where it was not shown: an entry that stands is shown, or a higher one is
+  out-unshown : (es : List Event) → Fair f faulty es → T (showsBelow (stampOf b) (rdAnswer (boxAt f i es) k s)) → Out es
+  unfolding table
+  out-unshown es F n (by-entry u) = absurd (shows-what-stands (boxAt f i es) k s b writes below u n)
+  out-unshown es F n (by-vote g) = go (here-or-dead f faulty i es (rests f faulty i sound es F) b g)
     where
-      onward : (ls : List Event) → Shut (ls ++ es)
-      onward [] = shut es h
-      onward (e ∷ ls) = shut-step e (ls ++ es) (onward ls)
+      go : Dead f faulty es b ⊎ Upright (table f i es) b → Dead f faulty es b
+      go (inl d) = d
+      go (inr u) = absurd (shows-what-stands (boxAt f i es) k s b writes below u n)
 
--- 3f + 1 that answered and the 3f + 1 behind a commit share a sound box
+  shut-unshown : (es : List Event) → Fair f faulty es → T (shownBelow (watched f i) i k s (stampOf b) es) → Shut es
+  unfolding shownBelow showsNow Fair
+  shut-unshown [] F h = absurd h
+  shut-unshown (e ∷ es) F h =
+      go (or-cases (showsNow (watched f i) i k s (stampOf b) e es) (shownBelow (watched f i) i k s (stampOf b) es) h)
+      (λ y. shut-step e es (shut-unshown es (F .0) y))
+    where
+      go : T (showsNow (watched f i) i k s (stampOf b) e es) ⊎ T (shownBelow (watched f i) i k s (stampOf b) es)
+          → (T (shownBelow (watched f i) i k s (stampOf b) es) → Shut (e ∷ es)) → Shut (e ∷ es)
+      go (inr y) r = r y
+      go (inl y) r =
+          let q : T (eqb e.box i) = search ands in
+          let h : T (asks k s e) = search ands in
+          let n : T (showsBelow (stampOf b) (answerTo f e es)) = search ands in
+          let g = shows-found (stampOf b) (answerTo f e es) n in
+          shut-now e es q h g (out-unshown es (F .0) (rw (answer-is e es q h g) at n))
+
+  shut-later : (es later : List Event) → Shut es → Shut (later ++ es)
+  shut-later es [] S = S
+  shut-later es (e ∷ ls) S = shut-step e (ls ++ es) (shut-later es ls S)
+
+  out-unheld-later : (es later : List Event) → T (readWithout (watched f i) i k s b es) → Accepts f faulty i (later ++ es) b
+      → Dead f faulty (later ++ es) b
+  out-unheld-later es later h = shut-later es later (shut-unheld es h) .out
+
+  out-unshown-later : (es later : List Event) → Fair f faulty es → T (shownBelow (watched f i) i k s (stampOf b) es)
+      → Accepts f faulty i (later ++ es) b → Dead f faulty (later ++ es) b
+  out-unshown-later es later F h = shut-later es later (shut-unshown es F h) .out
+
+-- 3f + 1 that are shut and the 3f + 1 behind a commit share a sound box
+module _ (f : ℕ) (faulty : ℕ → Bool) (few : howMany faulty (boxes f) ≤ f) (es : List Event) (F : Fair f faulty es) (b : Body) where
+  no-commit : (asked : ℕ → Bool) → 3 * f + 1 ≤ howMany asked (boxes f)
+      → ((i : ℕ) → Sound f faulty i → T (asked i) → Accepts f faulty i es b → Dead f faulty es b) → Proof f faulty es b commit → ⊥
+  no-commit asked enough out P =
+      let c = meet asked (upheld f faulty es b (vote commit)) faulty (boxes f) (omega (arith, enough, quorum f faulty few es F b P)) in
+      alive f faulty few es F b P (out (c .0) (c .1, c .4) (c .2) (by-vote (upheld-gave f faulty es b (vote commit) (c .0) (c .3) (c .4))))
+
+fair-before : (f : ℕ) (faulty : ℕ → Bool) (es later : List Event) → Fair f faulty (later ++ es) → Fair f faulty es
+unfolding Fair
+fair-before f faulty es [] F = F
+fair-before f faulty es (e ∷ ls) F = fair-before f faulty es ls (F .0)
+
 pub nothing-slips-under : NothingSlipsUnder
-nothing-slips-under f faulty few es later F k s b N P =
-    let c = meet (N .asked) (upheld f faulty (later ++ es) b (vote commit)) faulty (boxes f)
-    (omega (arith, N .enough, quorum f faulty few (later ++ es) F b P)) in
-    shut-out f (c .0) k s b (N .writes) (N .below) es later (N .answered (c .0) (c .1, c .4) (c .2))
-    (upheld-gave f faulty (later ++ es) b (vote commit) (c .0) (c .3) (c .4))
+nothing-slips-under f faulty few es later F k s b N =
+    no-commit f faulty few (later ++ es) F b (N .asked) (N .enough)
+    (λ i z a. out-unheld-later f faulty i z k s b (N .writes) (N .below) es later (N .answered i z a))
+
+pub nothing-comes-between : NothingComesBetween
+nothing-comes-between f faulty few es later F k s b N =
+    no-commit f faulty few (later ++ es) F b (N .asked) (N .enough)
+    (λ i z a. out-unshown-later f faulty i z k s b (N .writes) (N .below) es later (fair-before f faulty es later F) (N .answered i z a))

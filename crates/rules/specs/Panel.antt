@@ -10,7 +10,7 @@ use Rattle.records.specs.Tx.{txBytes}
 use Rattle.rules.specs.Answers.{ReadMark, Refused, commit, votes}
 use Rattle.rules.specs.Act.{receive}
 use Rattle.rules.specs.System.{Event, Fair, Proof, Sound, answerTo, gave, howMany, vote}
-use Rattle.rules.specs.SlipUnder.{NoneHeld, everHeld, readWithout, watched}
+use Rattle.rules.specs.SlipUnder.{NoneHeld, NoneShown, everHeld, readWithout, watched}
 use Rattle.rules.specs.Cases.{PR, RD, aborts, found, lg, list, pairs, writes}
 use Rattle.rules.specs.Traces.{at, each, liar, withLiar}
 
@@ -35,6 +35,8 @@ pub record Panel : Type 0 where
   pub these : none-held .asked ≡ asked
   pub liar-asked : T (asked 5) × T (liar 5)
   pub shown : answerTo 1 (at receive 0 (RD 3 90)) (each receive 3 2 (PR (writes 60 3)) []) ≡ found 0 0 0 0
+  -- nor did they show a version at or above it
+  pub none-shown : NoneShown 1 liar (watched 1) 3 90 (txBytes (writes 60 3)) looked
   pub held-elsewhere : T (everHeld (watched 1 3) (txBytes (writes 60 3)) looked)
   pub voted-elsewhere : T (gave 1 3 (txBytes (writes 60 3)) (vote commit) looked)
   -- the read marks vote it down: with the liar it is one vote short of a list, and has no commit proof

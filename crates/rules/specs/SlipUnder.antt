@@ -2,7 +2,7 @@
 use Prim.Native.Nat.{ℕ, _+_, _*_, _≤_, _<_}
 use mathlib.Core.Bool.{Bool, true, false, not, _&&_, _||_}
 use mathlib.Core.List.{List, [], _∷_, _++_}
-use lib.Dec.{T, eqb}
+use lib.Dec.{T, eqb, ltb}
 use Rattle.terms.specs.Choice.{any}
 use Rattle.terms.specs.Group.{boxes}
 use Rattle.records.specs.declared.Mark.the-variants.{PR, LG, DC, RD, IV, LD}
@@ -66,14 +66,18 @@ unfoldable pub readWithout : Watched → ℕ → ℕ → ℕ → Body → List E
 readWithout x i k s b [] = false
 readWithout x i k s b (e ∷ es) = readsNow x i k s b e es || readWithout x i k s b es
 
--- "answered by 3f + 1 boxes, and .. no sound one of them had held .. a certain transaction that writes the key with a stamp below s"; what a faulty
--- one of them answered, and whether it did, does not matter
-pub record NoneHeld (f : ℕ) (faulty : ℕ → Bool) (box : ℕ → Watched) (k s : ℕ) (b : Body) (es : List Event) : Type 0 where
+-- "answered by 3f + 1 boxes", the sound ones of them so, and "a certain transaction that writes the key with a stamp below s"; what a faulty one of
+-- them answered, and whether it did, does not matter
+pub record ReadBy (f : ℕ) (faulty : ℕ → Bool) (so : ℕ → Bool) (k s : ℕ) (b : Body) : Type 0 where
   pub asked : ℕ → Bool
   pub enough : 3 * f + 1 ≤ howMany asked (boxes f)
-  pub answered : (i : ℕ) → Sound f faulty i → T (asked i) → T (readWithout (box i) i k s b es)
+  pub answered : (i : ℕ) → Sound f faulty i → T (asked i) → T (so i)
   pub writes : T (writesKey b k)
   pub below : stampOf b < s
+
+-- "no sound one of them had held .."
+abbrev pub NoneHeld : (f : ℕ) (faulty : ℕ → Bool) (box : ℕ → Watched) (k s : ℕ) (b : Body) → List Event → Type 0
+NoneHeld f faulty box k s b es = ReadBy f faulty (λ i. readWithout (box i) i k s b es) k s b
 
 -- "Then that transaction never has a commit proof": whatever comes later. "The premises are those of demand 3"
 abbrev pub NothingSlipsUnder : Type 0
@@ -81,4 +85,35 @@ NothingSlipsUnder =
     (f : ℕ) (faulty : ℕ → Bool) → howMany faulty (boxes f) ≤ f
     → (es later : List Event) → Fair f faulty (later ++ es)
     → (k s : ℕ) (b : Body) → NoneHeld f faulty (watched f) k s b es
+    → Proof f faulty (later ++ es) b commit → ⊥
+
+-- ---- beside it, what whoever reads can go by: he sees what boxes show, not what they held
+-- both versions of an answer are below v
+unfoldable pub showsBelow : ℕ → Answer → Bool
+showsBelow v (Voted w) = false
+showsBelow v (Decided d) = false
+showsBelow v (Logged d w) = false
+showsBelow v (Elected d w l) = false
+showsBelow v Done = false
+showsBelow v (Found committed undecided) = ltb (committed .stamp .0) v && ltb (undecided .stamp .0) v
+showsBelow v (Refused r) = false
+
+unfoldable pub showsNow : Watched → ℕ → ℕ → ℕ → ℕ → Event → List Event → Bool
+showsNow x i k s v e es = eqb (e .box) i && (asks k s e && showsBelow v (x .answer e es))
+
+-- somewhere in the trace box i answered an RD of key k at stamp s so
+unfoldable pub shownBelow : Watched → ℕ → ℕ → ℕ → ℕ → List Event → Bool
+shownBelow x i k s v [] = false
+shownBelow x i k s v (e ∷ es) = showsNow x i k s v e es || shownBelow x i k s v es
+
+-- each sound one of the 3f + 1 showed versions below the writer's stamp
+abbrev pub NoneShown : (f : ℕ) (faulty : ℕ → Bool) (box : ℕ → Watched) (k s : ℕ) (b : Body) → List Event → Type 0
+NoneShown f faulty box k s b es = ReadBy f faulty (λ i. shownBelow (box i) i k s (stampOf b) es) k s b
+
+-- then it never has a commit proof either: nothing comes between the highest version that they show and s
+abbrev pub NothingComesBetween : Type 0
+NothingComesBetween =
+    (f : ℕ) (faulty : ℕ → Bool) → howMany faulty (boxes f) ≤ f
+    → (es later : List Event) → Fair f faulty (later ++ es)
+    → (k s : ℕ) (b : Body) → NoneShown f faulty (watched f) k s b es
     → Proof f faulty (later ++ es) b commit → ⊥
