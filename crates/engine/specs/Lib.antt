@@ -3,3 +3,5 @@ pub mod Safety
 pub mod Order
 pub mod Busy
 pub mod Crossed
+pub mod SlipUnder
+pub mod Panel

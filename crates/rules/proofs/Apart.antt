@@ -39,7 +39,7 @@ module _ (f : ℕ) (faulty : ℕ → Bool) where
     aborted : Proof f faulty es b abort → Dead es b
     rivalled : (c : Body) → stampOf c ≡ stampOf b → (c ≡ b → ⊥) → Proof f faulty es c commit → Dead es b
 
-  dead-later : (e : Event) (es : List Event) (b : Body) → Dead es b → Dead (e ∷ es) b
+  pub dead-later : (e : Event) (es : List Event) (b : Body) → Dead es b → Dead (e ∷ es) b
   dead-later e es b (aborted P) = aborted (proof-later f faulty e es b abort P)
   dead-later e es b (rivalled c q n P) = rivalled c q n (proof-later f faulty e es c commit P)
 
@@ -89,7 +89,7 @@ module _ (f : ℕ) (faulty : ℕ → Bool) where
           by unsettled q = inr (stands-if (λ h. un-settled q h))
 
   -- an accepted body stands in the table, or is dead
-  here-or-dead : (i : ℕ) (es : List Event) → Rests f faulty i es → (b : Body) → T (gave f i b (vote commit) es) → Dead es b ⊎ Upright (table f i es) b
+  pub here-or-dead : (i : ℕ) (es : List Event) → Rests f faulty i es → (b : Body) → T (gave f i b (vote commit) es) → Dead es b ⊎ Upright (table f i es) b
   here-or-dead i es R b g = kept-or-dead i es R b (local f i es .kept b (vote commit) g)
 
   -- a body that passed the tests, against one accepted before
@@ -120,7 +120,7 @@ module _ (f : ℕ) (faulty : ℕ → Bool) where
       back (by-entry x) = by-entry (rw (s .table-now) at x)
 
   -- accepted before, or just now after the tests
-  accepted : (i : ℕ) (e : Event) (es : List Event) → Moved f i e es → (b : Body) → Accepts i (e ∷ es) b
+  pub accepted : (i : ℕ) (e : Event) (es : List Event) → Moved f i e es → (b : Body) → Accepts i (e ∷ es) b
       → Accepts i es b ⊎ ((txPart e.message ≡ b) × Clear (boxAt f i es) (txPart e.message))
   unfolding table
   accepted i e es s b x = from x

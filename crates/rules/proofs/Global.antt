@@ -126,7 +126,7 @@ module _ (f : ℕ) (faulty : ℕ → Bool) (few : howMany faulty (boxes f) ≤ f
   pub one-body : (b c : Body) → stampOf b ≡ stampOf c → Proof f faulty es b commit → Proof f faulty es c commit → b ≡ c
   one-body b c s P Q = let w = agreeing b c P Q in local f (w .box) es .one-vote b c commit commit (w .one) (w .two) s .0
 
-  alive : (b : Body) → Proof f faulty es b commit → Dead f faulty es b → ⊥
+  pub alive : (b : Body) → Proof f faulty es b commit → Dead f faulty es b → ⊥
   alive b P (aborted Q) = one-outcome b P Q
   alive b P (rivalled c q n Q) = n (one-body c b q Q P)
 

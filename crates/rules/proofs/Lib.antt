@@ -24,10 +24,14 @@ pub mod Serial
 pub mod Made
 pub mod Exist
 pub mod Safety
+pub mod Marks
+pub mod Shown
+pub mod SlipUnder
 pub mod Alike
 pub mod Running
 pub mod Cases
 pub mod Traces
+pub mod Panel
 pub mod Leading
 pub mod Reordered
 pub mod Twins
