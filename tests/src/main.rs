@@ -6,6 +6,7 @@ mod broken;
 mod cluster;
 mod compare;
 mod engine;
+mod gateways;
 mod holdings;
 mod incident;
 mod judge;
@@ -34,6 +35,8 @@ stobbarel-tests cluster [RUNS [SEED]]      RUNS clusters (20000) of the engine, 
 stobbarel-tests broken [MOST [SEED]]       boxes with a broken rule, and bad boxes: each must be noticed, within MOST clusters (20000)
 stobbarel-tests order [COUNT [SEED]]       COUNT pairs of decisions (10000) in both orders, later calls on both tables answered alike
 stobbarel-tests passages [COUNT [SEED]]    COUNT looks (200000) at passages: reports, corrections and entries beside a model
+stobbarel-tests gateways [COUNT [SEED]]    what each way through costs, a gateway that dies at each step, COUNT worlds (400) with liars and evil gateways, each habit left out
+                                           once; with --worlds the worlds alone, with --without HABIT what then hangs, with --pictures FOLDER the drawings
 stobbarel-tests incident                   the night that one correction was decided both ways, and why it cannot be again
 stobbarel-tests bench PROGRAM [RUNS [SEED]]  RUNS inputs (400) for the bench program, its output against the model's
 stobbarel-tests stored PROGRAM FOLDER      the folder's stored input for the bench program, and what it has to print
@@ -85,6 +88,7 @@ fn main() {
         Some("broken") => broken::check(number(rest, 0, 20_000), number(rest, 1, 1)),
         Some("order") => order::check(number(rest, 0, 10_000), number(rest, 1, 1)),
         Some("passages") => passages::check(number(rest, 0, 200_000), number(rest, 1, 1)),
+        Some("gateways") => gateways::check(rest),
         Some("incident") => incident::check(),
         Some("stored") if rest.len() == 2 => stored::check(&rest[0], &rest[1]),
         Some("model-bench") => model_bench(),
