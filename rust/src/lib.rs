@@ -35,22 +35,28 @@
 #![deny(missing_docs)]
 
 mod c;
+mod desk;
 mod election;
+mod gateway;
 mod held;
 /// How a table is laid out, as `include/stobbarel.h` has it.
 #[allow(unused_parens)] // a macro in C needs them
 pub mod layout {
     include!(concat!(env!("OUT_DIR"), "/layout.rs"));
 }
+mod leader;
 mod passage;
 mod records;
 mod sheet;
 mod table;
 mod terms;
 
+pub use desk::{in_the_way, Desk, Holding, Question, MOST_HOLDINGS};
 pub use election::{ElectionReply, ElectionSheet, ViewSheet};
+pub use gateway::{Gateway, Letter, Load, Timing};
 pub use held::Held;
 pub use layout::LONGEST;
+pub use leader::{question, Leader, Pace};
 pub use passage::{Asks, Passage, Report, Seen, Values};
 pub use records::{check_el, check_tx, check_vl, check_vs, read_message, read_tx, tx_part, Election, Message, Transaction, VoteList};
 pub use records::{write_dc, write_el, write_iv, write_ld, write_lg, write_pr, write_rd, write_tx, write_vl, write_vs};

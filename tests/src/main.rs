@@ -6,6 +6,7 @@ mod broken;
 mod cluster;
 mod compare;
 mod engine;
+mod gateways;
 mod holdings;
 mod incident;
 mod judge;
@@ -82,6 +83,7 @@ fn main() {
         Some("cluster") => cluster::check(&mut Beside, number(rest, 0, 20_000), number(rest, 1, 1)),
         Some("broken") => broken::check(number(rest, 0, 20_000), number(rest, 1, 1)),
         Some("passages") => passages::check(number(rest, 0, 200_000), number(rest, 1, 1)),
+        Some("gateways") => gateways::check(rest),
         Some("incident") => incident::check(),
         Some("stored") if rest.len() == 2 => stored::check(&rest[0], &rest[1]),
         Some("model-bench") => model_bench(),

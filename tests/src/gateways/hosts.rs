@@ -1,0 +1,249 @@
+//! A sound box's host: what it checks before a message comes to the engine, what it keeps beside the table, and what it answers.
+
+use super::world::{model_decision, Habit, Mail, Party, World, DELTA, FIRST_MOMENT, MOMENT, PAUSE};
+use crate::judge::Word;
+use crate::model::Kind as ModelKind;
+use std::collections::{BTreeMap, BTreeSet};
+use stobbarel::{in_the_way, question, read_message, tx_part, write_rd, Answer, Decision, Election, Group, Holding, Key, Kind, Leader, Letter, Load, Message};
+use stobbarel::{Pace, Question, Stamp, Table, View, VoteList, LONGEST, MOST_HOLDINGS};
+
+/// Room in a table; a box that is full is a world of its own.
+pub const CAPACITY: u64 = 64;
+
+pub struct Host {
+    group: Group,
+    pub table: Table,
+    /// Its clock is ahead of the world's by so many ticks.
+    skew: u64,
+    /// The stamps that it holds, and of each body the DC that it took, the gateways that want to hear of it, its leader's side and its pace.
+    pub stamps: BTreeSet<Stamp>,
+    pub proofs: BTreeMap<Vec<u8>, Vec<u8>>,
+    wanted: BTreeMap<Vec<u8>, BTreeSet<Party>>,
+    leaders: BTreeMap<Vec<u8>, Leader>,
+    paces: BTreeMap<Vec<u8>, Pace>,
+}
+
+impl Host {
+    pub fn new(group: Group, skew: u64) -> Host {
+        let table = Table::new(group, CAPACITY).expect("1 to 255 entries");
+        Host { group, table, skew, stamps: BTreeSet::new(), proofs: BTreeMap::new(), wanted: BTreeMap::new(), leaders: BTreeMap::new(), paces: BTreeMap::new() }
+    }
+
+    fn clock(&self, now: u64) -> u64 {
+        (FIRST_MOMENT + now + self.skew) * MOMENT
+    }
+
+    pub fn call(&mut self, message: &[u8], now: u64) -> Answer {
+        self.table.receive(self.clock(now), DELTA, message)
+    }
+
+    /// What an RD shows as the newest version below a stamp.
+    pub fn newest(&mut self, key: Key, stamp: Stamp, now: u64) -> Stamp {
+        let mut buffer = [0; LONGEST];
+        let length = write_rd(key, stamp, &mut buffer).expect("an RD in order");
+        match self.call(&buffer[..length], now) {
+            Answer::Found(committed, undecided) => committed.stamp.max(undecided.stamp),
+            _ => Stamp(0),
+        }
+    }
+
+    pub fn decided(&self, body: &[u8]) -> Option<Decision> {
+        let stamp = Stamp(u64::from_le_bytes(body[4..12].try_into().expect("eight bytes")));
+        held(&self.table, stamp).filter(|held| held.body == body)?.decided
+    }
+
+    pub fn holding(&self, stamp: Stamp) -> Option<(Holding, Option<Decision>)> {
+        let held = held(&self.table, stamp)?;
+        let proof = self.proofs.get(held.body).cloned();
+        Some((Holding { body: held.body.to_vec(), signed: true, vote: held.vote, logged: held.logged, proof }, held.decided))
+    }
+
+    fn view(&self, stamp: Stamp) -> View {
+        held(&self.table, stamp).map_or(View(0), |held| held.view)
+    }
+}
+
+impl World {
+    /// Mail for a box: a liar does with it what it likes.
+    pub fn at_box(&mut self, number: u8, from: Party, depth: u64, mail: Mail) {
+        if self.lies(number) {
+            return self.lie(number, from, depth, mail);
+        }
+        match mail {
+            Mail::Message(message) => self.message(number, from, depth, &message),
+            Mail::Ask(question) => {
+                let told = self.held_for(number, &question);
+                self.send(Party::Box(number), from, depth + 1, Mail::Told(question, told));
+            }
+            Mail::Elect(body, decision, view) => {
+                let Party::Box(voter) = from else { return };
+                self.elect(number, voter, depth, &body, decision, view);
+            }
+            Mail::Answer(..) | Mail::Told(..) => {}
+        }
+    }
+
+    /// A message whose signatures are in order comes to the engine.
+    fn message(&mut self, number: u8, from: Party, depth: u64, message: &[u8]) {
+        let body = tx_part(self.group, message).to_vec();
+        if body.is_empty() || !self.signed_body(&body) || !self.backed(message) {
+            return;
+        }
+        let (now, message) = (self.now, self.paced(number, &body, message));
+        let answer = self.hosts[number as usize].call(&message, now);
+        self.note(number, &body, answer);
+        let host = &mut self.hosts[number as usize];
+        if !matches!(answer, Answer::Refused(_)) {
+            host.stamps.insert(Stamp(u64::from_le_bytes(body[4..12].try_into().expect("eight bytes"))));
+        }
+        if answer == Answer::Done {
+            host.proofs.entry(body.clone()).or_insert(message);
+        }
+        let wanted = host.wanted.entry(body.clone()).or_default();
+        let to = match from {
+            Party::Desk(_) => {
+                wanted.insert(from);
+                vec![from]
+            }
+            // a leader's: whoever is at work on it hears of the log
+            Party::Box(_) => wanted.iter().copied().collect(),
+        };
+        self.answer(number, &to, depth, body, answer);
+    }
+
+    fn answer(&mut self, number: u8, to: &[Party], depth: u64, body: Vec<u8>, answer: Answer) {
+        let taken = self.hosts[number as usize].proofs.get(&body).cloned();
+        let handed = taken.filter(|_| matches!(answer, Answer::Decided(_)) && self.keeps(Habit::Handover));
+        for to in to {
+            self.send(Party::Box(number), *to, depth + 1, Mail::Answer(body.clone(), answer, handed.clone()));
+        }
+        if let Answer::Elected { decision, view, leader } = answer {
+            if view > View(0) {
+                self.send(Party::Box(number), Party::Box(leader), depth + 1, Mail::Elect(body, decision, view));
+            }
+        }
+    }
+
+    /// An IV that steps on too soon is only a question.
+    fn paced(&mut self, number: u8, body: &[u8], message: &[u8]) -> Vec<u8> {
+        let (Ok(Message::Invoke(tx, views)), true) = (read_message(self.group, message), self.keeps(Habit::Pacing)) else {
+            return message.to_vec();
+        };
+        let (now, group) = (self.now, self.group);
+        let host = &mut self.hosts[number as usize];
+        let current = host.view(tx.stamp);
+        let pace = host.paces.entry(body.to_vec()).or_insert_with(|| Pace::new(group, PAUSE));
+        if pace.admits(&views, current, now) { message.to_vec() } else { question(group, &tx).expect("a transaction in order") }
+    }
+
+    /// An election answer for a box that may lead.
+    fn elect(&mut self, number: u8, voter: u8, depth: u64, body: &[u8], decision: Decision, view: View) {
+        if !self.signed_body(body) {
+            return;
+        }
+        let group = self.group;
+        let Some(new) = Leader::new(group, number, body) else { return };
+        let letters = self.hosts[number as usize].leaders.entry(body.to_vec()).or_insert(new).hear(voter, decision, view);
+        for Letter { to, load } in letters {
+            if let Load::Message(ld) = load {
+                self.led.insert(ld.clone());
+                self.send(Party::Box(number), Party::Box(to), depth + 1, Mail::Message(ld));
+            }
+        }
+    }
+
+    fn held_for(&self, number: u8, question: &Question) -> Vec<Holding> {
+        let host = &self.hosts[number as usize];
+        match question {
+            Question::Held(stamp) => host.holding(*stamp).map(|(holding, _)| holding).into_iter().collect(),
+            Question::Way(body) => {
+                let Some(tx) = self.tx_of(body) else { return vec![] };
+                let undecided = host.stamps.iter().filter_map(|stamp| host.holding(*stamp)).filter(|(_, decided)| decided.is_none());
+                let in_it = |holding: &Holding| holding.body != *body && self.tx_of(&holding.body).is_some_and(|other| in_the_way(&tx, &other));
+                undecided.map(|(holding, _)| holding).filter(in_it).take(MOST_HOLDINGS).collect()
+            }
+        }
+    }
+}
+
+// ---- signatures
+
+impl World {
+    fn signed_body(&self, body: &[u8]) -> bool {
+        self.signed.contains(body) || !self.keeps(Habit::Bodies)
+    }
+
+    /// What stands beside a message's lists: each answer and each view signed by its box, an LD by its leader.
+    pub fn backed(&mut self, message: &[u8]) -> bool {
+        let body = tx_part(self.group, message).to_vec();
+        match read_message(self.group, message) {
+            Ok(Message::Prepare(_)) => true,
+            Ok(Message::Log(_, list) | Message::Decide(_, list)) => self.backed_list(&body, &list),
+            Ok(Message::Invoke(_, views)) => !self.keeps(Habit::SignedViews) || views.iter().all(|(number, view)| self.told_view(&body, *number, *view)),
+            Ok(Message::Lead(_, election)) => self.backed_election(message, &body, &election),
+            Ok(Message::Read(..)) | Err(_) => false,
+        }
+    }
+
+    fn backed_list(&mut self, body: &[u8], list: &VoteList) -> bool {
+        let kind = if list.kind == Kind::Votes { ModelKind::Votes } else { ModelKind::Logs };
+        list.pairs.iter().all(|(number, answer)| self.gave(body, Word::of(kind, model_decision(*answer), list.view.0)) & 1 << number != 0)
+    }
+
+    /// A view above 0 is told by an election answer or by a log.
+    fn told_view(&mut self, body: &[u8], number: u8, view: View) -> bool {
+        let words = [Decision::Commit, Decision::Abort].map(model_decision).map(|decision| [Word::Elect(decision, view.0), Word::Log(decision, view.0)]);
+        view == View(0) || words.into_iter().flatten().any(|word| self.gave(body, word) & 1 << number != 0)
+    }
+
+    fn backed_election(&mut self, message: &[u8], body: &[u8], election: &Election) -> bool {
+        let signed = self.led.contains(message) || self.lies(election.leader) || !self.keeps(Habit::SignedLeader);
+        signed && election.answers.iter().all(|(number, answer, view)| self.gave(body, Word::Elect(model_decision(*answer), view.0)) & 1 << number != 0)
+    }
+
+    /// What a sound box is held to goes into the judge's book.
+    fn note(&mut self, number: u8, body: &[u8], answer: Answer) {
+        let word = match answer {
+            Answer::Voted(vote) => vote.decision().map(|decision| Word::Vote(model_decision(decision))),
+            Answer::Logged(decision, view) => Some(Word::Log(model_decision(decision), view.0)),
+            Answer::Elected { decision, view, .. } => Some(Word::Elect(model_decision(decision), view.0)),
+            _ => None,
+        };
+        let Some(word) = word else { return };
+        let body = self.body_number(body);
+        if let Err(wrong) = self.judge.note(body, number.into(), word) {
+            self.wrong = Some(wrong);
+        }
+    }
+}
+
+// ---- stand-in for `Table::held`
+
+struct HeldRow<'a> {
+    body: &'a [u8],
+    vote: Option<stobbarel::Vote>,
+    decided: Option<Decision>,
+    logged: Option<(Decision, View)>,
+    view: View,
+}
+
+fn held(table: &Table, stamp: Stamp) -> Option<HeldRow<'_>> {
+    use stobbarel::layout::*;
+    use stobbarel::{Reason, Vote};
+    let decision = |code: u8| [None, Some(Decision::Commit), Some(Decision::Abort)][code as usize];
+    let bytes = table.bytes();
+    let count = bytes[0] as usize;
+    let rows = bytes[HEAD..].chunks(ROW).take(count);
+    let row = rows.into_iter().find(|row| row[BODY_AT + 4..BODY_AT + 12] == stamp.0.to_le_bytes())?;
+    let length = 12 + 10 * (row[BODY_AT + 2] as usize + row[BODY_AT + 3] as usize);
+    let number = |at: usize| u16::from_le_bytes([row[at], row[at + 1]]);
+    let reasons = [Reason::Ahead, Reason::NoVersion, Reason::Overwritten, Reason::Undercuts, Reason::ReadMark, Reason::Dependency];
+    let vote = match row[VOTE_AT] {
+        1 => Some(Vote::Commit),
+        2 => Some(Vote::Abort(reasons[row[REASON_AT] as usize - 1])),
+        3 => Some(Vote::Waiting),
+        _ => None,
+    };
+    let logged = decision(row[LOG_AT]).map(|logged| (logged, View(number(LOG_VIEW_AT))));
+    Some(HeldRow { body: &row[BODY_AT..BODY_AT + length], vote, decided: decision(row[DECIDED_AT]), logged, view: View(number(VIEW_AT)) })
+}
