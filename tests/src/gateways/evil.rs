@@ -1,9 +1,9 @@
 //! Evil gateways. What they sign themselves is in order, and they sign no two bodies under one stamp; they see every answer at once, and their messages take one tick.
 
 use super::liars::{bit, numbers};
-use super::world::{model_decision, model_tx, Mail, World};
+use super::world::{model_decision, model_tx, Mail, World, EVIL_WRITER};
 use crate::judge::Word;
-use crate::messages::{code, iv, pr, with_list};
+use crate::messages::{iv, pr, with_list};
 use crate::model::{transaction_bytes, Kind};
 use stobbarel::{Decision, Key, Stamp, Transaction, View};
 
@@ -20,9 +20,6 @@ pub enum Attack {
     /// PRs with another's stamp and a false body, to boxes that do not hold it.
     Sow,
 }
-
-/// The writer's part of an evil gateway's stamps.
-const WRITER: usize = 15;
 
 impl World {
     pub fn strike(&mut self, index: usize) {
@@ -45,7 +42,7 @@ impl World {
 
     /// A write that one to 2f sound boxes vote against, since they have shown the key to a later reader.
     fn split_begin(&mut self, index: usize, key: u16) {
-        let stamp = self.stamp(WRITER);
+        let stamp = self.stamp(EVIL_WRITER);
         let tx = Transaction { stamp, reads: vec![], writes: vec![(Key(key), 1)] };
         let body = transaction_bytes(&model_tx(&tx));
         self.signed.insert(body.clone());
@@ -65,7 +62,6 @@ impl World {
             let given = self.gave(body, Word::Vote(model_decision(decision)));
             let needed = if decision == Decision::Commit { self.group.commit_list() } else { self.group.abort_list() };
             let pairs: Vec<(u8, _)> = numbers(given).map(|number| (number, model_decision(decision))).collect();
-            debug_assert!((1..=2).contains(&code(model_decision(decision))));
             (pairs.len() as u64 >= needed).then(|| with_list(b"LG", body, Kind::Votes, model_decision(decision), &pairs))
         });
         for number in 0..self.n {

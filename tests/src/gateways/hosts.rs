@@ -11,7 +11,6 @@ use stobbarel::{Pace, Question, Stamp, Table, View, VoteList, LONGEST, MOST_HOLD
 pub const CAPACITY: u64 = 64;
 
 pub struct Host {
-    group: Group,
     pub table: Table,
     /// Its clock is ahead of the world's by so many ticks.
     skew: u64,
@@ -26,7 +25,7 @@ pub struct Host {
 impl Host {
     pub fn new(group: Group, skew: u64) -> Host {
         let table = Table::new(group, CAPACITY).expect("1 to 255 entries");
-        Host { group, table, skew, stamps: BTreeSet::new(), proofs: BTreeMap::new(), wanted: BTreeMap::new(), leaders: BTreeMap::new(), paces: BTreeMap::new() }
+        Host { table, skew, stamps: BTreeSet::new(), proofs: BTreeMap::new(), wanted: BTreeMap::new(), leaders: BTreeMap::new(), paces: BTreeMap::new() }
     }
 
     fn clock(&self, now: u64) -> u64 {

@@ -53,6 +53,8 @@ pub enum Party {
 }
 
 pub const EVIL: Party = Party::Desk(usize::MAX);
+/// The writer's part of its stamps.
+pub const EVIL_WRITER: u64 = 15;
 
 /// What is on its way.
 #[derive(Clone, Debug)]
@@ -95,7 +97,7 @@ pub const FLOWS: Network = Network { calm: 0, lost: 0, twice: 0, held: 0, late: 
 pub const TIMING: Timing = Timing { patience: 10, first_try: 20, doublings: 12, farewells: 12 };
 pub const PAUSE: u64 = 40;
 /// A tick of time in stamps: the rest of a stamp is its writer's number.
-pub const MOMENT: u64 = 16;
+pub const MOMENT: u64 = 17;
 pub const DELTA: u64 = 100 * MOMENT;
 pub const FIRST_MOMENT: u64 = 1000;
 
@@ -114,6 +116,8 @@ pub struct Care {
     pub since: u64,
     /// When it had a proof, after how many ways, and of what.
     pub decided: Option<(u64, u64, Decision)>,
+    /// It was aborted, and its operation is tried again as soon as what stood in its way is decided.
+    again: bool,
 }
 
 pub struct Station {
@@ -124,8 +128,6 @@ pub struct Station {
     pub depth: u64,
     pub operations: Vec<Operation>,
     pub cares: Vec<Care>,
-    /// Stamps to be swept once its own are decided.
-    pub sweeps: Vec<Stamp>,
     pub most_falls: u32,
 }
 
@@ -214,7 +216,7 @@ impl World {
         let index = self.stations.len();
         let desk = Desk::new(self.group, timing);
         let (starts, operations): (Vec<u64>, Vec<Operation>) = operations.into_iter().unzip();
-        self.stations.push(Station { desk, alive: true, dies_after, sent: 0, depth: 0, operations, cares: vec![], sweeps: vec![], most_falls: 0 });
+        self.stations.push(Station { desk, alive: true, dies_after, sent: 0, depth: 0, operations, cares: vec![], most_falls: 0 });
         starts.into_iter().for_each(|time| self.at(time, Event::Start(index)));
         index
     }
@@ -234,8 +236,8 @@ impl World {
     }
 
     /// A stamp of this moment and this writer.
-    pub fn stamp(&self, writer: usize) -> Stamp {
-        Stamp((FIRST_MOMENT + self.now) * MOMENT + writer as u64)
+    pub fn stamp(&self, writer: u64) -> Stamp {
+        Stamp((FIRST_MOMENT + self.now) * MOMENT + writer)
     }
 
     /// The judge's number of a body; bodies that are held are in order.
@@ -328,11 +330,14 @@ impl World {
         self.done() && self.wrong.is_none()
     }
 
-    /// Every transaction that a live gateway cares for is decided, and sound boxes have that decision; nothing is to be started or swept any more.
+    /// Every transaction on a live gateway's desk is decided, its own and those that stood in the way, and sound boxes have that decision; nothing is to be started
+    /// any more.
     pub fn done(&self) -> bool {
-        let started = !self.queue.values().any(|event| matches!(event, Event::Start(_)));
-        started && self.stations.iter().filter(|station| station.alive).all(|station| {
-            station.sweeps.is_empty() && station.cares.iter().all(|care| care.decided.is_some_and(|(_, _, decision)| self.everywhere(&care.body, decision)))
+        let starts = self.queue.values().any(|event| matches!(event, Event::Start(_)));
+        !starts && self.stations.iter().filter(|station| station.alive).all(|station| {
+            let mut on_desk = station.desk.gateways();
+            let own = |care: &Care| !care.again && care.decided.is_some_and(|(_, _, decision)| self.everywhere(&care.body, decision));
+            station.cares.iter().all(own) && on_desk.all(|gateway| gateway.outcome().is_some_and(|decision| self.everywhere(gateway.body(), decision)))
         })
     }
 
@@ -371,25 +376,23 @@ impl World {
     /// Notes what is decided, has an aborted operation tried again, and sees to the next waking.
     fn after(&mut self, index: usize) {
         let (now, station) = (self.now, &mut self.stations[index]);
-        let mut aborted = vec![];
         station.most_falls = station.desk.gateways().map(|gateway| gateway.falls()).max().unwrap_or(0).max(station.most_falls);
         for care in station.cares.iter_mut().filter(|care| care.decided.is_none()) {
             if let Some(decision) = station.desk.outcome(&care.body) {
                 care.decided = Some((now, station.depth, decision));
-                if decision == Decision::Abort {
-                    aborted.push(care.body.clone());
-                }
+                care.again = decision == Decision::Abort && station.operations[0].again > 0;
             }
         }
+        let clear = station.cares.iter_mut().find(|care| care.again && station.desk.clear(&care.body));
+        let again = clear.is_some();
+        clear.into_iter().for_each(|care| care.again = false);
         if let Some(due) = station.desk.due() {
             self.at(due.max(now + 1), Event::Wake(index));
         }
-        for _ in aborted {
-            if self.stations[index].operations.first().is_some_and(|operation| operation.again > 0) {
-                self.stations[index].operations[0].again -= 1;
-                let pause = self.random.between(1, 60);
-                self.at(now + pause, Event::Start(index));
-            }
+        if again {
+            self.stations[index].operations[0].again -= 1;
+            let pause = self.random.between(1, 60);
+            self.at(now + pause, Event::Start(index));
         }
     }
 
@@ -413,13 +416,13 @@ impl World {
         let letters = self.stations[index].desk.care(tx.clone(), now).expect("a transaction in order");
         let body = crate::model::transaction_bytes(&model_tx(&tx));
         self.signed.insert(body.clone());
-        self.stations[index].cares.push(Care { body, since: now, decided: None });
+        self.stations[index].cares.push(Care { body, since: now, decided: None, again: false });
         self.post(index, letters);
     }
 
     /// The operation's keys, read at some sound box at the stamp: the newest version, undecided or committed.
     fn next_transaction(&mut self, index: usize) -> Transaction {
-        let stamp = self.stamp(index);
+        let stamp = self.stamp(index as u64);
         let operation = self.stations[index].operations.first().cloned().expect("an operation to start");
         if self.stations[index].operations.len() > 1 {
             self.stations[index].operations.remove(0);
