@@ -1,7 +1,7 @@
 //! A gateway's desk: the transactions that it cares for, and under them those of others that stand in their way and are finished first.
 
-use crate::gateway::transaction_of;
-use crate::records::Transaction;
+use crate::held::Held;
+use crate::records::{read_tx, Transaction};
 use crate::table::{Answer, Vote};
 use crate::{Decision, Gateway, Group, Letter, Load, Refusal, Stamp, Timing, View};
 use std::collections::BTreeMap;
@@ -28,6 +28,13 @@ pub struct Holding {
     pub logged: Option<(Decision, View)>,
     /// The DC that it took, with the signatures beside it found right.
     pub proof: Option<Vec<u8>>,
+}
+
+impl Holding {
+    /// An entry as it is held, with the DC from the host's file; a host has every body with its writer's signature.
+    pub fn of(held: &Held, proof: Option<Vec<u8>>) -> Holding {
+        Holding { body: held.body.to_vec(), signed: true, vote: held.vote, logged: held.logged, proof }
+    }
 }
 
 /// At most so many entries of an answer are looked at.
@@ -94,7 +101,10 @@ impl Desk {
         let Some(work) = self.works.get_mut(body) else { return vec![] };
         let undecided = work.gateway.outcome().is_none();
         let mut out = work.gateway.hear(from, answer, handed, now);
-        if undecided && work.own && work.gateway.outcome() == Some(Decision::Abort) && work.gateway.clashed() {
+        let aborted = undecided && work.own && work.gateway.outcome() == Some(Decision::Abort) && work.gateway.clashed();
+        // what another left has been waiting long enough
+        let left = !work.own && work.asked == 0 && work.gateway.waits();
+        if aborted || left {
             out.extend(self.look(body));
         }
         if matches!(answer, Answer::Done | Answer::Decided(_)) {
@@ -117,7 +127,7 @@ impl Desk {
         let alike = |body: &[u8]| told.values().filter(|bodies| bodies.iter().any(|one| one == body)).count() as u64;
         let mut out = vec![];
         for holding in holdings {
-            let Some(tx) = transaction_of(self.group, &holding.body) else { continue };
+            let Ok(tx) = read_tx(&holding.body) else { continue };
             let sure = holding.signed || alike(&holding.body) >= self.group.abort_list();
             if sure && self.is_due(question, &tx) {
                 out.extend(self.rescue(from, question, tx, holding, now));

@@ -56,14 +56,6 @@ pub(crate) fn written(write: impl FnOnce(&mut [u8]) -> Result<usize, Refusal>) -
     Ok(buffer[..length].to_vec())
 }
 
-/// The transaction that a body is; none where it is not in order.
-pub(crate) fn transaction_of(group: Group, body: &[u8]) -> Option<Transaction> {
-    match read_message(group, &[b"PR", body].concat()) {
-        Ok(Message::Prepare(tx)) => Some(tx),
-        _ => None,
-    }
-}
-
 #[derive(Clone, Copy, Debug, PartialEq, Eq, Hash)]
 enum Step {
     Vote,
@@ -228,6 +220,11 @@ impl Gateway {
     /// Some box waits, and for all the time that has passed no list can be made: another transaction is in the way.
     pub fn held_up(&self) -> bool {
         self.step == Step::Vote && self.late && self.waiting != 0
+    }
+
+    /// Some box waits for another transaction, and votes are still gathered.
+    pub fn waits(&self) -> bool {
+        self.step == Step::Vote && self.waiting != 0
     }
 
     /// Some box voted abort for another transaction (2, 3, 4), which may be undecided.

@@ -1,7 +1,7 @@
 //! The fallback's other side, at a box's host: the leader of a view, and how fast a host lets views be raised.
 
-use crate::gateway::{transaction_of, written};
-use crate::records::{write_iv, write_ld, Transaction};
+use crate::gateway::written;
+use crate::records::{read_tx, write_iv, write_ld, Transaction};
 use crate::{Decision, ElectionReply, ElectionSheet, Group, Letter, Load, Refusal, View};
 use std::collections::BTreeMap;
 
@@ -19,10 +19,10 @@ pub struct Leader {
 }
 
 impl Leader {
-    /// This box as a leader for the transaction that a body is; none where the body is not in order.
-    pub fn new(group: Group, number: u8, body: &[u8]) -> Option<Leader> {
-        let tx = transaction_of(group, body)?;
-        Some(Leader { group, number, tx, highest: BTreeMap::new(), fixed: BTreeMap::new() })
+    /// This box as a leader for the transaction that a body is; refused where the body is not in order.
+    pub fn new(group: Group, number: u8, body: &[u8]) -> Result<Leader, Refusal> {
+        let tx = read_tx(body)?;
+        Ok(Leader { group, number, tx, highest: BTreeMap::new(), fixed: BTreeMap::new() })
     }
 
     /// An election answer. With 4f + 1 of one view that this box leads, the LD goes to all; whoever answers later gets the same one.

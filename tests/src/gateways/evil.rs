@@ -11,6 +11,8 @@ use stobbarel::{Decision, Key, Stamp, Transaction, View};
 pub enum Attack {
     /// Has its own transaction logged commit here and abort there; then it dies.
     Split { key: u16, body: Option<Vec<u8>> },
+    /// Has the first desk's transaction logged commit at every second box and abort at the others.
+    Halve,
     /// Raises views as fast as boxes tell theirs, and never stops.
     Raise,
     /// IVs with views that nobody told.
@@ -26,6 +28,7 @@ impl World {
         match self.attacks[index].clone() {
             Attack::Split { key, body: None } => self.split_begin(index, key),
             Attack::Split { body: Some(body), .. } => self.split_end(&body),
+            Attack::Halve => self.halve(),
             Attack::Raise => self.each_undecided(index, 1, World::raise),
             Attack::ForgeViews => self.each_undecided(index, 3, World::forge_views),
             Attack::ForgeLeader => self.each_undecided(index, 1, World::forge_leader),
@@ -56,14 +59,27 @@ impl World {
         self.strike_again(index, 3);
     }
 
-    /// One decision logged here and the other there, as far as votes and liars let it.
-    fn split_end(&mut self, body: &[u8]) {
-        let lists = [Decision::Commit, Decision::Abort].map(|decision| {
+    /// The LGs that votes and liars let it make.
+    fn lists(&mut self, body: &[u8]) -> [Option<Vec<u8>>; 2] {
+        [Decision::Commit, Decision::Abort].map(|decision| {
             let given = self.gave(body, Word::Vote(model_decision(decision)));
             let needed = if decision == Decision::Commit { self.group.commit_list() } else { self.group.abort_list() };
             let pairs: Vec<(u8, _)> = numbers(given).map(|number| (number, model_decision(decision))).collect();
             (pairs.len() as u64 >= needed).then(|| with_list(b"LG", body, Kind::Votes, model_decision(decision), &pairs))
-        });
+        })
+    }
+
+    fn halve(&mut self) {
+        let Some(body) = self.stations[0].cares.first().map(|care| care.body.clone()) else { return };
+        let lists = self.lists(&body);
+        for number in 0..self.n {
+            lists[usize::from(number % 2)].clone().into_iter().for_each(|lg| self.send_evil(number, Mail::Message(lg)));
+        }
+    }
+
+    /// One decision logged here and the other there, as far as they can be made.
+    fn split_end(&mut self, body: &[u8]) {
+        let lists = self.lists(body);
         for number in 0..self.n {
             let first = usize::from(self.random.chance(50));
             if let Some(lg) = lists[first].clone().or(lists[1 - first].clone()) {

@@ -4,7 +4,7 @@ use super::world::{model_decision, Habit, Mail, Party, World, DELTA, FIRST_MOMEN
 use crate::judge::Word;
 use crate::model::Kind as ModelKind;
 use std::collections::{BTreeMap, BTreeSet};
-use stobbarel::{in_the_way, question, read_message, tx_part, write_rd, Answer, Decision, Election, Group, Holding, Key, Kind, Leader, Letter, Load, Message};
+use stobbarel::{in_the_way, question, read_message, tx_part, write_rd, Answer, Decision, Election, Group, Held, Holding, Key, Kind, Leader, Letter, Load, Message};
 use stobbarel::{Pace, Question, Stamp, Table, View, VoteList, LONGEST, MOST_HOLDINGS};
 
 /// Room in a table; a box that is full is a world of its own.
@@ -48,17 +48,20 @@ impl Host {
 
     pub fn decided(&self, body: &[u8]) -> Option<Decision> {
         let stamp = Stamp(u64::from_le_bytes(body[4..12].try_into().expect("eight bytes")));
-        held(&self.table, stamp).filter(|held| held.body == body)?.decided
+        self.held(stamp).filter(|held| held.body == body)?.decided
     }
 
     pub fn holding(&self, stamp: Stamp) -> Option<(Holding, Option<Decision>)> {
-        let held = held(&self.table, stamp)?;
-        let proof = self.proofs.get(held.body).cloned();
-        Some((Holding { body: held.body.to_vec(), signed: true, vote: held.vote, logged: held.logged, proof }, held.decided))
+        let held = self.held(stamp)?;
+        Some((Holding::of(&held, self.proofs.get(held.body).cloned()), held.decided))
     }
 
-    fn view(&self, stamp: Stamp) -> View {
-        held(&self.table, stamp).map_or(View(0), |held| held.view)
+    fn held(&self, stamp: Stamp) -> Option<Held<'_>> {
+        self.table.held(stamp).expect("a table in order")
+    }
+
+    pub fn view(&self, stamp: Stamp) -> View {
+        self.held(stamp).map_or(View(0), |held| held.view)
     }
 }
 
@@ -86,7 +89,7 @@ impl World {
     fn message(&mut self, number: u8, from: Party, depth: u64, message: &[u8]) {
         let body = tx_part(self.group, message).to_vec();
         if body.is_empty() || !self.signed_body(&body) || !self.backed(message) {
-            return;
+            return self.meet("messages whose signatures are wrong");
         }
         let (now, message) = (self.now, self.paced(number, &body, message));
         let answer = self.hosts[number as usize].call(&message, now);
@@ -95,6 +98,10 @@ impl World {
         if !matches!(answer, Answer::Refused(_)) {
             host.stamps.insert(Stamp(u64::from_le_bytes(body[4..12].try_into().expect("eight bytes"))));
         }
+        if let (Answer::Logged(_, View(1..)), Party::Box(_)) = (answer, from) {
+            self.meet("logs by a leader's decision");
+        }
+        let host = &mut self.hosts[number as usize];
         if answer == Answer::Done {
             host.proofs.entry(body.clone()).or_insert(message);
         }
@@ -105,7 +112,8 @@ impl World {
                 vec![from]
             }
             // a leader's: whoever is at work on it hears of the log
-            Party::Box(_) => wanted.iter().copied().collect(),
+            Party::Box(_) if matches!(answer, Answer::Logged(..)) => wanted.iter().copied().collect(),
+            Party::Box(_) => vec![],
         };
         self.answer(number, &to, depth, body, answer);
     }
@@ -132,7 +140,11 @@ impl World {
         let host = &mut self.hosts[number as usize];
         let current = host.view(tx.stamp);
         let pace = host.paces.entry(body.to_vec()).or_insert_with(|| Pace::new(group, PAUSE));
-        if pace.admits(&views, current, now) { message.to_vec() } else { question(group, &tx).expect("a transaction in order") }
+        if pace.admits(&views, current, now) {
+            return message.to_vec();
+        }
+        self.meet("invocations held back");
+        question(group, &tx).expect("a transaction in order")
     }
 
     /// An election answer for a box that may lead.
@@ -141,7 +153,7 @@ impl World {
             return;
         }
         let group = self.group;
-        let Some(new) = Leader::new(group, number, body) else { return };
+        let Ok(new) = Leader::new(group, number, body) else { return };
         let letters = self.hosts[number as usize].leaders.entry(body.to_vec()).or_insert(new).hear(voter, decision, view);
         for Letter { to, load } in letters {
             if let Load::Message(ld) = load {
@@ -214,35 +226,4 @@ impl World {
             self.wrong = Some(wrong);
         }
     }
-}
-
-// ---- stand-in for `Table::held`
-
-struct HeldRow<'a> {
-    body: &'a [u8],
-    vote: Option<stobbarel::Vote>,
-    decided: Option<Decision>,
-    logged: Option<(Decision, View)>,
-    view: View,
-}
-
-fn held(table: &Table, stamp: Stamp) -> Option<HeldRow<'_>> {
-    use stobbarel::layout::*;
-    use stobbarel::{Reason, Vote};
-    let decision = |code: u8| [None, Some(Decision::Commit), Some(Decision::Abort)][code as usize];
-    let bytes = table.bytes();
-    let count = bytes[0] as usize;
-    let rows = bytes[HEAD..].chunks(ROW).take(count);
-    let row = rows.into_iter().find(|row| row[BODY_AT + 4..BODY_AT + 12] == stamp.0.to_le_bytes())?;
-    let length = 12 + 10 * (row[BODY_AT + 2] as usize + row[BODY_AT + 3] as usize);
-    let number = |at: usize| u16::from_le_bytes([row[at], row[at + 1]]);
-    let reasons = [Reason::Ahead, Reason::NoVersion, Reason::Overwritten, Reason::Undercuts, Reason::ReadMark, Reason::Dependency];
-    let vote = match row[VOTE_AT] {
-        1 => Some(Vote::Commit),
-        2 => Some(Vote::Abort(reasons[row[REASON_AT] as usize - 1])),
-        3 => Some(Vote::Waiting),
-        _ => None,
-    };
-    let logged = decision(row[LOG_AT]).map(|logged| (logged, View(number(LOG_VIEW_AT))));
-    Some(HeldRow { body: &row[BODY_AT..BODY_AT + length], vote, decided: decision(row[DECIDED_AT]), logged, view: View(number(VIEW_AT)) })
 }

@@ -101,6 +101,10 @@ impl World {
     /// A lying leader, as soon as there are answers enough: one decision to the even boxes, the other to the odd ones, or the one that there is to a few.
     fn mislead(&mut self, number: u8, depth: u64, body: &[u8], view: View) {
         let lds = [Decision::Commit, Decision::Abort].map(|decision| self.make_ld(body, view, decision));
+        // each pair of LDs once
+        if !lds.iter().flatten().fold(false, |new, ld| self.led.insert(ld.clone()) | new) {
+            return;
+        }
         let both = lds.iter().all(|ld| ld.is_some());
         for to in 0..self.n {
             let ld = if both { &lds[usize::from(to % 2)] } else { lds.iter().find(|ld| ld.is_some()).filter(|_| to % 4 == 0).unwrap_or(&None) };

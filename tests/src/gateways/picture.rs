@@ -1,6 +1,8 @@
 //! Pictures of what went on: who sent what to whom, and when it came.
 
-use super::world::Mail;
+use super::ways::{measure, name, world, Way, WAYS};
+use super::world::{Arrow, Mail, Party, EVIL};
+use std::collections::{BTreeMap, BTreeSet};
 use stobbarel::{read_message, Answer, Group, Message, Question, Vote};
 
 /// What stands beside an arrow.
@@ -35,4 +37,86 @@ pub fn label(group: Group, mail: &Mail) -> String {
 
 fn word(decision: stobbarel::Decision) -> String {
     format!("{decision:?}").to_lowercase()
+}
+
+// ---- the drawings of docs/GATEWAY.md
+
+const LANE: u64 = 110;
+const STEP: u64 = 46;
+
+/// The place of a lane: the gateway first, then the boxes.
+fn lane(party: Party) -> u64 {
+    match party {
+        Party::Desk(_) => 60,
+        Party::Box(number) => 60 + LANE * (u64::from(number) + 1),
+    }
+}
+
+/// Times at which something was sent or came, close together whatever time passed between.
+fn places(arrows: &[Arrow]) -> BTreeMap<u64, u64> {
+    let times: BTreeSet<u64> = arrows.iter().flat_map(|arrow| [arrow.sent, arrow.arrives]).collect();
+    times.into_iter().zip(0..).map(|(time, place)| (time, 60 + STEP * place)).collect()
+}
+
+/// A sequence: a line for the gateway and for each box, time downwards, and an arrow for each message.
+fn sequence(title: &str, n: u8, arrows: &[Arrow]) -> String {
+    let places = places(arrows);
+    let (wide, high) = (120 + LANE * u64::from(n), places.values().max().copied().unwrap_or(60) + 30);
+    let mut out = format!("<svg xmlns=\"http://www.w3.org/2000/svg\" viewBox=\"0 0 {wide} {high}\" font-family=\"sans-serif\" font-size=\"11\">\n");
+    out += "<rect width=\"100%\" height=\"100%\" fill=\"white\"/>\n<defs><marker id=\"tip\" viewBox=\"0 0 8 8\" refX=\"8\" refY=\"4\" markerWidth=\"7\" \
+            markerHeight=\"7\" orient=\"auto\"><path d=\"M0 0L8 4L0 8z\"/></marker></defs>\n";
+    out += &format!("<text x=\"8\" y=\"16\" font-weight=\"bold\">{title}</text>\n");
+    for number in 0..=n {
+        let (x, name) = (60 + LANE * u64::from(number), if number == 0 { "gateway".into() } else { format!("box {}", number - 1) });
+        out += &format!("<text x=\"{x}\" y=\"40\" text-anchor=\"middle\">{name}</text><line x1=\"{x}\" x2=\"{x}\" y1=\"46\" y2=\"{high}\" stroke=\"#bbb\"/>\n");
+    }
+    for arrow in arrows {
+        let (x1, x2, y1, y2) = (lane(arrow.from), lane(arrow.to), places[&arrow.sent], places[&arrow.arrives]);
+        let colour = if arrow.from == arrow.to { continue } else { colour(&arrow.text) };
+        out += &format!("<line x1=\"{x1}\" y1=\"{y1}\" x2=\"{x2}\" y2=\"{y2}\" stroke=\"{colour}\" marker-end=\"url(#tip)\"/>\n");
+        let (x, y) = ((x1 + 3 * x2) / 4, (y1 + 3 * y2) / 4 - 2);
+        out += &format!("<text x=\"{x}\" y=\"{y}\" text-anchor=\"middle\" fill=\"{colour}\" font-size=\"9\">{}</text>\n", arrow.text);
+    }
+    out + "</svg>\n"
+}
+
+fn colour(text: &str) -> &'static str {
+    match text.split(' ').next().unwrap_or("") {
+        "PR" | "LG" | "DC" => "#0b5394",
+        "IV" | "LD" | "elect" | "view" => "#b45f06",
+        "way?" | "held?" | "told" => "#38761d",
+        _ => "#555555",
+    }
+}
+
+/// Hops and messages of each way as bars, f = 1 and f = 2.
+fn bars() -> String {
+    let mut out = String::from("<svg xmlns=\"http://www.w3.org/2000/svg\" viewBox=\"0 0 900 330\" font-family=\"sans-serif\" font-size=\"11\">\n");
+    out += "<rect width=\"100%\" height=\"100%\" fill=\"white\"/>\n<text x=\"330\" y=\"16\">hops to the proof</text><text x=\"540\" y=\"16\">messages until all are done: \
+            f = 1 dark, f = 2 light</text>\n";
+    for (way, place) in WAYS.into_iter().zip(0u64..) {
+        let y = 24 + 27 * place;
+        out += &format!("<text x=\"310\" y=\"{}\" text-anchor=\"end\">{}</text>\n", y + 15, name(way));
+        for (f, colour) in [(1, "#0b5394"), (2, "#9fc5e8")] {
+            let Some((hops, messages)) = measure(way, f) else { continue };
+            let y = y + 11 * (f - 1);
+            out += &format!("<rect x=\"330\" y=\"{y}\" width=\"{}\" height=\"10\" fill=\"{colour}\"/><text x=\"{}\" y=\"{}\">{hops}</text>\n", 2 * hops, 334 + 2 * hops, y + 9);
+            let wide = messages / 5;
+            out += &format!("<rect x=\"540\" y=\"{y}\" width=\"{wide}\" height=\"10\" fill=\"{colour}\"/><text x=\"{}\" y=\"{}\">{messages}</text>\n", 544 + wide, y + 9);
+        }
+    }
+    out + "</svg>\n"
+}
+
+/// Each way's picture, f = 1, into a folder.
+pub fn draw(folder: &str) -> bool {
+    let pictures = [("fast", Way::Commit), ("logged", Way::Logged), ("fallback", Way::Fallback), ("misled", Way::Misled(1)), ("rescue", Way::Below(1))];
+    let drawn = pictures.map(|(file, way)| {
+        let mut world = world(way, 1, None, None, None);
+        world.arrows = Some(vec![]);
+        world.run(10_000);
+        let arrows: Vec<Arrow> = world.arrows.take().unwrap_or_default().into_iter().filter(|arrow| arrow.to != EVIL).collect();
+        std::fs::write(format!("{folder}/gateway-{file}.svg"), sequence(&name(way), world.n, &arrows)).is_ok()
+    });
+    drawn.iter().all(|one| *one) && std::fs::write(format!("{folder}/gateway-ways.svg"), bars()).is_ok()
 }

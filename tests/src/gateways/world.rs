@@ -11,7 +11,7 @@ use crate::messages::transaction;
 use crate::model::{self, PAPER};
 use crate::random::Random;
 use std::collections::{BTreeMap, BTreeSet};
-use stobbarel::{read_message, Answer, Decision, Desk, Group, Holding, Key, Letter, Load, Message, Question, Stamp, Timing, Transaction, View};
+use stobbarel::{read_tx, Answer, Decision, Desk, Group, Holding, Key, Letter, Load, Question, Stamp, Timing, Transaction, View};
 
 /// What a gateway or a host does that can be left out, to see what hangs.
 #[derive(Clone, Copy, Debug, PartialEq, Eq)]
@@ -159,6 +159,8 @@ pub struct World {
     pub signed: BTreeSet<Vec<u8>>,
     pub led: BTreeSet<Vec<u8>>,
     pub messages: u64,
+    /// What the worlds have to have met.
+    pub met: BTreeMap<&'static str, u64>,
     pub wrong: Option<String>,
     pub arrows: Option<Vec<Arrow>>,
 }
@@ -185,8 +187,12 @@ impl World {
         let judge = Judge::new(PAPER, f, liars.count_ones() as usize);
         World {
             group, n, liars, style: Style::Silent, random, now: 0, net, without, queue: BTreeMap::new(), count: 0, hosts, stations: vec![], attacks: vec![], judge,
-            signed: BTreeSet::new(), led: BTreeSet::new(), messages: 0, wrong: None, arrows: None,
+            signed: BTreeSet::new(), led: BTreeSet::new(), messages: 0, met: BTreeMap::new(), wrong: None, arrows: None,
         }
+    }
+
+    pub fn meet(&mut self, what: &'static str) {
+        *self.met.entry(what).or_default() += 1;
     }
 
     pub fn keeps(&self, habit: Habit) -> bool {
@@ -247,10 +253,7 @@ impl World {
     }
 
     pub fn tx_of(&self, body: &[u8]) -> Option<Transaction> {
-        match read_message(self.group, &[b"PR", body].concat()) {
-            Ok(Message::Prepare(tx)) => Some(tx),
-            _ => None,
-        }
+        read_tx(body).ok()
     }
 
     /// The boxes that gave this word for a body; liars may always have.
@@ -288,13 +291,17 @@ impl World {
             return self.at(self.now + way, Event::Mail { from, to, depth, mail });
         }
         if self.random.chance(self.net.lost) {
-            return;
+            return self.meet("messages lost");
         }
         let copies = if self.random.chance(self.net.twice) { 2 } else { 1 };
+        if copies == 2 {
+            self.meet("messages doubled");
+        }
         for _ in 0..copies {
             let mut time = self.now + self.random.between(1, self.net.late);
             if self.random.chance(self.net.held) {
                 time = self.net.calm + self.random.between(1, 50);
+                self.meet("messages held back until it was calm");
             }
             self.at(time, Event::Mail { from, to, depth, mail: mail.clone() });
         }
@@ -308,6 +315,10 @@ impl World {
 
     /// Everything that happens until it is done, at most until this time. Whether it is done.
     pub fn run(&mut self, until: u64) -> bool {
+        self.run_until(until, World::done)
+    }
+
+    pub fn run_until(&mut self, until: u64, done: impl Fn(&World) -> bool) -> bool {
         let mut events = 0u64;
         while let Some(((time, _), event)) = self.queue.pop_first() {
             if time > until || self.wrong.is_some() {
@@ -323,11 +334,13 @@ impl World {
                 Event::Strike(index) => self.strike(index),
             }
             events += 1;
-            if events % 32 == 0 && self.done() {
+            // the last message of a moment: counting stops as soon as it is done
+            let last = self.queue.first_key_value().is_none_or(|((next, _), _)| *next > time);
+            if (last || events % 32 == 0) && done(self) {
                 return self.wrong.is_none();
             }
         }
-        self.done() && self.wrong.is_none()
+        done(self) && self.wrong.is_none()
     }
 
     /// Every transaction on a live gateway's desk is decided, its own and those that stood in the way, and sound boxes have that decision; nothing is to be started
@@ -354,7 +367,7 @@ impl World {
             let station = &mut self.stations[index];
             if station.dies_after == Some(station.sent) {
                 station.alive = false;
-                return;
+                return self.meet("gateways died");
             }
             if !station.alive {
                 return;
@@ -377,9 +390,11 @@ impl World {
     fn after(&mut self, index: usize) {
         let (now, station) = (self.now, &mut self.stations[index]);
         station.most_falls = station.desk.gateways().map(|gateway| gateway.falls()).max().unwrap_or(0).max(station.most_falls);
+        let decided = self.met.entry("transactions decided of live gateways").or_default();
         for care in station.cares.iter_mut().filter(|care| care.decided.is_none()) {
             if let Some(decision) = station.desk.outcome(&care.body) {
                 care.decided = Some((now, station.depth, decision));
+                *decided += 1;
                 care.again = decision == Decision::Abort && station.operations[0].again > 0;
             }
         }
@@ -390,6 +405,7 @@ impl World {
             self.at(due.max(now + 1), Event::Wake(index));
         }
         if again {
+            self.meet("operations tried again under a new stamp");
             self.stations[index].operations[0].again -= 1;
             let pause = self.random.between(1, 60);
             self.at(now + pause, Event::Start(index));
@@ -448,6 +464,9 @@ impl World {
         let letters = match mail {
             Mail::Answer(body, answer, handed) => {
                 let handed = handed.filter(|dc| self.backed(dc));
+                if handed.is_some() && self.stations[index].desk.outcome(&body).is_none() {
+                    self.meet("proofs that a box handed over");
+                }
                 let station = &mut self.stations[index];
                 station.depth = station.depth.max(depth);
                 station.desk.hear(from, &body, answer, handed.as_deref(), now)
@@ -459,7 +478,12 @@ impl World {
                 }
                 let station = &mut self.stations[index];
                 station.depth = station.depth.max(depth);
-                station.desk.told(from, &question, &holdings, now)
+                let before = station.desk.gateways().count();
+                let letters = station.desk.told(from, &question, &holdings, now);
+                if station.desk.gateways().count() > before {
+                    self.meet("transactions taken up since they stood in the way");
+                }
+                letters
             }
             _ => vec![],
         };
