@@ -96,6 +96,11 @@ impl Desk {
         self.ask(Question::Held(stamp))
     }
 
+    /// Enough was told of a stamp; what was taken up there goes on.
+    pub fn swept(&mut self, stamp: Stamp) {
+        self.sought.remove(&stamp);
+    }
+
     /// A box answered a message that has this body; with Decided it hands over the DC that it took.
     pub fn hear(&mut self, from: u8, body: &[u8], answer: Answer, handed: Option<&[u8]>, now: u64) -> Vec<Letter> {
         let Some(work) = self.works.get_mut(body) else { return vec![] };

@@ -97,6 +97,7 @@ pub struct Gateway {
     spoken: BTreeMap<u8, View>,
     unlogged: u32,
     levelled: u32,
+    falls: u32,
     /// The DC.
     proof: Option<(Decision, Vec<u8>)>,
     /// Boxes that need it no more: they answered Done, Decided, 9 or 12.
@@ -119,7 +120,7 @@ impl Gateway {
         };
         Ok(Gateway {
             group, timing, tx, body, step: Step::Vote, due: 0, tries: 0, late: false, votes: Sheet::votes(group), lacks, waiting: 0, barred: 0, clashed: 0,
-            lg: vec![], logs: BTreeMap::new(), logged: 0, views, view: View(0), iv: vec![], spoken: BTreeMap::new(), unlogged: 0, levelled: 0,
+            lg: vec![], logs: BTreeMap::new(), logged: 0, views, view: View(0), iv: vec![], spoken: BTreeMap::new(), unlogged: 0, levelled: 0, falls: 0,
             proof: None, settled: 0,
         })
     }
@@ -234,7 +235,7 @@ impl Gateway {
 
     /// How many tries of the fallback there were, the first included; 0 without it.
     pub fn falls(&self) -> u32 {
-        if self.iv.is_empty() { 0 } else { self.tries + 1 }
+        self.falls
     }
 }
 
@@ -409,13 +410,14 @@ impl Gateway {
     }
 
     fn fall(&mut self, now: u64) -> Vec<Letter> {
-        (self.step, self.tries) = (Step::Fall, 0);
+        (self.step, self.tries, self.falls) = (Step::Fall, 0, 1);
         self.invoke(now)
     }
 
     /// The time of a try is over: LG again, since logs may have come unheard, and an IV by what is told now.
     fn fall_again(&mut self, now: u64) -> Vec<Letter> {
         self.levelled = 0;
+        self.falls += 1;
         let mut out = self.letters(self.all(), &self.lg.clone());
         out.extend(self.invoke(now));
         out

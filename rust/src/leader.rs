@@ -77,7 +77,7 @@ impl Pace {
         }
         let since = *self.shown.entry(common).or_insert(now);
         self.shown.retain(|view, _| *view >= current);
-        now >= since.saturating_add(self.pause << u32::from(common.0 - 1).min(PAUSE_DOUBLINGS))
+        now >= since.saturating_add(self.pause.saturating_mul(1 << u32::from(common.0 - 1).min(PAUSE_DOUBLINGS)))
     }
 }
 

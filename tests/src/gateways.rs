@@ -19,8 +19,8 @@ use world::{Habit, HABITS};
 const LIMIT: u64 = 30_000;
 
 /// Within so many ticks all has to be decided and taken; and where boxes are far from each other.
-const BOUND: u64 = 1_500;
-const SLOW_BOUND: u64 = 8_000;
+const BOUND: u64 = 3_000;
+const SLOW_BOUND: u64 = 10_000;
 
 /// What a world came to.
 struct Ended {
@@ -73,7 +73,7 @@ fn worlds(first: u64, count: u64, without: Option<Habit>) -> Vec<u64> {
 
 /// So many worlds have to have met all of these.
 const STANDARD: u64 = 400;
-const MET: [&str; 15] = [
+const MET: [&str; 16] = [
     "messages",
     "messages lost",
     "messages doubled",
@@ -83,6 +83,7 @@ const MET: [&str; 15] = [
     "worlds with a fallback",
     "worlds with several tries of it",
     "gateways died",
+    "hosts that started anew",
     "transactions decided of live gateways",
     "transactions taken up since they stood in the way",
     "proofs that a box handed over",
@@ -96,23 +97,23 @@ fn tried(habit: Habit) -> (Kind, u64, u64) {
     match habit {
         Habit::Fallback => (Kind::Split, 64, 4_000),
         Habit::Doubling => (Kind::Slow, 48, SLOW_BOUND),
-        Habit::Resend => (Kind::Split, 96, 4_000),
-        Habit::Handover => (Kind::Plain, 96, 4_000),
-        Habit::Bodies => (Kind::Sow, 24, 4_000),
+        Habit::Resend => (Kind::Split, 160, 4_000),
+        Habit::Handover => (Kind::Plain, 160, 4_000),
+        Habit::Bodies => (Kind::Sow, 48, 4_000),
         Habit::SignedViews => (Kind::ForgeViews, 64, 4_000),
         Habit::SignedLeader => (Kind::ForgeLeader, 96, 4_000),
-        Habit::Pacing => (Kind::Raise, 32, 1_500),
+        Habit::Pacing => (Kind::Raise, 96, 1_500),
     }
 }
 
-/// With the habit every world of these seeds ends, without it one hangs at least.
-fn needed(habit: Habit, name: &str) -> bool {
+/// With the habit every world of these seeds ends, without it one hangs at least; and the row of docs/GATEWAY.md.
+fn needed(habit: Habit, name: &str) -> (bool, String) {
     let (kind, most, limit) = tried(habit);
     let seeds: Vec<u64> = (1..=most).filter(|seed| seeds::kind(*seed) == kind).collect();
     let hung = |without| seeds.iter().filter(|seed| !run(**seed, without, limit).done).count();
     let (with, without) = (hung(None), hung(Some(habit)));
     println!("without {name:13} {without:3} of {:3} worlds hang, with it {with}", seeds.len());
-    with == 0 && without > 0
+    (with == 0 && without > 0, format!("| {name} | {without} of {} | {} |", seeds.len(), seeds::told(kind)))
 }
 
 /// docs/GATEWAY.md has the rows that were measured.
@@ -131,22 +132,29 @@ fn all(count: u64, first: u64) -> bool {
     wrong.iter().take(5).for_each(|what| println!("{what}"));
     let bad = worlds(first, count, None);
     println!("{} worlds hung, took too long or went wrong {:?}", bad.len(), &bad[..bad.len().min(20)]);
-    let habits = HABITS.iter().filter(|(habit, name)| !needed(*habit, name)).count();
+    let habits: Vec<(bool, String)> = HABITS.iter().map(|(habit, name)| needed(*habit, name)).collect();
     let mut unmended = 0;
     for (what, shown) in unmended::shown() {
         println!("not mended: {what}: {}", shown.err().unwrap_or("as the document says"));
         unmended += usize::from(shown.is_err());
     }
-    documented(&rows) && wrong.is_empty() && bad.is_empty() && habits == 0 && unmended == 0
+    let rows: Vec<String> = rows.into_iter().chain(habits.iter().map(|(_, row)| row.clone())).collect();
+    documented(&rows) && wrong.is_empty() && bad.is_empty() && habits.iter().all(|(needed, _)| *needed) && unmended == 0
 }
 
-/// `gateways [COUNT [SEED]]`, all of it; `gateways COUNT SEED --without HABIT`, what then hangs; `gateways --pictures FOLDER`.
+/// `gateways [COUNT [SEED]]`, all of it; `gateways COUNT SEED --worlds`, the worlds alone; `gateways COUNT SEED --without HABIT`, what then hangs; `gateways --pictures
+/// FOLDER`.
 pub fn check(words: &[String]) -> bool {
     let number = |place: usize, default: u64| words.get(place).and_then(|word| word.parse().ok()).unwrap_or(default);
     let (count, first) = (number(0, STANDARD), number(1, 1));
     let behind = |name: &str| words.iter().position(|word| word == name).map(|at| words.get(at + 1).cloned().unwrap_or_default());
     if let Some(folder) = behind("--pictures") {
         return picture::draw(&folder);
+    }
+    if words.iter().any(|word| word == "--worlds") {
+        let bad = worlds(first, count, None);
+        println!("{} worlds hung, took too long or went wrong {:?}", bad.len(), &bad[..bad.len().min(20)]);
+        return bad.is_empty();
     }
     let Some(name) = behind("--without") else { return all(count, first) };
     let Some((habit, _)) = HABITS.iter().find(|(_, known)| *known == name) else {

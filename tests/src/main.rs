@@ -33,6 +33,8 @@ stobbarel-tests records [COUNT [SEED]]     COUNT records (500000) written by eng
 stobbarel-tests cluster [RUNS [SEED]]      RUNS clusters (20000) of the engine, demand 3 judged after every call
 stobbarel-tests broken [MOST [SEED]]       boxes with a broken rule, and bad boxes: each must be noticed, within MOST clusters (20000)
 stobbarel-tests passages [COUNT [SEED]]    COUNT looks (200000) at passages: reports, corrections and entries beside a model
+stobbarel-tests gateways [COUNT [SEED]]    what each way through costs, a gateway that dies at each step, COUNT worlds (400) with liars and evil gateways, each habit left out
+                                           once; with --worlds the worlds alone, with --without HABIT what then hangs, with --pictures FOLDER the drawings
 stobbarel-tests incident                   the night that one correction was decided both ways, and why it cannot be again
 stobbarel-tests bench PROGRAM [RUNS [SEED]]  RUNS inputs (400) for the bench program, its output against the model's
 stobbarel-tests stored PROGRAM FOLDER      the folder's stored input for the bench program, and what it has to print

@@ -28,6 +28,13 @@ impl Host {
         Host { table, skew, stamps: BTreeSet::new(), proofs: BTreeMap::new(), wanted: BTreeMap::new(), leaders: BTreeMap::new(), paces: BTreeMap::new() }
     }
 
+    /// What a host keeps in memory only is gone: its leader's side, its pace, and who wants to hear of what.
+    fn restart(&mut self) {
+        self.wanted.clear();
+        self.leaders.clear();
+        self.paces.clear();
+    }
+
     fn clock(&self, now: u64) -> u64 {
         (FIRST_MOMENT + now + self.skew) * MOMENT
     }
@@ -70,6 +77,10 @@ impl World {
     pub fn at_box(&mut self, number: u8, from: Party, depth: u64, mail: Mail) {
         if self.lies(number) {
             return self.lie(number, from, depth, mail);
+        }
+        if self.now < self.net.calm && self.random.chance(1) {
+            self.hosts[number as usize].restart();
+            self.meet("hosts that started anew");
         }
         match mail {
             Mail::Message(message) => self.message(number, from, depth, &message),

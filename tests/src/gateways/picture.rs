@@ -70,18 +70,32 @@ fn sequence(title: &str, n: u8, arrows: &[Arrow]) -> String {
         let (x, name) = (60 + LANE * u64::from(number), if number == 0 { "gateway".into() } else { format!("box {}", number - 1) });
         out += &format!("<text x=\"{x}\" y=\"40\" text-anchor=\"middle\">{name}</text><line x1=\"{x}\" x2=\"{x}\" y1=\"46\" y2=\"{high}\" stroke=\"#bbb\"/>\n");
     }
-    for arrow in arrows {
-        let (x1, x2, y1, y2) = (lane(arrow.from), lane(arrow.to), places[&arrow.sent], places[&arrow.arrives]);
-        let colour = if arrow.from == arrow.to { continue } else { colour(&arrow.text) };
+    for ((sent, arrives, from, to), text) in together(arrows) {
+        let (x1, x2, y1, y2, colour) = (lane(from), lane(to), places[&sent], places[&arrives], colour(&text));
         out += &format!("<line x1=\"{x1}\" y1=\"{y1}\" x2=\"{x2}\" y2=\"{y2}\" stroke=\"{colour}\" marker-end=\"url(#tip)\"/>\n");
-        let (x, y) = ((x1 + 3 * x2) / 4, (y1 + 3 * y2) / 4 - 2);
-        out += &format!("<text x=\"{x}\" y=\"{y}\" text-anchor=\"middle\" fill=\"{colour}\" font-size=\"9\">{}</text>\n", arrow.text);
+        // at the end where arrows are apart
+        let far = if matches!(to, Party::Desk(_)) || text.starts_with("elect") { 1 } else { 3 };
+        let (x, y) = (((4 - far) * x1 + far * x2) / 4, ((4 - far) * y1 + far * y2) / 4 - 2);
+        out += &format!("<text x=\"{x}\" y=\"{y}\" text-anchor=\"middle\" fill=\"{colour}\" font-size=\"9\">{text}</text>\n");
     }
     out + "</svg>\n"
 }
 
+/// What goes the same way at the same time is one arrow.
+fn together(arrows: &[Arrow]) -> BTreeMap<(u64, u64, Party, Party), String> {
+    let mut out: BTreeMap<(u64, u64, Party, Party), String> = BTreeMap::new();
+    for arrow in arrows.iter().filter(|arrow| arrow.from != arrow.to) {
+        let text = out.entry((arrow.sent, arrow.arrives, arrow.from, arrow.to)).or_default();
+        if !text.split(", ").any(|one| one == arrow.text) {
+            let comma = if text.is_empty() { "" } else { ", " };
+            *text += &format!("{comma}{}", arrow.text);
+        }
+    }
+    out
+}
+
 fn colour(text: &str) -> &'static str {
-    match text.split(' ').next().unwrap_or("") {
+    match text.split([' ', ',', '′']).next().unwrap_or("") {
         "PR" | "LG" | "DC" => "#0b5394",
         "IV" | "LD" | "elect" | "view" => "#b45f06",
         "way?" | "held?" | "told" => "#38761d",

@@ -27,6 +27,19 @@ pub enum Kind {
 
 const KINDS: [Kind; 8] = [Kind::Plain, Kind::Split, Kind::Raise, Kind::ForgeViews, Kind::Plain, Kind::ForgeLeader, Kind::Sow, Kind::Slow];
 
+/// What such a world is, in a document's words.
+pub fn told(kind: Kind) -> &'static str {
+    match kind {
+        Kind::Plain => "dying gateways and liars",
+        Kind::Split => "logged both ways",
+        Kind::Raise => "logged both ways, and views raised without end",
+        Kind::ForgeViews => "logged both ways, and views told that nobody stands in",
+        Kind::ForgeLeader => "logged both ways, and LDs in others' names",
+        Kind::Sow => "false bodies sown",
+        Kind::Slow => "logged both ways, and boxes far from each other",
+    }
+}
+
 pub fn kind(seed: u64) -> Kind {
     KINDS[(seed % KINDS.len() as u64) as usize]
 }

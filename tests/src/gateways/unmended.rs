@@ -4,6 +4,7 @@ use super::liars::Style;
 use super::world::{model_tx, Mail, Operation, World, EVIL, EVIL_WRITER, FIRST_MOMENT, FLOWS, MOMENT};
 use crate::messages::pr;
 use crate::model::transaction_bytes;
+use stobbarel::layout::table_len;
 use stobbarel::{Decision, Group, Key, Stamp, Table, Transaction};
 
 const START: u64 = 50;
@@ -60,7 +61,28 @@ fn full_box() -> Result<(), &'static str> {
     world.signed.insert(filler.clone());
     world.at_box(5, EVIL, 0, Mail::Message(pr(&filler)));
     world.add_station(None, vec![(START, Operation { reads: vec![], writes: vec![0], again: 0 })]);
-    if world.run(LONG) { Err("a full box and f silent ones hold nothing up") } else { Ok(()) }
+    if world.run(LONG) {
+        return Err("a full box and f silent ones hold nothing up");
+    }
+    // its owner gives it room
+    let mut bytes = world.hosts[5].table.bytes().to_vec();
+    bytes.resize(table_len(8), 0);
+    world.hosts[5].table = Table::kept(group, 8, bytes, *world.hosts[5].table.marks());
+    if world.run(2 * LONG) { Ok(()) } else { Err("room does not mend a full box") }
+}
+
+/// One body is aborted by a proof, and a single box holds the other: it keeps that one undecided.
+fn orphan() -> Result<(), &'static str> {
+    let mut world = World::new(1, 0, 1, FLOWS, None);
+    let stamp = Stamp((FIRST_MOMENT + 5) * MOMENT + EVIL_WRITER);
+    (0..6).for_each(|number| drop(world.hosts[number].newest(Key(0), Stamp(stamp.0 + 1), 0)));
+    fork(&mut world, &[0, 1, 2, 3, 4]);
+    let sweeper = world.add_station(None, vec![]);
+    world.sweep(sweeper, stamp);
+    world.run_until(LONG, |_| false);
+    let aborted = (0..5).all(|number| world.hosts[number].decided(&forked(1)) == Some(Decision::Abort));
+    let left = world.hosts[5].holding(stamp).is_some_and(|(holding, decided)| holding.body == forked(2) && decided.is_none());
+    if aborted && left { Ok(()) } else { Err("the body that one box holds does not stay behind") }
 }
 
 /// All of them, each with what it is.
@@ -68,6 +90,7 @@ pub fn shown() -> Vec<(&'static str, Result<(), &'static str>)> {
     vec![
         ("two bodies under one stamp, at three boxes and three", two_bodies(0, &[0, 1, 2])),
         ("two bodies under one stamp, at four boxes and one, and one is silent", two_bodies(1 << 5, &[0, 1, 2, 3])),
-        ("a full box, and f silent ones", full_box()),
+        ("the other body at a single box, when the one is aborted", orphan()),
+        ("a full box and f silent ones, until it has room", full_box()),
     ]
 }

@@ -11,7 +11,7 @@ use crate::messages::transaction;
 use crate::model::{self, PAPER};
 use crate::random::Random;
 use std::collections::{BTreeMap, BTreeSet};
-use stobbarel::{read_tx, Answer, Decision, Desk, Group, Holding, Key, Letter, Load, Question, Stamp, Timing, Transaction, View};
+use stobbarel::{read_tx, tx_part, Answer, Decision, Desk, Group, Holding, Key, Letter, Load, Question, Stamp, Timing, Transaction, View};
 
 /// What a gateway or a host does that can be left out, to see what hangs.
 #[derive(Clone, Copy, Debug, PartialEq, Eq)]
@@ -309,7 +309,19 @@ impl World {
 
     fn arrow(&mut self, arrives: u64, from: Party, to: Party, mail: &Mail) {
         let sent = self.now;
-        let text = super::picture::label(self.group, mail);
+        if self.arrows.is_none() {
+            return;
+        }
+        let mut text = super::picture::label(self.group, mail);
+        let body = match mail {
+            Mail::Message(message) => tx_part(self.group, message),
+            Mail::Answer(body, ..) | Mail::Elect(body, ..) => body,
+            Mail::Ask(_) | Mail::Told(..) => &[],
+        };
+        // of another's transaction
+        if !body.is_empty() && !self.stations.iter().any(|station| station.cares.iter().any(|care| care.body == body)) {
+            text += "′";
+        }
         self.arrows.iter_mut().for_each(|arrows| arrows.push(Arrow { sent, arrives, from, to, text: text.clone() }));
     }
 
