@@ -127,12 +127,15 @@ fn handed_over() -> (bool, String) {
     (with.is_empty() && !without.is_empty(), format!("| handover | {} of {count} | a gateway dead at each step, and f boxes silent |", without.len()))
 }
 
-/// docs/GATEWAY.md has the rows that were measured.
+/// docs/GATEWAY.md has the rows that were measured, and the pictures beside it are those that are drawn.
 fn documented(rows: &[String]) -> bool {
-    let page = std::fs::read_to_string(concat!(env!("CARGO_MANIFEST_DIR"), "/../docs/GATEWAY.md")).unwrap_or_default();
+    let read = |file: &str| std::fs::read_to_string(format!("{}/../docs/{file}", env!("CARGO_MANIFEST_DIR"))).unwrap_or_default();
+    let page = read("GATEWAY.md");
     let missing: Vec<&String> = rows.iter().filter(|row| !page.lines().any(|line| line == row.as_str())).collect();
     missing.iter().for_each(|row| println!("docs/GATEWAY.md lacks the row {row}"));
-    missing.is_empty()
+    let stale: Vec<String> = picture::pictures().into_iter().filter(|(file, picture)| read(file) != *picture).map(|(file, _)| file).collect();
+    stale.iter().for_each(|file| println!("docs/{file} is not what is drawn: stobbarel-tests gateways --pictures docs"));
+    missing.is_empty() && stale.is_empty()
 }
 
 fn all(count: u64, first: u64) -> bool {

@@ -1,7 +1,7 @@
 //! Pictures of what went on: who sent what to whom, and when it came.
 
 use super::ways::{measure, name, world, Way, WAYS};
-use super::world::{Arrow, Mail, Party, EVIL};
+use super::world::{Arrow, Mail, Party};
 use std::collections::{BTreeMap, BTreeSet};
 use stobbarel::{read_message, Answer, Group, Message, Question, Vote};
 
@@ -124,15 +124,20 @@ fn bars() -> String {
     out + "</svg>\n"
 }
 
-/// Each way's picture, f = 1, into a folder.
-pub fn draw(folder: &str) -> bool {
-    let pictures = [("fast", Way::Commit), ("logged", Way::Logged), ("fallback", Way::Fallback), ("misled", Way::Misled(1)), ("rescue", Way::Below(1))];
-    let drawn = pictures.map(|(file, way)| {
+/// Each way's picture, f = 1, and the bars: file names and what stands in them.
+pub fn pictures() -> Vec<(String, String)> {
+    let ways = [("fast", Way::Commit), ("logged", Way::Logged), ("fallback", Way::Fallback), ("misled", Way::Misled(1)), ("rescue", Way::Below(1))];
+    let mut all: Vec<(String, String)> = vec![("gateway-ways.svg".into(), bars())];
+    for (file, way) in ways {
         let mut world = world(way, 1, None, None, None);
         world.arrows = Some(vec![]);
         world.run(10_000);
-        let arrows: Vec<Arrow> = world.arrows.take().unwrap_or_default().into_iter().filter(|arrow| arrow.to != EVIL).collect();
-        std::fs::write(format!("{folder}/gateway-{file}.svg"), sequence(&name(way), world.n, &arrows)).is_ok()
-    });
-    drawn.iter().all(|one| *one) && std::fs::write(format!("{folder}/gateway-ways.svg"), bars()).is_ok()
+        all.push((format!("gateway-{file}.svg"), sequence(&name(way), world.n, &world.arrows.take().unwrap_or_default())));
+    }
+    all
+}
+
+/// All of them into a folder.
+pub fn draw(folder: &str) -> bool {
+    pictures().iter().all(|(file, picture)| std::fs::write(format!("{folder}/{file}"), picture).is_ok())
 }
