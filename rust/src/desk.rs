@@ -68,6 +68,33 @@ struct Work {
 const MOST_ASKED: u32 = 4;
 
 /// All that one gateway is at work on.
+///
+/// ```
+/// use stobbarel::{Decision, Desk, Group, Key, Load, Stamp, Table, Timing, Transaction};
+///
+/// let group = Group::of(1)?;
+/// let mut boxes: Vec<Table> = (0..6).map(|_| Table::new(group, 8)).collect::<Result<_, _>>()?;
+/// let mut desk = Desk::new(group, Timing { patience: 10, first_try: 20, doublings: 10, farewells: 5 });
+///
+/// // 50 writes 7 at key 3. The letters go to the boxes, their answers come back, and there are more letters.
+/// let tx = Transaction { stamp: Stamp(50), reads: vec![], writes: vec![(Key(3), 7)] };
+/// let (mut letters, mut now) = (desk.care(tx, 0)?, 0);
+/// let body = desk.gateways().next().expect("it is on the desk").body().to_vec();
+/// while desk.due().is_some() {
+///     now += 1;
+///     for letter in std::mem::take(&mut letters) {
+///         if let Load::Message(message) = letter.load {
+///             let answer = boxes[letter.to as usize].receive(100, 10, &message);
+///             letters.extend(desk.hear(letter.to, &body, answer, None, now));
+///         }
+///     }
+///     letters.extend(desk.tick(now));
+/// }
+/// assert_eq!(desk.outcome(&body), Some(Decision::Commit));
+/// // two ways to the proof, two until every box has it
+/// assert_eq!(now, 2);
+/// # Ok::<(), stobbarel::Refusal>(())
+/// ```
 #[derive(Clone, Debug)]
 pub struct Desk {
     group: Group,

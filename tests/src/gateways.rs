@@ -10,8 +10,10 @@ mod unmended;
 mod ways;
 mod world;
 
+use liars::Style;
 use seeds::Kind;
 use std::collections::BTreeMap;
+use ways::Way;
 use world::{Habit, HABITS};
 
 /// How long after it is calm and its last operation has begun a world is run at most, in ticks; a way takes one to three, and up to 250 between boxes that are far from
@@ -60,7 +62,8 @@ fn worlds(first: u64, count: u64, without: Option<Habit>) -> Vec<u64> {
         falls = falls.max(ended.falls);
         ended.met.into_iter().for_each(|(what, times)| *met.entry(what).or_default() += times);
     }
-    println!("{count} worlds from seed {first}: the longest took {} ticks from the calm on, {} where boxes are far from each other; at most {falls} tries", longest[0], longest[1]);
+    let [near, far] = longest;
+    println!("{count} worlds from seed {first}: the longest took {near} ticks from the calm on, {far} where boxes are far from each other; at most {falls} tries");
     for what in MET {
         let times = met.get(what).copied().unwrap_or(0);
         println!("{times:9}  {what}{}", if times == 0 { "  DID NOT OCCUR" } else { "" });
@@ -116,12 +119,23 @@ fn needed(habit: Habit, name: &str) -> (bool, String) {
     (with == 0 && without > 0, format!("| {name} | {without} of {} | {} |", seeds.len(), seeds::told(kind)))
 }
 
-/// docs/GATEWAY.md has the rows that were measured.
+/// A DC that reached some boxes only is what a gateway leaves that dies late: there handing it over is needed more often than in any world of a seed.
+fn handed_over() -> (bool, String) {
+    let dead = |without| ways::deaths_in(Way::Commit, 1, Some(Style::Silent), without);
+    let ((_, with), (count, without)) = (dead(None), dead(Some(Habit::Handover)));
+    println!("without handover, a gateway that died: {} of {count} hang, with it {}", without.len(), with.len());
+    (with.is_empty() && !without.is_empty(), format!("| handover | {} of {count} | a gateway dead at each step, and f boxes silent |", without.len()))
+}
+
+/// docs/GATEWAY.md has the rows that were measured, and the pictures beside it are those that are drawn.
 fn documented(rows: &[String]) -> bool {
-    let page = std::fs::read_to_string(concat!(env!("CARGO_MANIFEST_DIR"), "/../docs/GATEWAY.md")).unwrap_or_default();
+    let read = |file: &str| std::fs::read_to_string(format!("{}/../docs/{file}", env!("CARGO_MANIFEST_DIR"))).unwrap_or_default();
+    let page = read("GATEWAY.md");
     let missing: Vec<&String> = rows.iter().filter(|row| !page.lines().any(|line| line == row.as_str())).collect();
     missing.iter().for_each(|row| println!("docs/GATEWAY.md lacks the row {row}"));
-    missing.is_empty()
+    let stale: Vec<String> = picture::pictures().into_iter().filter(|(file, picture)| read(file) != *picture).map(|(file, _)| file).collect();
+    stale.iter().for_each(|file| println!("docs/{file} is not what is drawn: stobbarel-tests gateways --pictures docs"));
+    missing.is_empty() && stale.is_empty()
 }
 
 fn all(count: u64, first: u64) -> bool {
@@ -132,7 +146,7 @@ fn all(count: u64, first: u64) -> bool {
     wrong.iter().take(5).for_each(|what| println!("{what}"));
     let bad = worlds(first, count, None);
     println!("{} worlds hung, took too long or went wrong {:?}", bad.len(), &bad[..bad.len().min(20)]);
-    let habits: Vec<(bool, String)> = HABITS.iter().map(|(habit, name)| needed(*habit, name)).collect();
+    let habits: Vec<(bool, String)> = HABITS.iter().map(|(habit, name)| needed(*habit, name)).chain([handed_over()]).collect();
     let mut unmended = 0;
     for (what, shown) in unmended::shown() {
         println!("not mended: {what}: {}", shown.err().unwrap_or("as the document says"));

@@ -20,6 +20,9 @@ pub enum Style {
 
 pub const STYLES: [Style; 5] = [Style::Silent, Style::TwoFaced, Style::Climber, Style::Sower, Style::Misleader];
 
+/// What a two-faced box votes.
+const VOTES: [Vote; 5] = [Vote::Commit, Vote::Abort(Reason::Overwritten), Vote::Commit, Vote::Abort(Reason::ReadMark), Vote::Waiting];
+
 pub fn bit(number: u8) -> u32 {
     1 << number
 }
@@ -54,7 +57,7 @@ impl World {
         let view = if self.style == Style::Climber { View(65535) } else { self.highest(&body) };
         let answer = match read {
             Message::Prepare(_) if self.style == Style::Misleader => Answer::Voted(Vote::Commit),
-            Message::Prepare(_) => Answer::Voted(self.random.one_of(&[Vote::Commit, Vote::Abort(Reason::Overwritten), Vote::Commit, Vote::Abort(Reason::ReadMark), Vote::Waiting])),
+            Message::Prepare(_) => Answer::Voted(self.random.one_of(&VOTES)),
             Message::Log(_, list) if self.style == Style::Misleader => Answer::Logged(list.decision, View(0)),
             Message::Log(..) => Answer::Logged(self.either(), if self.random.chance(80) { View(0) } else { view }),
             Message::Invoke(tx, _) => Answer::Elected { decision: self.either(), view, leader: self.leader(tx.stamp, view) },

@@ -1,7 +1,7 @@
 //! Pictures of what went on: who sent what to whom, and when it came.
 
 use super::ways::{measure, name, world, Way, WAYS};
-use super::world::{Arrow, Mail, Party, EVIL};
+use super::world::{Arrow, Mail, Party};
 use std::collections::{BTreeMap, BTreeSet};
 use stobbarel::{read_message, Answer, Group, Message, Question, Vote};
 
@@ -68,7 +68,8 @@ fn sequence(title: &str, n: u8, arrows: &[Arrow]) -> String {
     out += &format!("<text x=\"8\" y=\"16\" font-weight=\"bold\">{title}</text>\n");
     for number in 0..=n {
         let (x, name) = (60 + LANE * u64::from(number), if number == 0 { "gateway".into() } else { format!("box {}", number - 1) });
-        out += &format!("<text x=\"{x}\" y=\"40\" text-anchor=\"middle\">{name}</text><line x1=\"{x}\" x2=\"{x}\" y1=\"46\" y2=\"{high}\" stroke=\"#bbb\"/>\n");
+        out += &format!("<text x=\"{x}\" y=\"40\" text-anchor=\"middle\">{name}</text>");
+        out += &format!("<line x1=\"{x}\" x2=\"{x}\" y1=\"46\" y2=\"{high}\" stroke=\"#bbb\"/>\n");
     }
     for ((sent, arrives, from, to), text) in together(arrows) {
         let (x1, x2, y1, y2, colour) = (lane(from), lane(to), places[&sent], places[&arrives], colour(&text));
@@ -113,24 +114,30 @@ fn bars() -> String {
         out += &format!("<text x=\"310\" y=\"{}\" text-anchor=\"end\">{}</text>\n", y + 15, name(way));
         for (f, colour) in [(1, "#0b5394"), (2, "#9fc5e8")] {
             let Some((hops, messages)) = measure(way, f) else { continue };
-            let y = y + 11 * (f - 1);
-            out += &format!("<rect x=\"330\" y=\"{y}\" width=\"{}\" height=\"10\" fill=\"{colour}\"/><text x=\"{}\" y=\"{}\">{hops}</text>\n", 2 * hops, 334 + 2 * hops, y + 9);
-            let wide = messages / 5;
-            out += &format!("<rect x=\"540\" y=\"{y}\" width=\"{wide}\" height=\"10\" fill=\"{colour}\"/><text x=\"{}\" y=\"{}\">{messages}</text>\n", 544 + wide, y + 9);
+            for (x, wide, number) in [(330, 2 * hops, hops), (540, messages / 5, messages)] {
+                let y = y + 11 * (f - 1);
+                out += &format!("<rect x=\"{x}\" y=\"{y}\" width=\"{wide}\" height=\"10\" fill=\"{colour}\"/>");
+                out += &format!("<text x=\"{}\" y=\"{}\">{number}</text>\n", x + wide + 4, y + 9);
+            }
         }
     }
     out + "</svg>\n"
 }
 
-/// Each way's picture, f = 1, into a folder.
-pub fn draw(folder: &str) -> bool {
-    let pictures = [("fast", Way::Commit), ("logged", Way::Logged), ("fallback", Way::Fallback), ("misled", Way::Misled(1)), ("rescue", Way::Below(1))];
-    let drawn = pictures.map(|(file, way)| {
+/// Each way's picture, f = 1, and the bars: file names and what stands in them.
+pub fn pictures() -> Vec<(String, String)> {
+    let ways = [("fast", Way::Commit), ("logged", Way::Logged), ("fallback", Way::Fallback), ("misled", Way::Misled(1)), ("rescue", Way::Below(1))];
+    let mut all: Vec<(String, String)> = vec![("gateway-ways.svg".into(), bars())];
+    for (file, way) in ways {
         let mut world = world(way, 1, None, None, None);
         world.arrows = Some(vec![]);
         world.run(10_000);
-        let arrows: Vec<Arrow> = world.arrows.take().unwrap_or_default().into_iter().filter(|arrow| arrow.to != EVIL).collect();
-        std::fs::write(format!("{folder}/gateway-{file}.svg"), sequence(&name(way), world.n, &arrows)).is_ok()
-    });
-    drawn.iter().all(|one| *one) && std::fs::write(format!("{folder}/gateway-ways.svg"), bars()).is_ok()
+        all.push((format!("gateway-{file}.svg"), sequence(&name(way), world.n, &world.arrows.take().unwrap_or_default())));
+    }
+    all
+}
+
+/// All of them into a folder.
+pub fn draw(folder: &str) -> bool {
+    pictures().iter().all(|(file, picture)| std::fs::write(format!("{folder}/{file}"), picture).is_ok())
 }

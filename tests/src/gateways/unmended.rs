@@ -75,7 +75,9 @@ fn full_box() -> Result<(), &'static str> {
 fn orphan() -> Result<(), &'static str> {
     let mut world = World::new(1, 0, 1, FLOWS, None);
     let stamp = Stamp((FIRST_MOMENT + 5) * MOMENT + EVIL_WRITER);
-    (0..6).for_each(|number| drop(world.hosts[number].newest(Key(0), Stamp(stamp.0 + 1), 0)));
+    for host in &mut world.hosts {
+        host.newest(Key(0), Stamp(stamp.0 + 1), 0);
+    }
     fork(&mut world, &[0, 1, 2, 3, 4]);
     let sweeper = world.add_station(None, vec![]);
     world.sweep(sweeper, stamp);

@@ -152,15 +152,20 @@ pub fn deaths(without: Option<Habit>) -> (u64, Vec<String>) {
     let ways = |f: u64| WAYS.into_iter().filter(move |way| !matches!(way, Way::Below(4 | 8)) && (*way != Way::Misled(2) || f == 2));
     for (f, way) in [1, 2].into_iter().flat_map(|f| ways(f).map(move |way| (f, way))) {
         for style in styles(way) {
-            let mut whole = world(way, f, None, style.map(|style| (some_liars(f), style)), without);
-            whole.run(8_000);
-            for after in 0..=whole.stations[0].sent {
-                count += 1;
-                wrong.extend(death(way, f, after, style, without));
-            }
+            let (died, left) = deaths_in(way, f, style, without);
+            count += died;
+            wrong.extend(left);
         }
     }
     (count, wrong)
+}
+
+/// The same in one way, with these liars.
+pub fn deaths_in(way: Way, f: u64, style: Option<Style>, without: Option<Habit>) -> (u64, Vec<String>) {
+    let mut whole = world(way, f, None, style.map(|style| (some_liars(f), style)), None);
+    whole.run(8_000);
+    let steps = 0..=whole.stations[0].sent;
+    (steps.clone().count() as u64, steps.filter_map(|after| death(way, f, after, style, without)).collect())
 }
 
 /// f of the boxes, apart from each other.
