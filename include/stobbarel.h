@@ -153,6 +153,15 @@ static inline void stobbarel_lead(uint8_t *table, size_t table_len, uint64_t mar
     stobbarel_due(STOBBAREL_LD, table, table_len, marks, f, capacity, clock, delta, message, message_len, answer);
 }
 
+/* What a table holds under a stamp, that of its first entry with it. 0; or 14 (the capacity), 16, out being all 0. out is eight numbers, all 0
+ * where nothing is held:
+ *   where the transaction's bytes (TX) begin in the table, and how many they are
+ *   vote (0 none, 1 commit, 2 abort, 3 waiting), reason (1 to 6 beside an abort, else 0)
+ *   decision (0 none, 1 commit, 2 abort)
+ *   logged decision (0 none, 1 commit, 2 abort), the view that it was logged in (0 where nothing is)
+ *   current view */
+uint8_t stobbarel_held(const uint8_t *table, size_t table_len, uint64_t capacity, uint64_t stamp, uint64_t out[8]);
+
 /* ---- records read */
 
 /* Any of the six messages, read alone: 0, or the refusal's number (14, 1 to 8). Without a clock, so never 15. */
@@ -291,6 +300,9 @@ uint8_t stobbarel_thresholds(uint64_t f, uint64_t out[6]);
 void stobbarel_take(uint8_t kind, uint32_t *commits, uint32_t *aborts, uint64_t f, uint64_t number, uint64_t answer, uint8_t reply[5]);
 
 /* ---- a transaction that a dead gateway left
+ *
+ * A gateway that takes over needs the transaction whole: a box's host reads its bytes off the table by stobbarel_held, and they go behind
+ * the mark of a message as they are.
  *
  * A gateway that finds logs of both decisions, or of several views, asks each box what its current view is, by an IV with what it
  * knows, and sends what it is told in the next IV; box numbers and views go to stobbarel_tell and come back from stobbarel_told. Each

@@ -34,8 +34,9 @@ static int passage(void) {
     return stobbarel_report(128, before, seen, report) != STOBBAREL_PASSAGE;
 }
 
-/* 70 writes key 4. This box has logged commit of it, boxes 3 and 4 abort: no proof can be made. Told that four boxes are in view 0,
- * it moves on to view 1 and gives its election answer; the leader has five, three for commit, and the box logs what they say. */
+/* 70 writes key 4. This box has logged commit of it, boxes 3 and 4 abort: no proof can be made. Its host tells the gateway that takes
+ * over what is held under 70. Told that four boxes are in view 0, it moves on to view 1 and gives its election answer; the leader has
+ * five, three for commit, and the box logs what they say. */
 static int rescue(void) {
     const uint16_t none[8] = {0}, written[8] = {4};
     const uint64_t never[8] = {0}, values[8] = {9};
@@ -43,10 +44,12 @@ static int rescue(void) {
     uint8_t message[STOBBAREL_LONGEST], numbers[26], answers[26], reply[2] = {0};
     uint32_t told = 0, commits = 0, aborts = 0;
     uint16_t views[26] = {0}, listed[26];
-    uint64_t head[4];
+    uint64_t head[4], held[8];
     size_t length, count;
     if (stobbarel_write_lg(F, 70, 0, 1, none, never, written, values, 1, STOBBAREL_COMMIT, 0, 4, boxes, votes, message, sizeof message, &length) != 0) return 1;
     send(stobbarel_log, message, length);
+    if (stobbarel_held(table, sizeof table, CAPACITY, 70, held) != 0 || stobbarel_reading_tx(table + held[0], (size_t)held[1]) != 0) return 1;
+    printf("held under 70: %d bytes from %d on, vote %d, log %d in view %d\n", (int)held[1], (int)held[0], (int)held[2], (int)held[5], (int)held[6]);
     for (uint64_t b = 0; b < 4; b++)
         if (stobbarel_tell(&told, views, F, b, 0) != 0) return 1;
     if (stobbarel_told(told, views, F, &count, numbers, listed) != 0) return 1;

@@ -22,6 +22,13 @@ static void receive(void) {
     stobbarel_receive(table, sizeof table, marks, group, CAPACITY, 1000, 0, message, message_len, answer);
 }
 
+static uint64_t held[8];
+
+/* What is held under the last of the 254 stamps. */
+static void hold(void) {
+    stobbarel_held(table, sizeof table, CAPACITY, 2 * 254, held);
+}
+
 static void due(void) {
     stobbarel_due(mark, table, sizeof table, marks, group, CAPACITY, 1000, 0, message, message_len, answer);
 }
@@ -188,6 +195,10 @@ int main(void) {
     show("RD, 254 entries held", STOBBAREL_FOUND, 0);
     message_len = 1;
     show("a message that cannot be cut", STOBBAREL_REFUSED, STOBBAREL_SHORT);
+    hold(); /* as above */
+    size_t bytes = used(hold) - used(nothing);
+    printf("%-52s %5zu\n", "held, under the last of 254 stamps", bytes);
+    if (held[0] != STOBBAREL_TABLE_LEN(253) + STOBBAREL_BODY_AT || held[1] != 12 + 10 * 16 || bytes > LIMIT) failed = 1;
     group = 0;
     show("refused with 14", STOBBAREL_REFUSED, STOBBAREL_GROUP);
     return failed;

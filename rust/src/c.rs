@@ -4,6 +4,7 @@
 extern "C" {
     pub fn stobbarel_receive(table: *mut u8, table_len: usize, marks: *mut u64, f: u64, capacity: u64, clock: u64, delta: u64, message: *const u8, message_len: usize, answer: *mut u64);
     pub fn stobbarel_due(mark: u64, table: *mut u8, table_len: usize, marks: *mut u64, f: u64, capacity: u64, clock: u64, delta: u64, message: *const u8, message_len: usize, answer: *mut u64);
+    pub fn stobbarel_held(table: *const u8, table_len: usize, capacity: u64, stamp: u64, out: *mut u64) -> u8;
     pub fn stobbarel_reading_tx(bytes: *const u8, bytes_len: usize) -> u8;
     pub fn stobbarel_reading_vl(f: u64, bytes: *const u8, bytes_len: usize) -> u8;
     pub fn stobbarel_reading_vs(f: u64, bytes: *const u8, bytes_len: usize) -> u8;

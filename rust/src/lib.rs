@@ -36,6 +36,7 @@
 
 mod c;
 mod election;
+mod held;
 /// How a table is laid out, as `include/stobbarel.h` has it.
 #[allow(unused_parens)] // a macro in C needs them
 pub mod layout {
@@ -48,9 +49,10 @@ mod table;
 mod terms;
 
 pub use election::{ElectionReply, ElectionSheet, ViewSheet};
+pub use held::Held;
 pub use layout::LONGEST;
 pub use passage::{Asks, Passage, Report, Seen, Values};
-pub use records::{check_el, check_tx, check_vl, check_vs, read_message, tx_part, Election, Message, Transaction, VoteList};
+pub use records::{check_el, check_tx, check_vl, check_vs, read_message, read_tx, tx_part, Election, Message, Transaction, VoteList};
 pub use records::{write_dc, write_el, write_iv, write_ld, write_lg, write_pr, write_rd, write_tx, write_vl, write_vs};
 pub use sheet::{Reply, Sheet};
 pub use table::{Answer, Table, Version, Vote};

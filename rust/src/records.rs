@@ -319,6 +319,16 @@ pub fn read_message(group: Group, message: &[u8]) -> Result<Message, Refusal> {
     })
 }
 
+/// A TX by itself, such as a table holds ([`Table::held`](crate::Table::held)), read to its transaction.
+pub fn read_tx(bytes: &[u8]) -> Result<Transaction, Refusal> {
+    check_tx(bytes)?;
+    // A PR is its mark and a TX, and its reading is one in every group.
+    match read_message(Group::of(1)?, &[b"PR", bytes].concat())? {
+        Message::Prepare(tx) => Ok(tx),
+        _ => unreachable!("it has the mark of a PR"),
+    }
+}
+
 /// The transaction's bytes inside a message, as they stand; empty for a refused message or an RD.
 pub fn tx_part(group: Group, message: &[u8]) -> &[u8] {
     let length = unsafe { c::stobbarel_part(group.f(), message.as_ptr(), message.len()) };

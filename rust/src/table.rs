@@ -1,6 +1,7 @@
 //! One box: its table and read marks, and the calls.
 
 use crate::c;
+use crate::held::Held;
 use crate::layout::{table_len, KEYS};
 use crate::terms::{Decision, Group, Mark, Reason, Refusal, Stamp, View};
 
@@ -23,6 +24,16 @@ impl Vote {
             Vote::Commit => 1,
             Vote::Abort(_) => 2,
             Vote::Waiting => 3,
+        }
+    }
+
+    /// The vote of a number, with the reason's beside it.
+    pub(crate) fn of(number: u64, reason: u64) -> Option<Vote> {
+        match (number, reason) {
+            (1, 0) => Some(Vote::Commit),
+            (2, reason) => Some(Vote::Abort(Reason::of(reason)?)),
+            (3, 0) => Some(Vote::Waiting),
+            _ => None,
         }
     }
 
@@ -71,9 +82,7 @@ impl Answer {
     fn of(row: [u64; 5]) -> Option<Answer> {
         let version = |stamp, value| Version { stamp: Stamp(stamp), value };
         Some(match row {
-            [1, 1, 0, 0, 0] => Answer::Voted(Vote::Commit),
-            [1, 2, reason, 0, 0] => Answer::Voted(Vote::Abort(Reason::of(reason)?)),
-            [1, 3, 0, 0, 0] => Answer::Voted(Vote::Waiting),
+            [1, vote, reason, 0, 0] => Answer::Voted(Vote::of(vote, reason)?),
             [2, decision, 0, 0, 0] => Answer::Decided(Decision::of(decision)?),
             [3, decision, view, 0, 0] => Answer::Logged(Decision::of(decision)?, View(view.try_into().ok()?)),
             [4, 0, 0, 0, 0] => Answer::Done,
@@ -120,6 +129,36 @@ impl Table {
     /// The read marks, to be kept.
     pub fn marks(&self) -> &[u64; KEYS] {
         &self.marks
+    }
+
+    /// What is held under a stamp, none where nothing is. Refused are a table that is not in order ([`Refusal::Table`]), and before it a capacity that is not 1
+    /// to 255 ([`Refusal::Group`]).
+    ///
+    /// A gateway that finishes what another began has to send the transaction whole, and knows its stamp at best. A box's host reads it off the table:
+    ///
+    /// ```
+    /// use stobbarel::{read_tx, write_iv, write_pr, Group, Key, Stamp, Table, Transaction, View, Vote, LONGEST};
+    ///
+    /// let group = Group::of(1)?;
+    /// let mut table = Table::new(group, 8)?;
+    /// let mut buffer = [0; LONGEST];
+    /// let tx = Transaction { stamp: Stamp(50), reads: vec![], writes: vec![(Key(3), 7)] };
+    /// let length = write_pr(&tx, &mut buffer)?;
+    /// table.receive(100, 10, &buffer[..length]);
+    ///
+    /// let held = table.held(Stamp(50))?.expect("the box voted on it");
+    /// assert_eq!((held.vote, held.logged, held.decided, held.view), (Some(Vote::Commit), None, None, View(0)));
+    /// // The bytes are what the box was sent; another gateway reads them, and goes on with its own messages.
+    /// assert_eq!(held.body, &buffer[2..length]);
+    /// let whole = read_tx(held.body)?;
+    /// assert_eq!(whole, tx);
+    /// write_iv(group, &whole, &[(0, held.view)], &mut buffer)?;
+    ///
+    /// assert_eq!(table.held(Stamp(51))?, None);
+    /// # Ok::<(), stobbarel::Refusal>(())
+    /// ```
+    pub fn held(&self, stamp: Stamp) -> Result<Option<Held<'_>>, Refusal> {
+        Held::of(&self.bytes, self.capacity, stamp)
     }
 
     /// One call, handed pointers to table, length, read marks and answer.

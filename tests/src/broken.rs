@@ -5,7 +5,7 @@ use crate::cluster::{self, Counts, Plan};
 use crate::compare::{first_difference, first_difference_in_ballots, first_difference_in_tally};
 use crate::engine::Entrance;
 use crate::member::{Engine, Member, Model};
-use crate::model::{self, Answer, Decision, Election, ElectionReply, ElectionSheet, Reply, Rule, Rules, Settings, Sheet, ViewSheet, PAPER};
+use crate::model::{self, row_at, Answer, Decision, Election, ElectionReply, ElectionSheet, Holding, Reply, Rule, Rules, Settings, Sheet, ViewSheet, PAPER};
 use crate::records;
 use stobbarel::layout::{BODY_AT, HEAD, REASON_AT, ROW, VOTE_AT};
 
@@ -247,6 +247,14 @@ enum Bad {
     LeadsToCommit,
     /// Its gateway keeps the last view that a box told.
     KeepsTheLastView,
+    /// Of two entries with a stamp it holds the last.
+    HoldsTheLast,
+    /// It says that nothing is held where the refusal of that number is due.
+    HoldsNothingFor(u8),
+    /// It tells a body to the end of its row.
+    HoldsTheWholeRow,
+    /// It tells the current view for that of the log.
+    HoldsOneView,
 }
 
 impl Member for Bad {
@@ -341,6 +349,23 @@ impl Member for Bad {
         }
         Ok(())
     }
+
+    fn held(&mut self, table: &[u8], capacity: u64, stamp: u64) -> Result<Option<Holding>, u8> {
+        let own = || model::held(table, capacity, stamp);
+        match self {
+            Bad::HoldsTheLast => {
+                let held = own()?;
+                let places = (0..table[0].into()).filter(|place| table[row_at(*place) + BODY_AT + 4..][..8] == stamp.to_le_bytes());
+                let Some(last) = places.last() else { return Ok(held) };
+                let alone = [&[1], &table[row_at(last)..row_at(last + 1)]].concat();
+                Ok(model::held(&alone, 1, stamp)?.map(|held| Holding { at: row_at(last) + BODY_AT, ..held }))
+            }
+            Bad::HoldsNothingFor(refusal) => own().or_else(|number| if number == *refusal { Ok(None) } else { Err(number) }),
+            Bad::HoldsTheWholeRow => Ok(own()?.map(|held| Holding { body: table[held.at..held.at + ROW - BODY_AT].to_vec(), ..held })),
+            Bad::HoldsOneView => Ok(own()?.map(|held| Holding { log: held.log.map(|log| (log.0, held.view)), ..held })),
+            _ => own(),
+        }
+    }
 }
 
 impl Bad {
@@ -413,6 +438,11 @@ pub fn check(most: u64, seed: u64) -> bool {
     passed &= compared("a leader that lists all the answers it has", Bad::ListsThemAll, seed, true);
     passed &= compared("a leader that decides for commit where it can", Bad::LeadsToCommit, seed, true);
     passed &= compared("a gateway that keeps the last view told", Bad::KeepsTheLastView, seed, true);
+    passed &= compared("a box that holds the last of two entries", Bad::HoldsTheLast, seed, true);
+    passed &= compared("a box that holds nothing where the capacity is wrong", Bad::HoldsNothingFor(14), seed, true);
+    passed &= compared("a box that holds nothing where the table is wrong", Bad::HoldsNothingFor(16), seed, true);
+    passed &= compared("a box that holds a body to the end of its row", Bad::HoldsTheWholeRow, seed, true);
+    passed &= compared("a box that tells the current view for the log's", Bad::HoldsOneView, seed, true);
     passed &= compared("the engine", Engine, seed, false);
     println!("{}", if passed { "each broken rule and each bad box was noticed" } else { "FAILED" });
     passed

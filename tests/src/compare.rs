@@ -3,6 +3,7 @@
 //! disagreement, and any that did not occur at all, makes it fail.
 
 use crate::engine::{self, Entrance};
+use crate::holdings::{Asked, HOLDINGS};
 use crate::member::Member;
 use crate::messages::{ld, tx, with_view};
 use crate::mix;
@@ -357,7 +358,10 @@ pub fn first_difference(one: &mut dyn Member, count: u64, seed: u64) -> Option<(
     let (mut copies, mut done, mut first) = (Copies::default(), 0, None);
     for_each_message(&mut Random::new(seed), count, |call| {
         done += 1;
-        first = copies.call(one, call, &mut Vec::new()).1.err().map(|how| (done, how));
+        let (capacity, message) = (call.how.settings.capacity, call.how.message);
+        let agreed = copies.call(one, call, &mut Vec::new()).1;
+        let agreed = agreed.and_then(|()| Asked::after(&copies.got, capacity, message).compare(one, &mut Vec::new()));
+        first = agreed.err().map(|how| (done, how));
         if first.is_none() { Then::GoOn } else { Then::Stop }
     });
     first
@@ -608,6 +612,7 @@ impl Counts {
         for_each_message(random, count, |call| {
             let how = call.how;
             let (due, agreed) = copies.call(one, call, &mut met);
+            let agreed = agreed.and_then(|()| Asked::after(&copies.got, how.settings.capacity, how.message).compare(one, &mut met));
             trail.follow(how, &copies.before, due, &mut met);
             *self.answers.entry(name(due)).or_default() += 1;
             *self.entrances.entry(how.entrance.name()).or_default() += 1;
@@ -676,7 +681,7 @@ pub fn check(one: &mut dyn Member, count: u64, seed: u64) -> bool {
     let mut random = Random::new(seed);
     let mut counts = Counts::default();
     let runs = counts.messages(one, &mut random, count);
-    println!("{count} messages in {runs} runs, seed {seed}, each also read alone");
+    println!("{count} messages in {runs} runs, seed {seed}, each also read alone, and after each one stamp looked up");
     let mut missing = print(&counts.entrances, &Entrance::NAMES);
     let given: Vec<&'static str> = ANSWERS.into_iter().filter(|one| *one != NEVER).collect();
     missing += print(&counts.answers, &given);
@@ -684,6 +689,7 @@ pub fn check(one: &mut dyn Member, count: u64, seed: u64) -> bool {
     println!("{never:9}  {NEVER}, which is no longer given");
     missing += print(&counts.cases, &model::CASES);
     missing += print(&counts.cases, &CIRCUMSTANCES);
+    missing += print(&counts.cases, &HOLDINGS);
     counts.sheets(one, &mut random, count / 4);
     println!("{} answers for tally sheets", count / 4);
     for (reply, times) in &counts.replies {

@@ -1,11 +1,12 @@
 //! The engine's C functions, and one call of them on copies between guards.
 
-use crate::model::{Answer, Decision, Draft, Election, ElectionReply, ElectionSheet, ListDraft, Record, Reply, Settings, Sheet, ViewSheet, ViewsDraft, MARKS};
+use crate::model::{Answer, Decision, Draft, Election, ElectionReply, ElectionSheet, Holding, ListDraft, Record, Reply, Settings, Sheet, ViewSheet, ViewsDraft, Vote, MARKS};
 
 #[allow(improper_ctypes)]
 extern "C" {
     fn stobbarel_receive(table: *mut u8, table_len: usize, marks: *mut u64, f: u64, capacity: u64, clock: u64, delta: u64, message: *const u8, message_len: usize, out: *mut u64);
     fn stobbarel_due(mark: u64, table: *mut u8, table_len: usize, marks: *mut u64, f: u64, capacity: u64, clock: u64, delta: u64, message: *const u8, message_len: usize, out: *mut u64);
+    fn stobbarel_held(table: *const u8, table_len: usize, capacity: u64, stamp: u64, out: *mut u64) -> u8;
     fn stobbarel_reading(f: u64, message: *const u8, message_len: usize) -> u8;
     fn stobbarel_part(f: u64, message: *const u8, message_len: usize) -> usize;
     fn stobbarel_take(kind: u8, commits: *mut u32, aborts: *mut u32, f: u64, number: u64, answer: u64, reply: *mut u8);
@@ -131,6 +132,41 @@ pub fn call(entrance: Entrance, table: &mut Vec<u8>, marks: &mut Vec<u64>, s: &S
     table.copy_from_slice(&room[GUARD..GUARD + n]);
     marks.copy_from_slice(&places[8..520]);
     Ok([out[2], out[3], out[4], out[5], out[6]])
+}
+
+/// What a table holds under a stamp, over what stood in the eight places; the refusal 255 where they say nothing that can be held, or a byte that is not lent for
+/// writing was written.
+pub fn held(table: &[u8], capacity: u64, stamp: u64) -> Result<Option<Holding>, u8> {
+    let lent = table.to_vec();
+    let mut out = [0x5a5au64; 12];
+    let number = unsafe { stobbarel_held(lent.as_ptr(), lent.len(), capacity, stamp, out[2..].as_mut_ptr()) };
+    let [0x5a5a, 0x5a5a, row @ .., 0x5a5a, 0x5a5a] = out else { return Err(255) };
+    match number {
+        _ if lent != table => Err(255),
+        0 if row == [0; 8] => Ok(None),
+        0 => holding_of(table, row).map_or(Err(255), |holding| Ok(Some(holding))),
+        number => Err(if row == [0; 8] { number } else { 255 }),
+    }
+}
+
+/// The eight numbers as what is held; none where they say nothing that can be.
+fn holding_of(table: &[u8], [at, length, vote, reason, decided, logged, logged_in, view]: [u64; 8]) -> Option<Holding> {
+    let vote = match (vote, reason) {
+        (0, 0) => Vote::None,
+        (1, 0) => Vote::Commit,
+        (2, reason @ 1..=6) => Vote::Abort(reason as u8),
+        (3, 0) => Vote::Waiting,
+        _ => return None,
+    };
+    let settled = |code| if code == 0 { Some(None) } else { decision(code).map(Some) };
+    let log = match (settled(logged)?, u16::try_from(logged_in).ok()?) {
+        (None, 0) => None,
+        (None, _) => return None,
+        (Some(decision), view) => Some((decision, view)),
+    };
+    let (at, length) = (usize::try_from(at).ok()?, usize::try_from(length).ok()?);
+    let body = table.get(at..at.checked_add(length)?)?.to_vec();
+    Some(Holding { at, body, vote, decision: settled(decided)?, log, view: view.try_into().ok()? })
 }
 
 /// Reading alone: the length of the transaction's bytes, or the refusal.

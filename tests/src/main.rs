@@ -6,6 +6,7 @@ mod broken;
 mod cluster;
 mod compare;
 mod engine;
+mod holdings;
 mod incident;
 mod judge;
 mod member;
@@ -24,8 +25,8 @@ use std::io::{Read, Write};
 use std::process::exit;
 
 const USAGE: &str = "\
-stobbarel-tests [compare] [COUNT [SEED]]   COUNT messages (2000000) on the engine and on the model
-stobbarel-tests vectors                    records read and written, messages by each entrance, LGs before the PR, lists, the fallback, answers taken by sheets, as the papers have them
+stobbarel-tests [compare] [COUNT [SEED]]   COUNT messages (2000000) on the engine and on the model, and what the table holds after each
+stobbarel-tests vectors                    records read and written, messages by each entrance, LGs before the PR, lists, the fallback, what is held, answers taken by sheets, as the papers have them
 stobbarel-tests bodies                     two bodies under one stamp that differ in little: each byte, counts alone, length
 stobbarel-tests records [COUNT [SEED]]     COUNT records (500000) written by engine and model, each read as it is and damaged
 stobbarel-tests cluster [RUNS [SEED]]      RUNS clusters (20000) of the engine, demand 3 judged after every call

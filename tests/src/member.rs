@@ -2,7 +2,7 @@
 //! The engine is one; the model is one, with rules that may be broken; broken.rs has bad ones.
 
 use crate::engine::{self, Entrance};
-use crate::model::{self, Answer, Election, ElectionReply, ElectionSheet, Reply, Rules, Settings, Sheet, ViewSheet};
+use crate::model::{self, Answer, Election, ElectionReply, ElectionSheet, Holding, Reply, Rules, Settings, Sheet, ViewSheet};
 
 pub trait Member {
     /// Table and read marks become what the box leaves. An error is an answer that cannot be read, or a write beside what was lent.
@@ -26,6 +26,11 @@ pub trait Member {
 
     fn told(&mut self, sheet: &ViewSheet, f: u64) -> Result<Vec<(u8, u16)>, u8> {
         model::told(sheet, f)
+    }
+
+    /// What its table holds under a stamp, the model's answer where a member has none of its own.
+    fn held(&mut self, table: &[u8], capacity: u64, stamp: u64) -> Result<Option<Holding>, u8> {
+        model::held(table, capacity, stamp)
     }
 }
 
@@ -58,6 +63,10 @@ impl Member for Engine {
 
     fn told(&mut self, sheet: &ViewSheet, f: u64) -> Result<Vec<(u8, u16)>, u8> {
         engine::told(sheet, f)
+    }
+
+    fn held(&mut self, table: &[u8], capacity: u64, stamp: u64) -> Result<Option<Holding>, u8> {
+        engine::held(table, capacity, stamp)
     }
 }
 
@@ -121,6 +130,11 @@ impl Member for Beside {
 
     fn told(&mut self, sheet: &ViewSheet, f: u64) -> Result<Vec<(u8, u16)>, u8> {
         let (given, due) = (engine::told(sheet, f), model::told(sheet, f));
+        if given == due { given } else { Err(255) }
+    }
+
+    fn held(&mut self, table: &[u8], capacity: u64, stamp: u64) -> Result<Option<Holding>, u8> {
+        let (given, due) = (engine::held(table, capacity, stamp), model::held(table, capacity, stamp));
         if given == due { given } else { Err(255) }
     }
 }

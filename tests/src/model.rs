@@ -1,13 +1,16 @@
 //! A box as the paper describes it, in ordinary Rust: records read from bytes, a list of entries, and the six messages.
 //! It is written from the paper, with docs/DECISIONS.md where that leaves room, and shares no code with the engine that it is held against;
 //! how a lent table is laid out is the interface's, from include/stobbarel.h.
-//! What finishes a transaction that a dead gateway left is in model/fallback.rs.
+//! What finishes a transaction that a dead gateway left is in model/fallback.rs, what a table holds under a stamp in model/held.rs.
 //! `self.rules.hold(..)` marks the rules that broken.rs breaks, one at a time; in the paper's box all of them hold.
 
 #[path = "model/fallback.rs"]
 mod fallback;
+#[path = "model/held.rs"]
+mod held;
 
 pub use fallback::*;
+pub use held::*;
 use stobbarel::layout::{table_len, BODY_AT, DECIDED_AT, HEAD, LOG_AT, LOG_VIEW_AT, REASON_AT, ROW, VIEW_AT, VOTE_AT};
 
 /// For each f from 1 on: commit list, abort list, commit proof, abort proof, proof from logs.

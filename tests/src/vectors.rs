@@ -1,9 +1,10 @@
 //! Records read and written, messages by each entrance, bodies that a box logs before it has their PR, lists, the fallback, and answers taken by sheets: each refusal at its smallest
 //! fault, two faults at once for neighbours in 01's order, and both sides of each threshold. The answers due are written down from 01 and 02; the engine, by its C interface,
 //! and the model have to give them.
-//! What the bench program can show of reading stands in tests/bench; here is the rest. Those of the fallback are in vectors/fallback.rs.
+//! What the bench program can show of reading stands in tests/bench; here is the rest. Those of the fallback are in vectors/fallback.rs, those of what is held in vectors/held.rs.
 
 mod fallback;
+mod held;
 
 use crate::engine::{self, Entrance, Fields, Views};
 use crate::member::Model;
@@ -1033,7 +1034,7 @@ fn sheets(tried: &mut Tried) {
 /// False where an answer is not the one due, or where none was tried.
 pub fn check() -> bool {
     let mut tried = Tried::default();
-    let parts: [(&str, fn(&mut Tried)); 13] = [
+    let parts: [(&str, fn(&mut Tried)); 15] = [
         ("reading", reading),
         ("entrances", entering),
         ("LGs before the PR", missing_the_prepare),
@@ -1042,6 +1043,8 @@ pub fn check() -> bool {
         ("moving on", fallback::moves),
         ("a leader's decisions", fallback::led),
         ("leaders", fallback::leaders),
+        ("what is held after messages", held::after_messages),
+        ("what is held in lent tables", held::as_lent),
         ("writing", writing),
         ("the tally", sheets),
         ("elections", fallback::elections),

@@ -1,5 +1,5 @@
 // The engine for programs in C, or in any language that calls C, on numbers, arrays and slices: a box's calls with the answer as five
-// numbers, records read and written, the tally, the leader's sheet, the thresholds, the passage register.
+// numbers, what a table holds under a stamp, records read and written, the tally, the leader's sheet, the thresholds, the passage register.
 ghost use mathlib.Core.Path.{_≡_};
 ghost use mathlib.Core.List.{[], _∷_};
 ghost use lib.ListN.{length, getD};
@@ -16,6 +16,7 @@ ghost use Rattle.passage.specs.Passages.{reportOf, asksOf};
 ghost use Rattle.passage.specs.Corrections.{directionCorrected, corrected, entered};
 ghost use Rattle.abi.specs.Register.{lentSeen, lentValues, askedKeys, reportNumber, reportRow, made, madeOf};
 ghost use Rattle.abi.specs.Rows.{answerRow, toldOf, sheetOf, electionSheet, groupRow, thresholdsBy, LeavesRow};
+ghost use Rattle.held.specs.Held.{heldOf, holdingRow};
 ghost use Rattle.abi.specs.Left.{left, txLeft, vlLeft, viewsLeft, prLeft, listedMark, listedLeft, viewedLeft, rdLeft};
 use passage::Made;
 use passage::Reported;
@@ -118,6 +119,23 @@ pub extern "C" fn stobbarel_due(
     };
     let answer = engine::due(arrays::marked_of(mark), table, marks, told, message);
     put(out, values(answer));
+}
+
+// The eight numbers of what is held, put down.
+fn put_eight(out: &mut [u64; 8], v: [u64; 8])
+    ensures { λ r. ⌜ now (out .exit) ≡ v ⌝ }
+{
+    *out = v;
+}
+
+// What a table holds under a stamp.
+#[no_mangle]
+pub extern "C" fn stobbarel_held(table: &[u8], capacity: u64, stamp: u64, out: &mut [u64; 8]) -> u8
+    ensures { λ r. ⌜ (r ≡ heldOf (now (table .entry)) capacity stamp .wrong) × (now (out .exit) ≡ holdingRow (heldOf (now (table .entry)) capacity stamp)) ⌝ }
+{
+    let holding = held::held(table, capacity, Stamp(stamp));
+    put_eight(out, held::numbers(holding));
+    holding.wrong
 }
 
 // Reading alone: the refusal's number, or 0.

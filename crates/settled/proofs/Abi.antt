@@ -19,6 +19,9 @@ module _ {M : Type 1} (𝓤 : URA M) (H : Heap 𝓤) where
   pub stobbarel-due : Settled 𝓤 H abi.stobbarel_due.ended (abi.stobbarel_due.spec 𝓤 H) (abi.stobbarel_due.clauses 𝓤 H)
   stobbarel-due A mem run = (refl, λ k o o′. settled 𝓤 (λ p q. refl & refl & one (p .1) (q .1) & one (p .2) (q .2) & refl & refl & refl & refl & refl & one (p .0) (q .0) & refl))
 
+  pub stobbarel-held : Settled 𝓤 H abi.stobbarel_held.ended (abi.stobbarel_held.spec 𝓤 H) (abi.stobbarel_held.clauses 𝓤 H)
+  stobbarel-held A mem run = (refl, λ k o o′. settled 𝓤 (λ p q. one (p .0) (q .0) & refl & refl & refl & one (p .1) (q .1) & refl))
+
   pub stobbarel-reading : Settled 𝓤 H abi.stobbarel_reading.ended (abi.stobbarel_reading.spec 𝓤 H) (abi.stobbarel_reading.clauses 𝓤 H)
   stobbarel-reading A mem run = (refl, λ k o o′. settled 𝓤 (λ p q. one p q & refl))
 

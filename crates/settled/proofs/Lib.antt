@@ -7,6 +7,7 @@ pub mod Reading
 pub mod Writing
 pub mod Rules
 pub mod Table
+pub mod Held
 pub mod Scans
 pub mod Steps
 pub mod Engine

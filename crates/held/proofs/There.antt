@@ -1,0 +1,103 @@
+-- The body that is held stands in the table's bytes at the place that is told.
+use Prim.Native.Nat.{ℕ, zero, suc, _+_, _-_, _*_, _<_, _≤_}
+use native.Mathlib.Omega.{arith}
+use mathlib.Core.Path.{_≡_, refl, ap, sym, _∙_}
+use mathlib.Core.List.{List, [], _∷_}
+use mathlib.Core.Logic.{_⊎_, inl, inr}
+use mathlib.Core.Bool.{Bool, true, false}
+use borrow.Author.Tests.{ltb-true, ltb-false}
+use lib.Dec.{ltb}
+use lib.ListN.{length, take, drop, length-take, length-drop}
+use lib.Seq.{take-take, drop-drop}
+use Rattle.records.specs.Tx.{txLen}
+use Rattle.rules.specs.Table.{find}
+use Rattle.table.specs.Table.{headLen, rowLen, bodyAt, rowAt, rowTx, rowBody, entryWith, entryOf, entries, entriesOf, countOf, place, WfRow, Wf}
+use Rattle.table.proofs.Bodies.{row-there, row-fits}
+use Rattle.table.proofs.Placing.{place-within}
+use Rattle.table.proofs.Looking.{entries-are, entries-count}
+use Rattle.held.specs.declared.Holding.{Holding}
+use Rattle.held.specs.Held.{heldWrong, nothing, holdingOf, foundIn, heldBy, heldOf, bodyIn, bodyBy, bodyHeld, There, BodyThere}
+use Rattle.held.proofs.Found.{right, found, not-found, tells-found, tells-none}
+
+-- bytes that lie in the front of a list
+mid-take : (n p k : ℕ) (l : List ℕ) → p + n ≤ k → take n (drop p (take k l)) ≡ take n (drop p l)
+mid-take n zero k l h = take-take n k l (omega arith)
+mid-take n (suc p) zero l h = absurd (omega arith)
+mid-take n (suc p) (suc k) [] h = refl
+mid-take n (suc p) (suc k) (x ∷ l) h = mid-take n p k l (omega arith)
+
+module _ (t : List ℕ) (i : ℕ) (h : i * rowLen + rowLen ≤ length (drop headLen t)) (w : WfRow (rowAt (drop headLen t) i)) where
+  long : length (entryOf (rowAt (drop headLen t) i) .body) ≡ txLen (rowTx (rowAt (drop headLen t) i))
+  unfolding entryOf entryWith rowBody
+  long = let l = row-there _ w .2 in simp length-take (omega arith)
+
+  inside : headLen + i * rowLen + bodyAt + length (entryOf (rowAt (drop headLen t) i) .body) ≤ length t
+  inside =
+      let l : i * rowLen + rowLen ≤ length t - headLen = rw length-drop at h in
+      let a = w .reads in
+      let b = w .writes in
+      rw long (omega arith)
+
+  behind : drop (headLen + i * rowLen + bodyAt) t ≡ drop bodyAt (drop (i * rowLen) (drop headLen t))
+  behind =
+      let e : headLen + i * rowLen + bodyAt ≡ headLen + (i * rowLen + bodyAt) = omega arith in
+      ap (λ (n : ℕ). drop n t) e ∙ sym (drop-drop (i * rowLen + bodyAt) headLen t) ∙ sym (drop-drop bodyAt (i * rowLen) (drop headLen t))
+
+  stands : take (length (entryOf (rowAt (drop headLen t) i) .body)) (drop (headLen + i * rowLen + bodyAt) t) ≡ entryOf (rowAt (drop headLen t) i) .body
+  unfolding entryOf entryWith rowBody
+  stands =
+      let a = w .reads in
+      let b = w .writes in
+      ap (λ (k : ℕ). take k (drop (headLen + i * rowLen + bodyAt) t)) long
+      ∙ ap (λ (l : List ℕ). take (txLen (rowTx (rowAt (drop headLen t) i))) l) behind
+      ∙ sym (mid-take (txLen (rowTx (rowAt (drop headLen t) i))) bodyAt rowLen (drop (i * rowLen) (drop headLen t)) (omega arith))
+
+-- a stamp has its place among the entries, or behind them
+lt-cases : (m n : ℕ) → (m < n) ⊎ (n ≤ m)
+lt-cases m n = go (ltb m n) refl
+  where
+    go : (b : Bool) → ltb m n ≡ b → (m < n) ⊎ (n ≤ m)
+    go true e = inl (ltb-true m n e)
+    go false e = inr (ltb-false m n e)
+
+module _ (t : List ℕ) (s : ℕ) (w : Wf (drop headLen t) (countOf t)) where
+  there-found : place s (entries (drop headLen t) (countOf t)) < countOf t → There t (foundIn t s) (bodyIn (find s (entriesOf t)))
+  unfolding holdingOf
+  there-found h =
+      let f = row-fits w (place s (entries (drop headLen t) (countOf t))) h in
+      rw (← tells-found t s (place s (entries (drop headLen t) (countOf t))) refl h, found t s (place s (entries (drop headLen t) (countOf t))) refl h)
+      (inside t (place s (entries (drop headLen t) (countOf t))) (f .0) (f .1), stands t (place s (entries (drop headLen t) (countOf t))) (f .0) (f .1))
+
+  there-none : countOf t ≤ place s (entries (drop headLen t) (countOf t)) → There t (foundIn t s) (bodyIn (find s (entriesOf t)))
+  unfolding nothing
+  there-none h =
+      let long : length (entries (drop headLen t) (countOf t)) ≡ countOf t = rw (← entries-are t) (entries-count t) in
+      let k : place s (entries (drop headLen t) (countOf t)) ≤ countOf t = omega (arith, place-within s (entries (drop headLen t) (countOf t)), long) in
+      rw (← tells-none t s (place s (entries (drop headLen t) (countOf t))) refl h k, not-found t s (place s (entries (drop headLen t) (countOf t))) refl h k)
+      (omega arith, refl)
+
+  pub there-in : There t (foundIn t s) (bodyIn (find s (entriesOf t)))
+  there-in = by (lt-cases (place s (entries (drop headLen t) (countOf t))) (countOf t))
+    where
+      by : (place s (entries (drop headLen t) (countOf t)) < countOf t) ⊎ (countOf t ≤ place s (entries (drop headLen t) (countOf t)))
+          → There t (foundIn t s) (bodyIn (find s (entriesOf t)))
+      by (inl h) = there-found h
+      by (inr h) = there-none h
+
+-- The place and the length that `held` tells mean the body that it holds.
+pub body-there : BodyThere
+unfolding heldOf bodyHeld heldBy bodyBy nothing
+body-there t capacity s = by (heldWrong capacity t) refl
+  where
+    by : (n : ℕ) → heldWrong capacity t ≡ n → There t (heldBy n t s) (bodyBy n t s)
+    by zero e = there-in t s (right t capacity e .0)
+    by (suc n) e = (omega arith, refl)
+
+pub told-there : (t : List ℕ) (capacity s : ℕ) (h : Holding) → h ≡ heldOf t capacity s → There t h (bodyHeld t capacity s)
+told-there t capacity s h e = rw e (body-there t capacity s)
+
+-- the bytes from there to the end that is told
+pub part-there : (t : List ℕ) (capacity s : ℕ) (h : Holding) → h ≡ heldOf t capacity s → take (h .at + h .len - h .at) (drop (h .at) t) ≡ bodyHeld t capacity s
+part-there t capacity s h e =
+    let n : h .at + h .len - h .at ≡ h .len = omega arith in
+    ap (λ (n : ℕ). take n (drop (h .at) t)) n ∙ told-there t capacity s h e .1
