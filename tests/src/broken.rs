@@ -1,5 +1,5 @@
 //! A test that cannot fail is a defect. Here boxes that are wrong stand in the engine's place, and each must be noticed: by the
-//! cluster, where demand 3 falls with the rule, and always by the comparison with the model. What only its records show of a box has to be noticed there.
+//! cluster, where demand 3 or A10 falls with the rule, and always by the comparison with the model. What only its records show of a box has to be noticed there.
 
 use crate::cluster::{self, Counts, Plan};
 use crate::compare::{first_difference, first_difference_in_ballots, first_difference_in_tally};
@@ -22,14 +22,21 @@ struct Broken {
     rules: Rules,
     /// Why demand 3 holds all the same; empty where it falls.
     safe: &'static str,
+    /// A10 falls.
+    slips: bool,
 }
 
 const fn falls(what: &'static str, broken: &'static [Rule]) -> Broken {
-    Broken { what, rules: Rules { broken }, safe: "" }
+    Broken { what, rules: Rules { broken }, safe: "", slips: false }
 }
 
 const fn holds(what: &'static str, broken: &'static [Rule], safe: &'static str) -> Broken {
-    Broken { what, rules: Rules { broken }, safe }
+    Broken { what, rules: Rules { broken }, safe, slips: false }
+}
+
+/// Demand 3 holds, and something slips under a read.
+const fn slips(what: &'static str, broken: &'static [Rule], safe: &'static str) -> Broken {
+    Broken { what, rules: Rules { broken }, safe, slips: true }
 }
 
 /// The slips that were seen.
@@ -54,13 +61,15 @@ const THRESHOLDS_AND_LISTS: [Broken; 7] = [
     falls("answers against the list's decision are counted", &[Rule::NamedAnswer]),
 ];
 
-const TESTS: [Broken; 6] = [
+const TESTS: [Broken; 8] = [
     holds("no test 1", &[Rule::Test(1)], "a clock proves nothing"),
     // an aborted version, and one without the key, still give reason 6
     holds("no test 2", &[Rule::Test(2)], "the waiting rule stands behind it"),
     falls("no test 3", &[Rule::Test(3)]),
     falls("no test 4", &[Rule::Test(4)]),
-    holds("no test 5", &[Rule::Test(5)], "read marks are for readers"),
+    slips("no test 5", &[Rule::Test(5)], "read marks are for readers"),
+    slips("an RD raises no read mark", &[Rule::MarkRaised], "read marks are for readers"),
+    slips("a later RD lowers the read mark", &[Rule::MarkStays], "read marks are for readers"),
     falls("a version above the own stamp may be read", &[Rule::PastReads]),
 ];
 
@@ -146,11 +155,11 @@ struct Search {
 }
 
 impl Search {
-    /// The cluster, counted from 1, that sees demand 3 broken, and how.
-    fn first_broken(self, one: &mut dyn Member, rules: Rules, too_many: u64) -> Option<(u64, String)> {
+    /// The cluster, counted from 1, that sees demand 3 broken, or A10 where that is judged, and how.
+    fn first_broken(self, one: &mut dyn Member, rules: Rules, too_many: u64, slips: bool) -> Option<(u64, String)> {
         let mut counts = Counts::new();
         (1..=self.most).find_map(|number| {
-            let plan = Plan { seed: self.seed + number - 1, rules, too_many, told: false };
+            let plan = Plan { seed: self.seed + number - 1, rules, too_many, slips, told: false };
             cluster::run(one, plan, &mut counts).err().map(|how| (number, how))
         })
     }
@@ -158,13 +167,16 @@ impl Search {
 
 fn noticed(broken: &Broken, search: Search) -> bool {
     let mut one = Model(broken.rules);
-    let most = if broken.safe.is_empty() { search.most } else { HELD };
     let differs = first_difference(&mut one, COMPARED, search.seed).map(|(at, _)| at);
-    let found = Search { most, ..search }.first_broken(&mut one, broken.rules, 0);
-    let passed = differs.is_some() && found.is_some() == broken.safe.is_empty();
+    let falls = broken.safe.is_empty() || broken.slips;
+    let most = if falls { search.most } else { HELD };
+    // where demand 3 falls it has to fall by itself, and where only A10 does demand 3 has to hold
+    let held = !broken.slips || Search { most: HELD, ..search }.first_broken(&mut one, broken.rules, 0, false).is_none();
+    let found = Search { most, ..search }.first_broken(&mut one, broken.rules, 0, !broken.safe.is_empty());
+    let passed = differs.is_some() && held && found.is_some() == falls;
     let seen = match &found {
         Some((clusters, how)) => format!("cluster {clusters:5}: {how}"),
-        None if broken.safe.is_empty() => format!("NOT SEEN in {most} clusters"),
+        None if falls => format!("NOT SEEN in {most} clusters"),
         None => format!("demand 3 holds, {}", broken.safe),
     };
     let differs = differs.map_or("NO message".into(), |at| format!("message {at:5}"));
@@ -181,33 +193,24 @@ fn recorded(what: &str, clerk: &dyn records::Clerk, seed: u64, wrong: bool) -> b
     passed
 }
 
-/// The proof from logs that a box which missed the prepare makes possible: the engine's clusters have it, and those of a box that still gives 10 never.
-fn proved_with_a_late_box(search: Search) -> bool {
+/// What the engine's clusters have, and those of a box with a broken rule never.
+fn only_with_the_rule(event: &str, what: &str, broken: Rules, search: Search) -> bool {
     let times = |one: &mut dyn Member, rules: Rules| {
         let mut counts = Counts::new();
-        let held = (0..HELD).all(|number| cluster::run(one, Plan { seed: search.seed + number, rules, too_many: 0, told: false }, &mut counts).is_ok());
-        (held, counts.times(cluster::PROVED_WITH_IT))
+        let held = (0..HELD).all(|number| cluster::run(one, Plan { seed: search.seed + number, rules, too_many: 0, slips: true, told: false }, &mut counts).is_ok());
+        (held, counts.times(event))
     };
-    let still_10 = Rules { broken: &[Rule::NoUnknown] };
-    let (ours, theirs) = (times(&mut Engine, PAPER), times(&mut Model(still_10), still_10));
+    let (ours, theirs) = (times(&mut Engine, PAPER), times(&mut Model(broken), broken));
     let passed = ours.0 && theirs.0 && ours.1 > 0 && theirs.1 == 0;
-    println!("{}: {} times in {HELD} clusters, {} with 10 still given{}", cluster::PROVED_WITH_IT, ours.1, theirs.1, if passed { "" } else { "  FAILED" });
+    println!("{event}: {} times in {HELD} clusters, {} with {what}{}", ours.1, theirs.1, if passed { "" } else { "  FAILED" });
     passed
 }
 
-/// Proofs from logs of unequal views: no box's rule, so that the engine itself is held against a judge who counts so.
-fn proofs_of_unequal_views(search: Search) -> bool {
-    let found = search.first_broken(&mut Engine, Rules { broken: &[Rule::EqualViews] }, 0);
+/// A rule that is no box's, or more liars than f: the engine itself cannot keep the promise then, and the cluster has to see that.
+fn engine_itself(what: &str, search: Search, broken: &'static [Rule], too_many: u64, slips: bool) -> bool {
+    let found = search.first_broken(&mut Engine, Rules { broken }, too_many, slips);
     let seen = found.as_ref().map_or(format!("NOT SEEN in {} clusters  FAILED", search.most), |(at, how)| format!("cluster {at:5}: {how}"));
-    println!("{:75} {seen}", "the engine, with proofs from logs of unequal views");
-    found.is_some()
-}
-
-/// With one liar more than f the engine itself cannot keep demand 3, and the cluster has to see that.
-fn one_liar_too_many(search: Search) -> bool {
-    let found = search.first_broken(&mut Engine, PAPER, 1);
-    let seen = found.as_ref().map_or(format!("NOT SEEN in {} clusters  FAILED", search.most), |(at, how)| format!("cluster {at:5}: {how}"));
-    println!("{:75} {seen}", "the engine among f + 1 liars");
+    println!("{:75} {seen}", what);
     found.is_some()
 }
 
@@ -407,7 +410,7 @@ fn compared(what: &str, mut one: impl Member, seed: u64, wrong: bool) -> bool {
 /// Each in turn. False where one was not noticed, or the engine was.
 pub fn check(most: u64, seed: u64) -> bool {
     let search = Search { most, seed };
-    println!("a rule broken: the first message at which the comparison differs, the first cluster that sees demand 3 broken");
+    println!("a rule broken: the first message at which the comparison differs, the first cluster that sees demand 3 or A10 broken");
     let mut passed = true;
     for broken in SLIPS.iter().chain(&THRESHOLDS_AND_LISTS).chain(&TESTS).chain(&ENTRIES).chain(&LATE).chain(&VIEWS).chain(&FALLBACK).chain(&FALLBACK_SAFE) {
         passed &= noticed(broken, search);
@@ -416,9 +419,12 @@ pub fn check(most: u64, seed: u64) -> bool {
         passed &= recorded(what, &Model(rules), seed, true);
     }
     passed &= recorded("the engine's records", &Engine, seed, false);
-    passed &= proved_with_a_late_box(search);
-    passed &= proofs_of_unequal_views(search);
-    passed &= one_liar_too_many(search);
+    passed &= only_with_the_rule(cluster::PROVED_WITH_IT, "10 still given", Rules { broken: &[Rule::NoUnknown] }, search);
+    passed &= only_with_the_rule(cluster::COMMITTED_AT_A_READ, "a read mark equal to the stamp a clash", Rules { broken: &[Rule::EqualMark] }, search);
+    passed &= engine_itself("the engine, with proofs from logs of unequal views", search, &[Rule::EqualViews], 0, false);
+    passed &= engine_itself("the engine, with a read of 3f boxes", search, &[Rule::ReadByEnough], 0, true);
+    passed &= engine_itself("the engine, with a stamp equal to the read's taken for one below", search, &[Rule::ReadAbove], 0, true);
+    passed &= engine_itself("the engine among f + 1 liars", search, &[], 1, false);
     passed &= compared("a box that refuses all", Bad::RefusesAll, seed, true);
     passed &= compared("a box that votes the same every time", Bad::VotesCommit, seed, true);
     passed &= compared("a box that accepts and stores nothing", Bad::StoresNothing, seed, true);

@@ -1,12 +1,13 @@
 //! Many boxes at once: 5f + 1 of them, up to f of them liars, gateways that come, go on, die and take over, and a network that
-//! loses, doubles and reorders. After every call demand 3 is judged (judge.rs). Messages come by every entrance, and now and then by
+//! loses, doubles and reorders. After every call demand 3 is judged, and A10 (judge.rs). Messages come by every entrance, and now and then by
 //! a call that is refused for its mark, its numbers or its table, which must leave the box as it was.
 //!
 //! Lists keep to the demand's premise: under a sound box's number stands only what it gave for exactly this body, a log or an election answer with the decision
 //! and the view that it was given with; under a liar's number stands anything. A list that names a box twice is sent too: a box has to refuse it. The views of an IV
-//! are under no premise. What finishes a transaction that a dead gateway left is in cluster/fallback.rs.
+//! are under no premise. What finishes a transaction that a dead gateway left is in cluster/fallback.rs, and reads of many boxes in cluster/reads.rs.
 
 mod fallback;
+mod reads;
 
 use crate::engine::Entrance;
 use crate::judge::{Judge, Word};
@@ -27,8 +28,11 @@ pub const PROVED_WITH_IT: &str = "a proof from logs, not to be had without such 
 /// What 02 wants: a proof from logs of a later view than an LG's, and a box has taken it.
 pub const DECIDED_BY_FALLBACK: &str = "a transaction decided by the fallback";
 
+/// A10's own bound: a stamp below the read's has no commit proof, and one that is equal has.
+pub const COMMITTED_AT_A_READ: &str = "a body at the stamp of such a read committed, that no sound one of them had held";
+
 /// What a standard number of runs has to meet.
-const EVENTS: [&str; 94] = [
+const EVENTS: [&str; 99] = [
     "run with f = 1",
     "run with f = 2",
     "run with f = 3",
@@ -67,6 +71,11 @@ const EVENTS: [&str; 94] = [
     "a held body was replaced",
     "abort 6, the body waited for replaced by one that lacks the key",
     "found",
+    "a read that 3f + 1 boxes answered",
+    "abort 5, under such a read",
+    "a body under such a read committed, which one of them had held",
+    COMMITTED_AT_A_READ,
+    "another body committed after such a read",
     "refused  2, another mark due",
     "refused  2, a number that is no mark",
     "refused  6",
@@ -189,6 +198,8 @@ pub struct Plan {
     pub rules: Rules,
     /// Liars above f.
     pub too_many: u64,
+    /// A10 is judged too.
+    pub slips: bool,
     /// Each call is printed.
     pub told: bool,
 }
@@ -349,7 +360,7 @@ struct Cluster<'a> {
     window: u64,
 }
 
-/// One run, which the plan determines. An error says how demand 3 was broken.
+/// One run, which the plan determines. An error says how demand 3 or A10 was broken.
 pub fn run(one: &mut dyn Member, plan: Plan, counts: &mut Counts) -> Result<(), String> {
     let mut cluster = Cluster::new(one, plan, counts);
     let steps = cluster.random.between(12, 60) * cluster.boxes.len() as u64;
@@ -377,7 +388,8 @@ impl<'a> Cluster<'a> {
         keys.sort_unstable();
         keys.dedup();
         let boxes = (0..5 * f + 1).map(|_| Sound::new(&mut random, f, base, spread)).collect();
-        let judge = Judge::new(plan.rules, f, liars.count_ones() as usize);
+        let mut judge = Judge::new(plan.rules, f, liars.count_ones() as usize);
+        judge.slips = plan.slips;
         let (most_bodies, quiet) = (random.between(2, 9) as usize, random.chance(30));
         let window = random.one_of(&[3, 12, 100]);
         Cluster { one, counts, plan, random, f, liars, boxes, judge, seen: Vec::new(), gateways: Vec::new(), leaders: BTreeMap::new(), current: BTreeMap::new(), letters: Vec::new(), script: VecDeque::new(), keys, base, spread, most_bodies, quiet, window }
@@ -500,6 +512,7 @@ impl Cluster<'_> {
                 6..=11 => return self.show_two_faces(),
                 12..=23 => return self.miss_the_prepare(),
                 24..=31 => return self.leave_it_split(),
+                32..=37 => return self.read_of_many(),
                 _ => {}
             }
         }
@@ -695,6 +708,7 @@ impl Cluster<'_> {
         match answer {
             Answer::Found { committed, undecided } => {
                 self.counts.count("found");
+                self.answered(number, key, stamp)?;
                 Ok(if self.random.chance(80) { committed.0.max(undecided.0) } else { committed.0 })
             }
             Answer::Refused(number) => {
@@ -944,6 +958,7 @@ impl Cluster<'_> {
         }
         assert!(self.backed(&letter), "the premise of demand 3");
         let answer = self.call(letter.to, &self.message(&letter))?;
+        self.note_what_is_held(&letter);
         if self.plan.told {
             self.tell(&letter, answer);
         }
@@ -1115,6 +1130,9 @@ impl Cluster<'_> {
         let stamp = self.judge.bodies[body].tx.stamp;
         self.boxes[letter.to].held.insert(stamp, body);
         self.counts.count(["vote commit", "abort 1", "abort 2", "abort 3", "abort 4", "abort 5", "abort 6"][reason as usize]);
+        if reason == 5 && self.judge.reads().any(|(key, at)| stamp < at && self.judge.bodies[body].writes(key)) {
+            self.counts.count("abort 5, under such a read");
+        }
         if reason == 2 && self.read_what_is_only_logged(letter.to, body) {
             self.counts.count("abort 2, the version read was only logged");
         }
@@ -1213,23 +1231,24 @@ impl Cluster<'_> {
         if self.judge.bodies.iter().filter(|known| known.tx.stamp == tx.stamp).count() > 1 {
             self.counts.count("a second body under one stamp committed");
         }
+        self.committed_beside_reads(body);
     }
 }
 
-/// The engine in many clusters. False where demand 3 is broken, or an event did not occur.
+/// The engine in many clusters. False where demand 3 or A10 is broken, or an event did not occur.
 pub fn check(one: &mut dyn Member, runs: u64, seed: u64) -> bool {
     let mut counts = Counts::new();
     for seed in seed..seed + runs {
-        let plan = Plan { seed, rules: PAPER, too_many: 0, told: false };
+        let plan = Plan { seed, rules: PAPER, too_many: 0, slips: true, told: false };
         if let Err(broken) = run(one, plan, &mut counts) {
             println!("seed {seed}: {broken}; the calls:");
             let _ = run(one, Plan { told: true, ..plan }, &mut Counts::new());
             return false;
         }
     }
-    println!("{runs} clusters from seed {seed}, {} calls, demand 3 judged after each", counts.calls);
+    println!("{runs} clusters from seed {seed}, {} calls, demand 3 and A10 judged after each", counts.calls);
     let missing = counts.print();
     println!("{} transactions were decided by the fallback", counts.times(DECIDED_BY_FALLBACK));
-    println!("demand 3 held throughout; {missing} events did not occur; {} refusals that cannot be", counts.unlisted);
+    println!("demand 3 and A10 held throughout; {missing} events did not occur; {} refusals that cannot be", counts.unlisted);
     missing == 0 && counts.unlisted == 0
 }

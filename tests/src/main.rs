@@ -29,7 +29,7 @@ stobbarel-tests [compare] [COUNT [SEED]]   COUNT messages (2000000) on the engin
 stobbarel-tests vectors                    records read and written, messages by each entrance, LGs before the PR, lists, the fallback, what is held, answers taken by sheets, as the papers have them
 stobbarel-tests bodies                     two bodies under one stamp that differ in little: each byte, counts alone, length
 stobbarel-tests records [COUNT [SEED]]     COUNT records (500000) written by engine and model, each read as it is and damaged
-stobbarel-tests cluster [RUNS [SEED]]      RUNS clusters (20000) of the engine, demand 3 judged after every call
+stobbarel-tests cluster [RUNS [SEED]]      RUNS clusters (20000) of the engine, demand 3 and A10 judged after every call
 stobbarel-tests broken [MOST [SEED]]       boxes with a broken rule, and bad boxes: each must be noticed, within MOST clusters (20000)
 stobbarel-tests passages [COUNT [SEED]]    COUNT looks (200000) at passages: reports, corrections and entries beside a model
 stobbarel-tests incident                   the night that one correction was decided both ways, and why it cannot be again

@@ -51,6 +51,10 @@ pub enum Rule {
     Test(u8),
     /// Test 5: a read mark equal to the stamp is a clash.
     EqualMark,
+    /// RD: the read mark is not raised.
+    MarkRaised,
+    /// RD: the read mark becomes the stamp, be it lower.
+    MarkStays,
     /// One of the three kinds of live entries: dropped from the live set.
     CommittedLives,
     VotedLives,
@@ -139,6 +143,10 @@ pub enum Rule {
     LogLeavesView,
     /// A proof from logs: equal decisions, of whatever views. It is no box's rule, but that of who counts them.
     EqualViews,
+    /// A read that nothing can slip under: 3f boxes will do. It is no box's rule either, nor is the next.
+    ReadByEnough,
+    /// A read that nothing can slip under: neither can a stamp equal to the read's.
+    ReadAbove,
     /// The contents of an EL: 5 before 8.
     CodeFirst,
     /// The contents of an EL: a leader n or more.
@@ -1141,7 +1149,11 @@ impl Store {
 
     fn read(&mut self, key: u16, stamp: u64) -> Answer {
         let mark = &mut self.marks[key as usize];
-        *mark = stamp.max(*mark);
+        *mark = match stamp {
+            _ if !self.rules.hold(Rule::MarkRaised) => *mark,
+            _ if !self.rules.hold(Rule::MarkStays) => stamp,
+            _ => stamp.max(*mark),
+        };
         Answer::Found {
             committed: self.newest(key, stamp, Entry::committed),
             undecided: self.newest(key, stamp, |entry| entry.decision.is_none() && self.lives(entry)),

@@ -36,25 +36,25 @@ use Rattle.engine.proofs.Safety.{all-left, no-word, engine-safety, and-
 use Rattle.engine.proofs.Starts.{starts-empty, starts-taken, too-short}
 
 -- a trace of calls beside one of the rules: the same calls, all told a capacity of eight, but for those that are refused with 14 or 16
-data Runs : List Event → List Event → Type 0 where
+pub data Runs : List Event → List Event → Type 0 where
   done : Runs [] []
   takes : {es rs : List Event} (e : Event) → e .capacity ≡ 8 → Runs es rs → Runs (e ∷ es) (e ∷ rs)
   drops : {es rs : List Event} (e : Event) (n : ℕ) → lentWrong (toldAt 1 e) (keptAt 1 eight (e .box) es .table) ≡ suc n
       → ((g : Given) → HonestBy 1 liar g (e .entry) (e .message)) → Runs es rs → Runs (e ∷ es) rs
 
-record Held (x : Kept) (y : Box) : Type 0 where
-  taken : tableWrong 8 (x .table) ≡ 0
-  same : boxIn x ≡ y
+pub record Held (x : Kept) (y : Box) : Type 0 where
+  pub taken : tableWrong 8 (x .table) ≡ 0
+  pub same : boxIn x ≡ y
 
 begun : (i : ℕ) → Held (eight i) empty
 unfolding eight boxIn entriesOf empty
 begun i = record { taken = starts-taken 8; same = rw (starts-empty 8 .none, starts-empty 8 .unread) }
 
-started : (i : ℕ) → Empty (eight i)
+pub started : (i : ℕ) → Empty (eight i)
 unfolding eight
 started i = starts-empty 8
 
-holds : {es rs : List Event} → Runs es rs → (i : ℕ) → Held (keptAt 1 eight i es) (boxAt 1 i rs)
+pub holds : {es rs : List Event} → Runs es rs → (i : ℕ) → Held (keptAt 1 eight i es) (boxAt 1 i rs)
 unfolding keptAt boxAt
 holds done i = begun i
 holds {es = e ∷ es} {rs = e′ ∷ rs} (takes e₁ c r) i = go (eqb (e .box) i) (holds r i)
@@ -74,7 +74,7 @@ holds {es = e ∷ es} {rs = rs} (drops e₁ n q o r) i = go (eqb (e .box) i) ref
         let j : e .box ≡ i = eqb-true (e .box) i p in
         rw (all-left (e .entry) (toldAt 1 e) (keptAt 1 eight i es) (e .message) n (rw j at q)) h
 
-answers : {es rs : List Event} → Runs es rs → (e : Event) → e .capacity ≡ 8 → answered 1 eight e es ≡ answerTo 1 e rs
+pub answers : {es rs : List Event} → Runs es rs → (e : Event) → e .capacity ≡ 8 → answered 1 eight e es ≡ answerTo 1 e rs
 unfolding answered answerTo
 answers {es = es} r e c =
     let h = holds r (e .box) in
@@ -93,10 +93,10 @@ gives {es = e ∷ es} {rs = e′ ∷ rs} (takes e₁ c r) i b w = rw (answers r 
 gives {es = e ∷ es} {rs = rs} (drops e₁ n q o r) i b w =
     rw (silent e es n q, and-none (sameBody (txPart (e .message)) b), and-none (eqb (e .box) i)) (gives r i b w)
 
-alike : {es rs : List Event} → Runs es rs → Alike 1 liar (givenIn 1 rs) (gaveBy 1 eight es)
+pub alike : {es rs : List Event} → Runs es rs → Alike 1 liar (givenIn 1 rs) (gaveBy 1 eight es)
 alike r i s b w = sym (gives r i b w)
 
-fair-calls : {es rs : List Event} → Runs es rs → Fair 1 liar rs → FairCalls 1 liar eight es
+pub fair-calls : {es rs : List Event} → Runs es rs → Fair 1 liar rs → FairCalls 1 liar eight es
 unfolding Fair FairCalls HonestBy
 fair-calls done F = tt
 fair-calls (takes e c r) F = (fair-calls r (F .0), λ s k q z. carries-alike 1 liar _ _ (alike r) k _ (F .1 s k q z))
@@ -139,7 +139,7 @@ runs : Runs busyCalls busy
 unfolding busyCalls busy tooLarge
 runs = then-runs (drops tooLarge 15 short-told no-list first-runs)
 
-few : howMany liar (boxes 1) ≤ 1
+pub few : howMany liar (boxes 1) ≤ 1
 unfolding howMany liar bit
 few = omega arith
 

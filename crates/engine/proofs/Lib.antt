@@ -4,6 +4,9 @@ pub mod Raised
 pub mod Steps
 pub mod Bridge
 pub mod Alone
+pub mod Watching
 pub mod Safety
+pub mod SlipUnder
 pub mod Starts
 pub mod Busy
+pub mod Panel

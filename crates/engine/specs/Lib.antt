@@ -1,3 +1,5 @@
 pub mod Outcome
 pub mod Safety
 pub mod Busy
+pub mod SlipUnder
+pub mod Panel

@@ -24,8 +24,11 @@ pub mod Serial
 pub mod Made
 pub mod Exist
 pub mod Safety
+pub mod Marks
+pub mod SlipUnder
 pub mod Alike
 pub mod Running
 pub mod Cases
 pub mod Traces
+pub mod Panel
 pub mod Leading

@@ -100,11 +100,11 @@ module _ (f : ℕ) (faulty : ℕ → Bool) where
       go (inl n) = absurd (no-both (eqb (dueRefusal k f m) 0) (rw z tt) n)
       go (inr y) = carries-by es k m y
 
-  fairTest : List Event → Bool
+  pub fairTest : List Event → Bool
   fairTest [] = true
   fairTest (e ∷ es) = honestTest es e.entry e.message && fairTest es
 
-  fair-by : (es : List Event) → T (fairTest es) → Fair f faulty es
+  pub fair-by : (es : List Event) → T (fairTest es) → Fair f faulty es
   unfolding Fair fairTest
   fair-by [] h = tt
   fair-by (e ∷ es) h =
@@ -121,7 +121,7 @@ unfolding each
 each-later way i zero m es b P = P
 each-later way i (suc n) m es b {d} P = proof-later 1 liar _ _ b d (each-later way i n m es b P)
 
-unfoldable checking : ℕ
+unfoldable pub checking : ℕ
 unfolding fairTest honestTest carriesTest backedTest chosenTest all oneBelow loggedView topView enoughOf provable provableBy upheld liar at each withLiar busyFirst busyThen busy passage correction doubled incident
 checking = 0
 
@@ -137,7 +137,7 @@ only-votes : (k : Kind) → (k ≡ logs → ⊥) → k ≡ votes
 only-votes votes n = refl
 only-votes logs n = absurd (n refl)
 
-few : howMany liar (boxes 1) ≤ 1
+pub few : howMany liar (boxes 1) ≤ 1
 unfolding howMany liar bit
 few = omega arith
 

@@ -9,6 +9,8 @@ pub mod Fallback
 pub mod Act
 pub mod Quorums
 pub mod System
+pub mod SlipUnder
 pub mod Cases
 pub mod Vectors
 pub mod Traces
+pub mod Panel
