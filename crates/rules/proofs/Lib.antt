@@ -32,3 +32,7 @@ pub mod Cases
 pub mod Traces
 pub mod Panel
 pub mod Leading
+pub mod Reordered
+pub mod Twins
+pub mod Order
+pub mod Crossed

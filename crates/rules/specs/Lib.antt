@@ -10,7 +10,9 @@ pub mod Act
 pub mod Quorums
 pub mod System
 pub mod SlipUnder
+pub mod Order
 pub mod Cases
 pub mod Vectors
+pub mod Crossed
 pub mod Traces
 pub mod Panel

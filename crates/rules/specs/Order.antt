@@ -1,0 +1,84 @@
+-- A9, "Decisions may arrive in either order": the claim, of any one box, whatever its table and marks hold, one stamp twice included.
+use Prim.Native.Nat.{ℕ, _+_, _≤_}
+use mathlib.Core.Path.{_≡_}
+use mathlib.Core.List.{List, [], _∷_}
+use mathlib.Core.Option.{none}
+use lib.ListN.{length}
+use Rattle.terms.specs.declared.Refusal.the-variants.{Full}
+use Rattle.records.specs.declared.Mark.the-variants.{DC}
+use Rattle.records.specs.declared.Marked.the-variants.{Is}
+use Rattle.records.specs.Cutting.{txPart}
+use Rattle.rules.specs.Answers.{Answer, Done, Refused}
+use Rattle.rules.specs.Bodies.{stampOf}
+use Rattle.rules.specs.Table.{Box, Entry, Told, find}
+use Rattle.rules.specs.Act.{EntryPoint, act, after, markBy}
+
+-- a call: any bytes that reach a box by any entry point, and what the box is told beside them, each call its own
+pub record Call : Type 0 where
+  pub entry : EntryPoint
+  pub told : Told
+  pub message : List ℕ
+
+-- what is answered, and the box afterwards
+unfoldable pub reply : Box → Call → Answer
+reply x c = act (c .entry) (c .told) x (c .message) .answer
+
+unfoldable pub next : Box → Call → Box
+next x c = after (c .entry) (c .told) x (c .message)
+
+-- "apart from A6's number": an answer without it. No answer has that number yet, so this is the answer itself
+unfoldable pub apartFromNumber : Answer → Answer
+apartFromNumber a = a
+
+-- what is answered to calls that follow one another
+unfoldable pub replies : Box → List Call → List Answer
+replies x [] = []
+replies x (c ∷ cs) = apartFromNumber (reply x c) ∷ replies (next x c) cs
+
+-- "DC calls": a message that is taken for a DC, by its own mark or since a DC is due
+abbrev pub IsDC : Call → Type 0
+IsDC c = markBy (c .entry) (c .message) ≡ Is DC
+
+-- the stamp of its transaction
+abbrev pub stampIn : Call → ℕ
+stampIn c = stampOf (txPart (c .message))
+
+-- "need a new entry": alone it would be taken, and its stamp is not held
+pub record NeedsNew (x : Box) (c : Call) : Type 0 where
+  pub new : find (stampIn c) (x .table) ≡ none
+  pub taken : reply x c ≡ Done
+
+-- "with room for both": it matters only where both need a new entry
+abbrev pub Room : Box → Call → Call → Type 0
+Room x p q =
+    NeedsNew x p → NeedsNew x q
+    → (length (x .table) + 2 ≤ p .told .capacity) × (length (x .table) + 2 ≤ q .told .capacity)
+
+-- "if the boxes then differ": the same entries, where neighbours with different stamps may have changed places, any number of times
+pub data Reordered : List Entry → List Entry → Type 0 where
+  same : {t : List Entry} → Reordered t t
+  behind : {e : Entry} {t u : List Entry} → Reordered t u → Reordered (e ∷ t) (e ∷ u)
+  swapped : {a b : Entry} {t : List Entry} → (stampOf (a .body) ≡ stampOf (b .body) → ⊥) → Reordered (a ∷ b ∷ t) (b ∷ a ∷ t)
+  further : {t u v : List Entry} → Reordered t u → Reordered u v → Reordered t v
+
+pub record EitherOrder (x : Box) (p q : Call) : Type 0 where
+  -- "made in either order .. give each its same answer"
+  pub one : reply (next x q) p ≡ reply x p
+  pub other : reply (next x p) q ≡ reply x q
+  -- "every later call then answers alike, apart from A6's number"
+  pub later : (cs : List Call) → replies (next (next x p) q) cs ≡ replies (next (next x q) p) cs
+  -- and in which way "the boxes then differ"
+  pub tables : Reordered (next (next x p) q .table) (next (next x q) p .table)
+  pub marks : next (next x p) q .marks ≡ next (next x q) p .marks
+
+-- "two DC calls with different stamps, made in either order on one table with room for both"
+abbrev pub DecisionsCommute : Type 0
+DecisionsCommute =
+    (x : Box) (p q : Call) → IsDC p → IsDC q → (stampIn p ≡ stampIn q → ⊥) → Room x p q → EitherOrder x p q
+
+-- "Where both need a new entry and there is room for one, the second is refused with 13": p and q are any two, so whichever is the second
+abbrev pub OneRefused : Type 0
+OneRefused =
+    (x : Box) (p q : Call) → IsDC p → IsDC q → (stampIn p ≡ stampIn q → ⊥) → NeedsNew x p → NeedsNew x q
+    → q .told .capacity ≡ length (x .table) + 1
+    → reply (next x p) q ≡ Refused Full
