@@ -4,6 +4,7 @@ pub mod Bodies
 pub mod Lists
 pub mod Table
 pub mod Tests
+pub mod Visits
 pub mod Calls
 pub mod Fallback
 pub mod Act

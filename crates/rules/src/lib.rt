@@ -129,9 +129,15 @@ pub struct Told {
     pub delta: u64,
 }
 
+// The entries that a PR visited, or no number: a vote that was cast before carries none.
+pub enum Visited {
+    None,
+    Is(usize),
+}
+
 // What a box answers. PR: Voted or Decided; LG and LD: Logged or Decided; DC: Done; RD: Found; IV: Elected or Decided; every call: Refused.
 pub enum Answer {
-    Voted(Vote),
+    Voted(Vote, Visited),
     Decided(Decision),
     Logged(Decision, View),
     Done,
