@@ -83,3 +83,13 @@ answerValues Done = []
 answerValues (Found c u) = c .stamp .0 ∷ c .value ∷ u .stamp .0 ∷ u .value ∷ []
 answerValues (Refused r) = numberOf r ∷ lackingOf r ∷ []
 answerValues (Elected d v l) = decisionNumber d ∷ v .0 ∷ l ∷ []
+
+-- "apart from A6's number": an answer without it
+unfoldable pub apartFromNumber : Answer → Answer
+apartFromNumber (Voted v n) = Voted v unvisited
+apartFromNumber (Decided d) = Decided d
+apartFromNumber (Logged d v) = Logged d v
+apartFromNumber (Elected d v l) = Elected d v l
+apartFromNumber Done = Done
+apartFromNumber (Found c u) = Found c u
+apartFromNumber (Refused r) = Refused r

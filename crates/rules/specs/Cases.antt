@@ -13,7 +13,7 @@ use Rattle.records.specs.declared.ViewMark.the-variants.{VS, EL}
 use Rattle.records.specs.declared.Mark.the-variants.{LG as markedLG, DC as markedDC}
 use Rattle.records.specs.Writing.{prBytes, listedBytes, viewedBytes, rdBytes}
 use Rattle.rules.specs.Answers.{Answer, Decision, Done, Found, Kind, Logged, Refused, Voted, abort, commit, logs, voteAbort, voteCommit, votes}
-use Rattle.rules.specs.Answers.{Reason, Ahead, Dependency, NoVersion, Overwritten, ReadMark, Undercuts, decisionNumber, kindNumber, viewAs, waiting}
+use Rattle.rules.specs.Answers.{Reason, Ahead, Dependency, NoVersion, Overwritten, ReadMark, Undercuts, decisionNumber, kindNumber, unvisited, viewAs, waiting}
 use Rattle.rules.specs.Table.{Box, Told, empty}
 use Rattle.rules.specs.Act.{act, after, receive}
 
@@ -107,15 +107,15 @@ DC t k d n = dc t (list k d (pairs 0 n d))
 unfoldable pub RD : ℕ → ℕ → List ℕ
 RD k s = rdBytes k s
 
--- ---- the answers of a PR
+-- ---- the answers of a PR, apart from A6's number
 unfoldable pub commits : Answer
-commits = Voted voteCommit
+commits = Voted voteCommit unvisited
 
 unfoldable pub waits : Answer
-waits = Voted waiting
+waits = Voted waiting unvisited
 
 unfoldable pub aborts : Reason → Answer
-aborts r = Voted (voteAbort r)
+aborts r = Voted (voteAbort r) unvisited
 
 -- the answer of an LG: a log of view 0
 unfoldable pub logs0 : Decision → Answer
