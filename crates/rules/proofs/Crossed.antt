@@ -2,7 +2,7 @@
 use Prim.Native.Nat.{ℕ}
 use mathlib.Core.Path.{refl}
 use native.Mathlib.Omega.{arith}
-use Rattle.rules.specs.Order.{NeedsNew, apartFromNumber, next, replies, reply}
+use Rattle.rules.specs.Order.{NeedsNew, next, replies, reply}
 use Rattle.rules.specs.Crossed.{Crossed, aborted, aborting, calls, committed, committing, laterAnswers, laterCalls, lentThree, three}
 use Rattle.rules.proofs.Running.{running}
 use Rattle.rules.proofs.Order.{decisions-commute}
@@ -16,7 +16,7 @@ unfolding running reply lentThree three aborting
 other = record { new = refl; taken = refl }
 
 pub crossed : Crossed
-unfolding running reply next replies apartFromNumber lentThree three committing aborting committed aborted calls laterCalls laterAnswers
+unfolding running reply next replies lentThree three committing aborting committed aborted calls laterCalls laterAnswers
 crossed = record {
   one-new = one;
   other-new = other;

@@ -3,6 +3,7 @@ pub mod Laws
 pub mod Counting
 pub mod Lacking
 pub mod Quorums
+pub mod Visits
 pub mod Moves
 pub mod Tested
 pub mod Called

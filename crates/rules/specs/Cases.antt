@@ -13,7 +13,8 @@ use Rattle.records.specs.declared.ViewMark.the-variants.{VS, EL}
 use Rattle.records.specs.declared.Mark.the-variants.{LG as markedLG, DC as markedDC}
 use Rattle.records.specs.Writing.{prBytes, listedBytes, viewedBytes, rdBytes}
 use Rattle.rules.specs.Answers.{Answer, Decision, Done, Found, Kind, Logged, Refused, Voted, abort, commit, logs, voteAbort, voteCommit, votes}
-use Rattle.rules.specs.Answers.{Reason, Ahead, Dependency, NoVersion, Overwritten, ReadMark, Undercuts, decisionNumber, kindNumber, unvisited, viewAs, waiting}
+use Rattle.rules.specs.Answers.{Reason, Ahead, Dependency, NoVersion, Overwritten, ReadMark, Undercuts}
+use Rattle.rules.specs.Answers.{apartFromNumber, decisionNumber, kindNumber, unvisited, viewAs, waiting}
 use Rattle.rules.specs.Table.{Box, Told, empty}
 use Rattle.rules.specs.Act.{act, after, receive}
 
@@ -24,9 +25,10 @@ pub record Case : Type 0 where
   pub sent : List (List ℕ)
   pub due : List Answer
 
+-- answers "apart from A6's number", which have vectors of their own (Counts)
 unfoldable pub replay : Told → Box → List (List ℕ) → List Answer
 replay told x [] = []
-replay told x (m ∷ ms) = act receive told x m .answer ∷ replay told (after receive told x m) ms
+replay told x (m ∷ ms) = apartFromNumber (act receive told x m .answer) ∷ replay told (after receive told x m) ms
 
 unfoldable pub given : Case → List Answer
 given c = replay (c .told) (c .start) (c .sent)

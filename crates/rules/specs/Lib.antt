@@ -8,6 +8,7 @@ pub mod Visits
 pub mod Calls
 pub mod Fallback
 pub mod Act
+pub mod Figure
 pub mod Quorums
 pub mod System
 pub mod SlipUnder
