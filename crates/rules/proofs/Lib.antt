@@ -10,6 +10,7 @@ pub mod Called
 pub mod Fallback
 pub mod Deeds
 pub mod Outcome
+pub mod Figure
 pub mod Kept
 pub mod Room
 pub mod Said
