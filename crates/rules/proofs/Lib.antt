@@ -31,6 +31,7 @@ pub mod SlipUnder
 pub mod Alike
 pub mod Running
 pub mod Cases
+pub mod Counts
 pub mod Traces
 pub mod Panel
 pub mod Leading

@@ -15,6 +15,7 @@ pub mod SlipUnder
 pub mod Order
 pub mod Cases
 pub mod Vectors
+pub mod Counts
 pub mod Crossed
 pub mod Traces
 pub mod Panel
