@@ -26,7 +26,7 @@ use Rattle.rules.specs.Tests.{firstVote, test1, test2, test3, test4, tes
 use Rattle.rules.specs.Visits.{againVisits, firstVisits, keyByKey, lookUp, newLast, testVisits, unless, versionUp, visits2, visits3, visits4, waitingVisits}
 use Rattle.rules.specs.Calls.{Act, castAct, guarded, isFull, keep, prByDecision, prByEntry, prByVote, prRule, refuse, roomFor}
 use Rattle.rules.specs.Act.{EntryPoint, act, dueAct, markBy, markedAct, rule, toldWrong}
-use Rattle.rules.specs.Figure.{Already, Figure, Figures, answered, numberIn}
+use Rattle.rules.specs.Figure.{Already, Figure, Figures, answered, figureOf, numberIn}
 use Rattle.rules.proofs.Laws.{pick-elim}
 use Rattle.rules.proofs.Moves.{none-some, some-eq}
 use Rattle.rules.proofs.Deeds.{guarded-elim}
@@ -80,11 +80,11 @@ module _ (told : Told) (x : Box) (b : Body) (r : length (readsOf b) ≤ 8) (w : 
       let z = unless-most (test1 told b) (visits2 x b + unless (test2 x b) (visits3 x b + unless (test3 x b) (visits4 x b + unless (test4 x b) (unless (test5 x b) (waitingVisits t b))))) in
       omega (arith, a, c, d, e, z)
 
-  first-most : (t : List Entry) → length t ≤ length (x .table) + 1 → firstVisits told x b t ≤ 33 * (length (x .table) + 1)
+  first-most : (t : List Entry) → length t ≤ length (x .table) + 1 → firstVisits told x b t ≤ figureOf (x .table)
   unfolding firstVisits
   first-most t h = omega (arith, h, look-most (stampOf b) (x .table), tests-most t, two-most, three-most, four-most, waiting-most t)
 
-  again-most : againVisits x b ≤ 33 * (length (x .table) + 1)
+  again-most : againVisits x b ≤ figureOf (x .table)
   unfolding againVisits
   again-most = omega (arith, look-most (stampOf b) (x .table), waiting-most (x .table))
 
@@ -115,7 +115,7 @@ module _ (f : ℕ) (m : List ℕ) (h : dueRefusal PR f m ≡ 0) where
 
 -- ---- an act that bears the figure
 record Bears (told : Told) (x : Box) (p : EntryPoint) (m : List ℕ) (a : Act) : Type 0 where
-  never-above : (n : ℕ) → numberIn (a .answer) ≡ visited n → n ≤ 33 * (length (x .table) + 1)
+  never-above : (n : ℕ) → numberIn (a .answer) ≡ visited n → n ≤ figureOf (x .table)
   none-again : Already told x p m → numberIn (a .answer) ≡ unvisited
   every-other : (v : Vote) → a .answer ≡ Voted v unvisited → Already told x p m
 
@@ -137,7 +137,7 @@ module _ (told : Told) (x : Box) (p : EntryPoint) (m : List ℕ) where
   }
 
   -- one that is neither
-  cast-bears : (b : Body) (o : Option Entry) (v : Vote) (n : ℕ) → n ≤ 33 * (length (x .table) + 1) → (Already told x p m → ⊥) → Bears told x p m (castAct b o v n)
+  cast-bears : (b : Body) (o : Option Entry) (v : Vote) (n : ℕ) → n ≤ figureOf (x .table) → (Already told x p m → ⊥) → Bears told x p m (castAct b o v n)
   unfolding castAct numberIn
   cast-bears b o v n le neither = record {
     never-above = λ k h. let e : n ≡ k = cc in omega (arith, e, le);

@@ -60,7 +60,9 @@ writing a b c = tx 60 [] (write a 7 ∷ write b 7 ∷ write c 7 ∷ [])
 unfoldable pub outer : List Counted
 outer =
     at writers (writes 111 1) (abortsBy Ahead 3)
+    ∷ at writers (reads 111 4 10) (abortsBy Ahead 3)
     ∷ record { standing = writers; mark = 65; asked = writes 60 0; due = abortsBy ReadMark 6 }
+    ∷ record { standing = writers; mark = 65; asked = tx 60 (read 4 10 ∷ []) (write 0 7 ∷ []); due = abortsBy ReadMark 10 }
     ∷ []
 
 -- test 2 fails at the first, the middle and the last key, with the first, the middle and the last row found; and where none is found
@@ -94,6 +96,8 @@ third =
     ∷ at writers (reading (read 1 0) (read 2 0) (read 6 0)) (abortsBy Overwritten 12)
     -- key by key: the first key's last row comes before the second key's first
     ∷ at (done (writes 10 5) ∷ done (writes 20 9) ∷ done (writes 30 4) ∷ []) (reading (read 4 0) (read 5 0) (read 6 0)) (abortsBy Overwritten 6)
+    -- and a key that is written is not looked at behind it
+    ∷ at writers (tx 60 (read 4 0 ∷ []) (write 1 7 ∷ [])) (abortsBy Overwritten 4)
     ∷ []
 
 -- test 4, likewise at the keys written; behind test 3's walk where a key is read too
@@ -110,6 +114,8 @@ fourth =
     ∷ at readers (writing 1 2 6) (abortsBy Undercuts 12)
     ∷ at (done (reads 70 5 0) ∷ done (reads 80 9 0) ∷ done (reads 90 4 0) ∷ []) (writing 4 5 6) (abortsBy Undercuts 6)
     ∷ at readers (tx 60 (read 1 0 ∷ []) (write 4 7 ∷ [])) (abortsBy Undercuts 7)
+    -- and the waiting rule does not run behind it
+    ∷ at (done (writes 10 4) ∷ done (reads 70 5 0) ∷ []) (tx 60 (read 4 10 ∷ []) (write 5 7 ∷ [])) (abortsBy Undercuts 7)
     ∷ []
 
 -- no test fails: 3, then 1 + 2 + 3, 3 times 3, 3, and 1 + 2 + 3 again

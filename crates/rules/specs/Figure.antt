@@ -25,6 +25,10 @@ numberIn Done = unvisited
 numberIn (Found c u) = unvisited
 numberIn (Refused r) = unvisited
 
+-- "33 × (H + 1)", "With H entries held"
+abbrev pub figureOf : List Entry → ℕ
+figureOf t = 33 * (length t + 1)
+
 -- "already decided or voted on": a commit or an abort; a waiting vote is asked again
 unfoldable pub answered : Settled → Vote → Bool
 answered (settled d) v = true
@@ -48,8 +52,8 @@ module _ (told : Told) (x : Box) (p : EntryPoint) (m : List ℕ) where
     pub already : T (answered (entry .decided) (entry .vote))
 
   pub record Figure : Type 0 where
-    -- "never above 33 × (H + 1)"
-    pub never-above : (n : ℕ) → numberIn said ≡ visited n → n ≤ 33 * (length (x .table) + 1)
+    -- "never above" it
+    pub never-above : (n : ℕ) → numberIn said ≡ visited n → n ≤ figureOf (x .table)
     -- "an answer for an entry already decided or voted on" carries no number
     pub none-again : Already → numberIn said ≡ unvisited
     -- and every other vote carries one
