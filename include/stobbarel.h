@@ -8,7 +8,8 @@
  * kept here. A new table is STOBBAREL_TABLE_LEN(capacity) bytes, all 0; new read marks are 512 numbers, all 0.
  *
  * An answer is five numbers:
- *   1 voted    vote (1 commit, 2 abort, 3 waiting), reason (1 to 6 beside an abort, else 0), 0, 0
+ *   1 voted    vote (1 commit, 2 abort, 3 waiting), reason (1 to 6 beside an abort, else 0), told, number: how many entries the PR
+ *              visited, where told is 1; 0, 0 where the entry was voted on before
  *   2 decided  decision (1 commit, 2 abort), 0, 0, 0
  *   3 logged   decision (1 commit, 2 abort), the view that it was logged in (0 to 65535), 0, 0
  *   4 done     0, 0, 0, 0

@@ -46,7 +46,7 @@ impl Line {
         }
         let length = write_pr(tx, &mut buffer)?;
         for (number, answer) in self.send_all(&buffer[..length]).into_iter().enumerate() {
-            let Answer::Voted(vote) = answer else { panic!("a PR was answered {answer:?}") };
+            let Answer::Voted(vote, _) = answer else { panic!("a PR was answered {answer:?}") };
             votes.take_number(number as u64, vote.number());
         }
         let list = list(&votes);
@@ -103,6 +103,7 @@ fn main() -> Result<(), Refusal> {
     let late = line.look(3, 66)?.correct_direction(Stamp(80))?;
     let mut buffer = [0; LONGEST];
     let length = write_pr(&late, &mut buffer)?;
-    println!("  {:<14} {:?}", OWNERS[0], line.send_all(&buffer[..length])[0]);
+    let Answer::Voted(vote, _) = line.send_all(&buffer[..length])[0] else { panic!("a PR is voted on") };
+    println!("  {:<14} {vote:?}", OWNERS[0]);
     Ok(())
 }

@@ -10,7 +10,7 @@
 //! // 50 writes 7 at key 3: a vote for commit.
 //! let tx = Transaction { stamp: Stamp(50), reads: vec![], writes: vec![(Key(3), 7)] };
 //! let length = write_pr(&tx, &mut buffer)?;
-//! assert_eq!(table.receive(100, 10, &buffer[..length]), Answer::Voted(Vote::Commit));
+//! assert_eq!(table.receive(100, 10, &buffer[..length]), Answer::Voted(Vote::Commit, Some(0)));
 //!
 //! // An RD shows it, undecided.
 //! let length = write_rd(Key(3), Stamp(60), &mut buffer)?;

@@ -55,8 +55,8 @@ pub struct Version {
 /// What a box answers.
 #[derive(Clone, Copy, Debug, PartialEq, Eq, Hash)]
 pub enum Answer {
-    /// To a PR.
-    Voted(Vote),
+    /// To a PR: the vote, and how many entries were visited; no number where the entry was voted on before.
+    Voted(Vote, Option<u64>),
     /// To a PR, an LG, an IV or an LD: the transaction is decided.
     Decided(Decision),
     /// To an LG or an LD: what is logged, and the view that it was logged in.
@@ -82,7 +82,8 @@ impl Answer {
     fn of(row: [u64; 5]) -> Option<Answer> {
         let version = |stamp, value| Version { stamp: Stamp(stamp), value };
         Some(match row {
-            [1, vote, reason, 0, 0] => Answer::Voted(Vote::of(vote, reason)?),
+            [1, vote, reason, 0, 0] => Answer::Voted(Vote::of(vote, reason)?, None),
+            [1, vote, reason, 1, visited] => Answer::Voted(Vote::of(vote, reason)?, Some(visited)),
             [2, decision, 0, 0, 0] => Answer::Decided(Decision::of(decision)?),
             [3, decision, view, 0, 0] => Answer::Logged(Decision::of(decision)?, View(view.try_into().ok()?)),
             [4, 0, 0, 0, 0] => Answer::Done,

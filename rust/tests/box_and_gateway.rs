@@ -40,29 +40,30 @@ fn a_reader_waits_and_commits() {
     let mut table = Table::new(group, 8).unwrap();
     let (writer, reader) = (tx(50, &[], &[(3, 7)]), tx(60, &[(3, 50)], &[]));
     let ask = bytes(|out| write_pr(&reader, out));
-    assert_eq!(table.prepare(100, 10, &bytes(|out| write_pr(&writer, out))), Answer::Voted(Vote::Commit));
-    assert_eq!(table.prepare(100, 10, &ask), Answer::Voted(Vote::Waiting));
+    assert_eq!(table.prepare(100, 10, &bytes(|out| write_pr(&writer, out))), Answer::Voted(Vote::Commit, Some(0)));
+    assert_eq!(table.prepare(100, 10, &ask), Answer::Voted(Vote::Waiting, Some(4)));
     let logged = bytes(|out| write_lg(group, &writer, &votes(Decision::Commit, 4), out));
     assert_eq!(table.log(100, 10, &logged), Answer::Logged(Decision::Commit, View(0)));
     let decided = bytes(|out| write_dc(group, &writer, &votes(Decision::Commit, 6), out));
     assert_eq!(table.decide(100, 10, &decided), Answer::Done);
-    assert_eq!(table.prepare(100, 10, &ask), Answer::Voted(Vote::Commit));
+    assert_eq!(table.prepare(100, 10, &ask), Answer::Voted(Vote::Commit, Some(3)));
+    assert_eq!(table.prepare(100, 10, &ask), Answer::Voted(Vote::Commit, None), "the same vote again has no number");
     assert_eq!(table.receive(100, 10, &decided[..9]), Answer::Refused(Refusal::Short));
     let read = table.read(100, 10, &bytes(|out| write_rd(Key(3), Stamp(70), out)));
     assert_eq!(read, Answer::Found(Version { stamp: Stamp(50), value: 7 }, Version { stamp: Stamp(0), value: 0 }));
     assert_eq!(table.marks()[3], 70);
     let mut again = Table::kept(group, 8, table.bytes().to_vec(), *table.marks());
     let late = bytes(|out| write_pr(&tx(65, &[], &[(3, 1)]), out));
-    assert_eq!(again.receive(100, 10, &late), Answer::Voted(Vote::Abort(Reason::ReadMark)));
+    assert_eq!(again.receive(100, 10, &late), Answer::Voted(Vote::Abort(Reason::ReadMark), Some(4)));
 }
 
 /// A table of three entries, 50 voted commit, 60 waiting for it, 55 voted abort since 60 read below it; and their PRs.
 fn three_votes(group: Group) -> (Table, [Vec<u8>; 3]) {
     let mut table = Table::new(group, 3).unwrap();
     let asked = [tx(50, &[], &[(3, 7)]), tx(60, &[(3, 50)], &[]), tx(55, &[], &[(3, 8)])].map(|tx| bytes(|out| write_pr(&tx, out)));
-    let votes = [Vote::Commit, Vote::Waiting, Vote::Abort(Reason::Undercuts)];
-    for (message, vote) in asked.iter().zip(votes) {
-        assert_eq!(table.prepare(100, 10, message), Answer::Voted(vote));
+    let votes = [(Vote::Commit, 0), (Vote::Waiting, 4), (Vote::Abort(Reason::Undercuts), 4)];
+    for (message, (vote, visited)) in asked.iter().zip(votes) {
+        assert_eq!(table.prepare(100, 10, message), Answer::Voted(vote, Some(visited)));
     }
     (table, asked)
 }
@@ -72,7 +73,7 @@ fn only_the_message_that_is_due() {
     let group = Group::of(1).unwrap();
     let x = tx(50, &[], &[(3, 7)]);
     let messages = [
-        (Mark::Pr, bytes(|out| write_pr(&x, out)), Answer::Voted(Vote::Commit)),
+        (Mark::Pr, bytes(|out| write_pr(&x, out)), Answer::Voted(Vote::Commit, Some(0))),
         (Mark::Lg, bytes(|out| write_lg(group, &x, &votes(Decision::Commit, 4), out)), Answer::Logged(Decision::Commit, View(0))),
         (Mark::Iv, bytes(|out| write_iv(group, &x, &views(0, 4), out)), Answer::Elected { decision: Decision::Commit, view: View(1), leader: 3 }),
         (Mark::Ld, bytes(|out| write_ld(group, &x, &election(3, 1, Decision::Abort, 5), out)), Answer::Logged(Decision::Abort, View(1))),
@@ -132,7 +133,7 @@ fn a_box_that_missed_the_prepare_logs() {
     assert_eq!(table.log(100, 10, &logging(&y, Decision::Abort, 1)), Answer::Refused(Refusal::TooFew(1)));
     assert_eq!(table.log(100, 10, &logging(&y, Decision::Abort, 2)), Answer::Refused(Refusal::Full));
     // the table is full, and the PR for what is logged needs no room
-    assert_eq!(table.prepare(100, 10, &ask), Answer::Voted(Vote::Commit));
+    assert_eq!(table.prepare(100, 10, &ask), Answer::Voted(Vote::Commit, Some(2)));
     assert_eq!(codes(&table), [1, 0, 1, 0]);
     assert_eq!(table.log(100, 10, &logging(&x, Decision::Abort, 2)), Answer::Logged(Decision::Commit, View(0)));
 }

@@ -32,7 +32,7 @@ impl Line {
             if number > 3 {
                 one.read(CLOCK, DELTA, &read);
             }
-            let Answer::Voted(vote) = one.prepare(CLOCK, DELTA, &ask) else { panic!("a PR is voted on") };
+            let Answer::Voted(vote, _) = one.prepare(CLOCK, DELTA, &ask) else { panic!("a PR is voted on") };
             votes.take(number as u64, vote.decision().unwrap());
         }
         for (decision, to) in [(Commit, to_commit), (Abort, to_abort)] {

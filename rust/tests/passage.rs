@@ -97,7 +97,7 @@ fn of_two_entries_of_one_look_one_is_voted_for() {
         let length = write_pr(&seen.enter(Stamp(stamp), Values { train, direction: 0, axles: 8, hot: 0 }).unwrap(), &mut buffer).unwrap();
         table.receive(100, 10, &buffer[..length])
     };
-    assert_eq!(vote(50, 1), Answer::Voted(Vote::Commit));
-    assert!(matches!(vote(60, 2), Answer::Voted(Vote::Abort(_))));
-    assert!(matches!(vote(45, 3), Answer::Voted(Vote::Abort(_))));
+    assert_eq!(vote(50, 1), Answer::Voted(Vote::Commit, Some(0)));
+    assert!(matches!(vote(60, 2), Answer::Voted(Vote::Abort(_), Some(_))));
+    assert!(matches!(vote(45, 3), Answer::Voted(Vote::Abort(_), Some(_))));
 }

@@ -13,7 +13,7 @@ use Rattle.engine.specs.Outcome.{Kept, tableBy}
 use Rattle.sheet.specs.declared.Sheet.{Sheet}
 
 abbrev pub answerNumber : Answer → ℕ
-answerNumber (Voted v) = 1
+answerNumber (Voted v n) = 1
 answerNumber (Decided d) = 2
 answerNumber (Logged d v) = 3
 answerNumber Done = 4

@@ -37,12 +37,12 @@ pub fn values(a: Answer) -> [u64; 5]
     ensures { λ r. ⌜ r ≡ answerRow a ⌝ }
 {
     match a {
-        Answer::Voted(v) => [
+        Answer::Voted(v, visited) => [
             1,
             records::widened(v.number()),
             records::widened(v.reason()),
-            0,
-            0,
+            records::widened(visited.told()),
+            visited.number() as u64,
         ],
         Answer::Decided(d) => [2, records::widened(d.number()), 0, 0, 0],
         Answer::Logged(d, v) => [3, records::widened(d.number()), v.0 as u64, 0, 0],

@@ -122,9 +122,9 @@ loggedText d v = loggedBlank ++ (decisionText d ++ (blank ++ decimal v))
 unfoldable pub electedText : Decision → ℕ → ℕ → List ℕ
 electedText d v l = electBlank ++ (decisionText d ++ (blank ++ (decimal v ++ (blank ++ decimal l))))
 
--- "`decided`/`logged` and commit or abort, `done`, .. `refused` and number"
+-- "`decided`/`logged` and commit or abort, `done`, .. `refused` and number"; A6's number: "the bench does not print it"
 unfoldable pub answerText : Answer → List ℕ
-answerText (Voted v) = voteText v
+answerText (Voted v n) = voteText v
 answerText (Decided d) = decidedBlank ++ decisionText d
 answerText (Logged d v) = loggedText d (v .0)
 answerText Done = doneText

@@ -175,7 +175,7 @@ fn put_answer(out: &mut [u8], at: usize, answer: Answer) -> usize
     ensures { λ r. ⌜ Puts (now (out .entry)) at (answerText answer) 83 (now (out .exit)) r ⌝ }
 {
     match answer {
-        Answer::Voted(v) => put_vote(out, at, v),
+        Answer::Voted(v, _) => put_vote(out, at, v),
         Answer::Decided(d) => {
             let a = put_text(out, at, b"decided ");
             put_decision(out, a, d)

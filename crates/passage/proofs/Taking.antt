@@ -57,7 +57,7 @@ unfolding castAct logAct electAct decideAct lookAct tableAfter
 stays (quiet n) c e h d = h
 stays (looks k s) c e h d = h
 stays (again w o p g n) c e h d = h
-stays {x = x} (casts v o p n r cl) c e h d = put-stays x.table _ c e h (open-there p e d)
+stays {x = x} (casts v m o p n r cl) c e h d = put-stays x.table _ c e h (open-there p e d)
 stays {x = x} (logs-first l o w k y p n) c e h d = put-stays x.table _ c e h (open-there p e d)
 stays {x = x} (takes l o w k p u v) c e h d = put-stays x.table _ c e h (open-there p e d)
 stays {x = x} (elects told v y s u p k n) c e h d = put-stays x.table _ c e h (open-there p e d)

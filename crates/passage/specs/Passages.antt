@@ -102,7 +102,7 @@ abbrev pub noVersion : Version
 noVersion = record { stamp = record { 0 = 0 }; value = 0 }
 
 abbrev pub half : Answer → Version
-half (Voted v) = noVersion
+half (Voted v n) = noVersion
 half (Decided d) = noVersion
 half (Logged d v) = noVersion
 half (Elected d v l) = noVersion
@@ -112,7 +112,7 @@ half (Unanswered r) = noVersion
 
 -- why there is none: the box's refusal (14, 16, 1 to 5, 15), or the answer to another message
 abbrev pub unfound : Answer → ℕ
-unfound (Voted v) = mark
+unfound (Voted v n) = mark
 unfound (Decided d) = mark
 unfound (Logged d v) = mark
 unfound (Elected d v l) = mark

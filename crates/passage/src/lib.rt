@@ -232,7 +232,7 @@ fn half(a: Answer) -> Version
     ensures { λ r. ⌜ r ≡ half a ⌝ }
 {
     match a {
-        Answer::Voted(_) => NO_VERSION,
+        Answer::Voted(_, _) => NO_VERSION,
         Answer::Decided(_) => NO_VERSION,
         Answer::Logged(_, _) => NO_VERSION,
         Answer::Done => NO_VERSION,
@@ -247,7 +247,7 @@ fn unfound(a: Answer) -> u8
     ensures { λ r. ⌜ r ≡ unfound a ⌝ }
 {
     match a {
-        Answer::Voted(_) => terms::MARK,
+        Answer::Voted(_, _) => terms::MARK,
         Answer::Decided(_) => terms::MARK,
         Answer::Logged(_, _) => terms::MARK,
         Answer::Done => terms::MARK,

@@ -83,7 +83,7 @@ abbrev pub stopsAt : ℕ → Bool
 stopsAt n = eqb n 1 || (eqb n 2 || (eqb n 3 || eqb n 14))
 
 abbrev pub answerStops : Answer → Bool
-answerStops (Voted v) = false
+answerStops (Voted v n) = false
 answerStops (Decided d) = false
 answerStops (Logged d v) = false
 answerStops (Elected d v l) = false

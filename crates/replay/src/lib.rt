@@ -139,7 +139,7 @@ fn answer_stops(a: Answer) -> bool
     ensures { λ r. ⌜ r ≡ answerStops a ⌝ }
 {
     match a {
-        Answer::Voted(_) => false,
+        Answer::Voted(_, _) => false,
         Answer::Decided(_) => false,
         Answer::Logged(_, _) => false,
         Answer::Done => false,

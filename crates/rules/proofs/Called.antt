@@ -60,8 +60,8 @@ module _ (told : Told) (x : Box) (way : EntryPoint) (m : List ℕ) (b : Body) (s
   unfolding prByVote Holds cast voteWord wordIn
   pr-vote e p voteCommit q = again (vote commit) e p (rw q) refl
   pr-vote e p (voteAbort r) q = again (vote abort) e p (rw q) refl
-  pr-vote e p waiting q = casts (waitingRule x b) (some e) p (rw q) (ready-waiting x b sane) (λ _. inr q)
-  pr-vote e p unvoted q = let w = first-of told x b sane in casts (firstVote told x b) (some e) p (rw q) (w .ready) (λ k. inl (w .clear k))
+  pr-vote e p waiting q = casts (waitingRule x b) _ (some e) p (rw q) (ready-waiting x b sane) (λ _. inr q)
+  pr-vote e p unvoted q = let w = first-of told x b sane in casts (firstVote told x b) _ (some e) p (rw q) (w .ready) (λ k. inl (w .clear k))
 
   pr-decided : (e : Entry) → find (stampOf b) x.table ≡ some e → e.body ≡ b → (o : Settled) → e.decided ≡ o
       → Move told.f x way m b (prByDecision told x b e o)
@@ -71,7 +71,7 @@ module _ (told : Told) (x : Box) (way : EntryPoint) (m : List ℕ) (b : Body) (s
 
   pr-entry : (o : Option Entry) → find (stampOf b) x.table ≡ o → Move told.f x way m b (prByEntry told x b o)
   unfolding prByEntry cast
-  pr-entry none p = let w = first-of told x b sane in room told _ (casts (firstVote told x b) none (nothing p) refl (w .ready) (λ k. inl (w .clear k)))
+  pr-entry none p = let w = first-of told x b sane in room told _ (casts (firstVote told x b) _ none (nothing p) refl (w .ready) (λ k. inl (w .clear k)))
   pr-entry (some e) p = tested (sameBody e.body b) _ _ (λ s. pr-decided e p (sameBody-eq e.body b s) e.decided refl)
 
   pub pr-move : Move told.f x way m b (prRule told x b)

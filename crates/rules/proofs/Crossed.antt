@@ -1,7 +1,8 @@
 -- Two decisions in either order on one lent table, by computation and by the theorem.
 use mathlib.Core.Path.{refl}
 use native.Mathlib.Omega.{arith}
-use Rattle.rules.specs.Order.{NeedsNew, apartFromNumber, next, replies, reply}
+use Rattle.rules.specs.Answers.{apartFromNumber}
+use Rattle.rules.specs.Order.{NeedsNew, next, replies, reply}
 use Rattle.rules.specs.Crossed.{Crossed, aborted, aborting, calls, committed, committing, laterAnswers, laterCalls, laterMessages, lentThree, three}
 use Rattle.rules.proofs.Running.{running}
 use Rattle.rules.proofs.Order.{decisions-commute}

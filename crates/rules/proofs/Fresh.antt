@@ -6,7 +6,7 @@ use mathlib.Core.Option.{Option, some, none}
 use mathlib.Core.List.{List, List·Memᴰ as In, List·Memᴰ·head as here}
 use lib.Dec.{T}
 use Rattle.records.specs.Vl.{Vl}
-use Rattle.rules.specs.Answers.{Decision, commit, abort, Vote, unvoted, waiting, voteCommit, voteAbort, Answer, Voted, Logged, Done, Settled, settled, unsettled}
+use Rattle.rules.specs.Answers.{Decision, commit, abort, Vote, unvoted, waiting, voteCommit, voteAbort, Answer, Voted, visited, Logged, Done, Settled, settled, unsettled}
 use Rattle.rules.specs.Answers.{View, logged, unlogged, viewAs}
 use Rattle.rules.specs.Bodies.{Body, stampOf}
 use Rattle.rules.specs.Lists.{decisionOf}
@@ -66,11 +66,11 @@ FreshBy f x way m b a (puts e) = Fresh f x way m b e a
 
 module _ {t : List Entry} {b : Body} (o : Option Entry) (p : Prior t b o) where
   -- what a move leaves of what was held is carried
-  told-cast : (v : Vote) (x : Entry) → x.vote ≡ v → x.log ≡ logIn o → (w : Word) → Holds (some x) w → (wordIn (Voted v) ≡ some w) ⊎ Carried t b w
+  told-cast : (v : Vote) (n : ℕ) (x : Entry) → x.vote ≡ v → x.log ≡ logIn o → (w : Word) → Holds (some x) w → (wordIn (Voted v (visited n)) ≡ some w) ⊎ Carried t b w
   unfolding Holds wordIn voteWord
-  told-cast v x q k (vote d) h = inl (rw (rw q at h))
-  told-cast v x q k (log d u) h = inr (carried o p (log d u) (sym k ∙ h))
-  told-cast v x q k (elect d u) h = absurd h
+  told-cast v n x q k (vote d) h = inl (rw (rw q at h))
+  told-cast v n x q k (log d u) h = inr (carried o p (log d u) (sym k ∙ h))
+  told-cast v n x q k (elect d u) h = absurd h
 
   told-log : (y : Decision) (v : View) (x : Entry) → x.vote ≡ voteIn o → x.log ≡ logged y v → (w : Word) → Holds (some x) w
       → (wordIn (Logged y v) ≡ some w) ⊎ Carried t b w
@@ -94,9 +94,9 @@ unfolding FreshBy castAct logAct electAct decideAct lookAct stands Holds cast
 fresh (quiet n) = tt
 fresh (looks k s) = tt
 fresh (again w e p h n) = tt
-fresh {x = x} {b = b} (casts v o p n r cl) = record {
+fresh {x = x} {b = b} (casts v c o p n r cl) = record {
   owner = refl;
-  told = told-cast o p v _ refl refl;
+  told = told-cast o p v c _ refl refl;
   decided = λ d h. absurd (un-settled refl h);
   stood = λ w. go (cl (w .vote));
 }

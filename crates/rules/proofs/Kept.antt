@@ -113,7 +113,7 @@ unfolding GrowsBy castAct logAct electAct decideAct lookAct
 grows (quiet n) = tt
 grows (looks k s) = tt
 grows (again w e p h n) = tt
-grows (casts v o p n r cl) = grow-prior p _ refl (λ y u. keeps-up y _ (λ d h. absurd (un-settled (rw u at n) h)) (λ _. rises-same y _ (rw u refl) (rw u refl)))
+grows (casts v c o p n r cl) = grow-prior p _ refl (λ y u. keeps-up y _ (λ d h. absurd (un-settled (rw u at n) h)) (λ _. rises-same y _ (rw u refl) (rw u refl)))
 grows (logs-first l o q k w p n) = grow-prior p _ refl (λ y u. keeps-up y _ (λ d h. rw u h) (λ h. absurd (h (rw u at n))))
 grows (takes l o q w p c n) =
     grow-prior p _ refl (λ y u. keeps-up y _ (λ d h. rw u h) (λ _. record { log = inr (rw u at n); view = rw u at c }))

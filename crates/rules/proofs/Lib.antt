@@ -3,12 +3,14 @@ pub mod Laws
 pub mod Counting
 pub mod Lacking
 pub mod Quorums
+pub mod Visits
 pub mod Moves
 pub mod Tested
 pub mod Called
 pub mod Fallback
 pub mod Deeds
 pub mod Outcome
+pub mod Figure
 pub mod Kept
 pub mod Room
 pub mod Said
@@ -30,6 +32,7 @@ pub mod SlipUnder
 pub mod Alike
 pub mod Running
 pub mod Cases
+pub mod Counts
 pub mod Traces
 pub mod Panel
 pub mod Leading

@@ -132,7 +132,7 @@ below-of p (suc n) i l h = go (decideT (eqb i n)) (λ k. below-of p n i k h)
 unfoldable pub loggedView : Answer → ℕ
 loggedView (Logged d v) = v .0
 loggedView (Elected d v l) = 0
-loggedView (Voted v) = 0
+loggedView (Voted v n) = 0
 loggedView Done = 0
 loggedView (Decided d) = 0
 loggedView (Found p q) = 0
@@ -151,7 +151,7 @@ logged-view : (a : Answer) (d : Decision) (v : ℕ) → wordIn a ≡ some (log d
 unfolding wordIn loggedView
 logged-view (Logged x u) d v h = let q : log x (u .0) ≡ log d v = some-eq refl h in cc
 logged-view (Elected x u l) d v h = let q = some-eq refl h in let z : _≡_ {A = ℕ} 0 1 = cc in absurd (omega arith)
-logged-view (Voted x) d v h = absurd (vote-unlogged (cast x) d v h)
+logged-view (Voted x n) d v h = absurd (vote-unlogged (cast x) d v h)
 logged-view Done d v h = absurd (none-some refl h)
 logged-view (Decided x) d v h = absurd (none-some refl h)
 logged-view (Found p q) d v h = absurd (none-some refl h)

@@ -181,8 +181,8 @@ pub data Move (f : ℕ) (x : Box) (way : EntryPoint) (m : List ℕ) (b : Body) :
   -- a word that is held is given again
   again : {a : Answer} (w : Word) (e : Entry) → Prior x.table b (some e) → Holds (some e) w → wordIn a ≡ some w → Move f x way m b (keep a)
   -- a vote after the tests, or a waiting one after the waiting rule
-  casts : (v : Vote) (o : Option Entry) → Prior x.table b o → cast (voteIn o) ≡ unsettled → Ready x b v
-      → (T (stands v) → Clear x b ⊎ (voteIn o ≡ waiting)) → Move f x way m b (castAct b o v)
+  casts : (v : Vote) (n : ℕ) (o : Option Entry) → Prior x.table b o → cast (voteIn o) ≡ unsettled → Ready x b v
+      → (T (stands v) → Clear x b ⊎ (voteIn o ≡ waiting)) → Move f x way m b (castAct b o v n)
   -- a first log
   logs-first : (l : Vl) (o : Option Entry) → Brings f way m b l → kindOf (l .kind) ≡ votes → Listing f l (forLogging f (decisionOf (l .decision)))
       → Prior x.table b o → logIn o ≡ unlogged → Move f x way m b (firstLog b (decisionOf (l .decision)) o)

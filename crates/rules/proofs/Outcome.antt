@@ -28,7 +28,7 @@ unfolding castAct logAct electAct decideAct lookAct rdAnswer
 refused-change r (quiet n) q = refl
 refused-change r (looks k s) q = let z : _≡_ {A = ℕ} 0 1 = cc in absurd (omega arith)
 refused-change r (again w e p h n) q = refl
-refused-change r (casts v o p n d c) q = let z : _≡_ {A = ℕ} 0 1 = cc in absurd (omega arith)
+refused-change r (casts v k o p n d c) q = let z : _≡_ {A = ℕ} 0 1 = cc in absurd (omega arith)
 refused-change r (logs-first l o w k y p n) q = let z : _≡_ {A = ℕ} 0 1 = cc in absurd (omega arith)
 refused-change r (takes l o w y p c n) q = let z : _≡_ {A = ℕ} 0 1 = cc in absurd (omega arith)
 refused-change r (elects told v e d u p h c) q = let z : _≡_ {A = ℕ} 0 1 = cc in absurd (omega arith)

@@ -9,7 +9,7 @@ use lib.Dec.{T, eqb, eqb→eq, ltb, ltb→lt}
 use Rattle.terms.specs.Group.{boxes}
 use Rattle.terms.specs.declared.Refusal.the-variants.{TooFew}
 use Rattle.records.specs.Tx.{txBytes}
-use Rattle.rules.specs.Answers.{ReadMark, Refused, commit, votes}
+use Rattle.rules.specs.Answers.{ReadMark, Refused, apartFromNumber, commit, votes}
 use Rattle.rules.specs.Bodies.{Body, stampOf, writesKey}
 use Rattle.rules.specs.Act.{receive}
 use Rattle.rules.specs.System.{Event, Fair, Sound, answerTo, gave, howMany, vote}
@@ -70,7 +70,7 @@ record PanelTests : Type 0 where
   shown : answerTo 1 (at receive 0 (RD 3 90)) (each receive 3 2 (PR (writes 60 3)) []) ≡ found 0 0 0 0
   held-elsewhere : T (everHeld (watched 1 3) (txBytes (writes 60 3)) looked)
   voted-elsewhere : T (gave 1 3 (txBytes (writes 60 3)) (vote commit) looked)
-  stopped : answerTo 1 (at receive 0 (PR (writes 60 3))) looked ≡ aborts ReadMark
+  stopped : apartFromNumber (answerTo 1 (at receive 0 (PR (writes 60 3))) looked) ≡ aborts ReadMark
   one-short : answerTo 1 (at receive 0 (lg (writes 60 3) (list votes commit (withLiar 3 2 commit)))) (afterwards ++ looked) ≡ Refused (TooFew 1)
   other : T (provable 1 liar (afterwards ++ looked) (txBytes (writes 95 3)) commit)
   equal-0 : Unheld looked 90 0

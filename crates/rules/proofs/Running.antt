@@ -12,10 +12,12 @@ use Rattle.records.specs.Cutting.{txPart, listPart, txCut, vlCut, viewsCut, lis
 use Rattle.records.specs.Cutting.{behindWrong, markWrong}
 use Rattle.records.specs.Messages.{listBehind, viewsBehind, contentsWrong, dueRefusal, isMark, markOf}
 use Rattle.records.specs.Writing.{prBytes, listedBytes, viewedBytes, rdBytes}
+use Rattle.rules.specs.Answers.{apartFromNumber}
 use Rattle.rules.specs.Bodies.{stampOf, readsOf, writesOf, sameBody, writesKey}
 use Rattle.rules.specs.Lists.{kindOf, decisionOf, bit, tally, meets, lacking}
 use Rattle.rules.specs.Table.{empty, find, put, liveBy, live}
 use Rattle.rules.specs.Tests.{test1, liveWriter, test2, undercut, test3, test4, test5, statusBy, statusOf, status, waitingRule, firstVote}
+use Rattle.rules.specs.Visits.{through, lookUp, versionUp, keyByKey, visits2, visits3, visits4, waitingVisits, testVisits, firstVisits, againVisits}
 use Rattle.rules.specs.Calls.{guarded, isFull, roomFor, needing, sameDecision, castAct, prByVote, prByDecision, prByEntry, prRule, logAct, lgByLog}
 use Rattle.rules.specs.Calls.{lgByDecision, lgByEntry, lgRule, decideAct, dcSame, dcOther, dcByEntry, dcRule, better, newest, valueAt}
 use Rattle.rules.specs.Calls.{versionOf, isCommitted, isUndecided, rdAnswer, lookAct, rdRule}
@@ -55,6 +57,10 @@ unfoldable testing : ℕ
 unfolding test1 liveWriter test2 undercut test3 test4 test5 statusBy statusOf status waitingRule firstVote
 testing = 0
 
+unfoldable visiting : ℕ
+unfolding through lookUp versionUp keyByKey visits2 visits3 visits4 waitingVisits testVisits firstVisits againVisits
+visiting = 0
+
 unfoldable calling : ℕ
 unfolding guarded isFull roomFor needing sameDecision castAct prByVote prByDecision prByEntry prRule logAct lgByLog lgByDecision lgByEntry lgRule
 calling = 0
@@ -76,7 +82,7 @@ unfolding toldWrong rule dueAct markedAct dueMark markBy act tableAfter raise ma
 acting = 0
 
 unfoldable sending : ℕ
-unfolding replay given due line case read write tx writes reads pairs list PR LG DC RD lg dc iv ld logsAt ballotsOf seen elections few found commits waits aborts logs0
+unfolding apartFromNumber replay given due line case read write tx writes reads pairs list PR LG DC RD lg dc iv ld logsAt ballotsOf seen elections few found commits waits aborts logs0
 sending = 0
 
 unfoldable lending : ℕ
@@ -84,7 +90,7 @@ unfolding group marked lent atFirst viewed entry logsIn elects zeros run held wa
 lending = 0
 
 unfoldable pub running : ℕ
-unfolding checks bytes views reading messages tables testing calling deciding moving leading acting sending lending
+unfolding checks bytes views reading messages tables testing visiting calling deciding moving leading acting sending lending
 running = 0
 
 unfoldable pub tracing : ℕ

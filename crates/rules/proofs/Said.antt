@@ -43,7 +43,7 @@ unfolding rdAnswer wordIn castAct logAct electAct decideAct lookAct
 said (quiet n) w h = absurd (none-some n h)
 said (looks k s) w h = absurd (none-some refl h)
 said (again w′ e p k n) w h = repeats e p (rw (some-eq n h) at k)
-said (casts v o p n r cl) w h = let y = word-vote (cast v) w h in by-tests (y .0) v o (y .1) p n (y .2) r
+said (casts v c o p n r cl) w h = let y = word-vote (cast v) w h in by-tests (y .0) v o (y .1) p n (y .2) r
 said (logs-first l o q k y p n) w h = by-list l o (some-eq refl h) q k y p n
 said (takes l o q y p c n) w h = by-leader l o (some-eq refl h) q y p c n
 said (elects told v e d u p q c) w h = by-log v e d u (some-eq refl h) p q
@@ -65,7 +65,7 @@ spoken (quiet n) w h = absurd (none-some n h)
 spoken (looks k s) w h = absurd (none-some refl h)
 spoken (again w′ e p k n) w h =
     record { entry = e; at = p .at; body = p .body e refl; undecided = p .undecided e refl; keeps = holds-keeps e w (rw (some-eq n h) at k) }
-spoken {x = x} (casts v o p n r cl) w h =
+spoken {x = x} (casts v c o p n r cl) w h =
     let y = word-vote (cast v) w h in record { entry = _; at = find-put-same _ x.table; body = refl; undecided = refl; keeps = rw (← y .1) (y .2) }
 spoken {x = x} (logs-first l o q k y p n) w h =
     let i : log (decisionOf (l .decision)) 0 ≡ w = some-eq refl h in

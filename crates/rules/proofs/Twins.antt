@@ -1,6 +1,6 @@
 -- Boxes that no call tells apart: reordered tables, equal read marks.
-use Prim.Native.Nat.{ℕ}
-use mathlib.Core.Bool.{not, _&&_}
+use Prim.Native.Nat.{ℕ, zero, suc}
+use mathlib.Core.Bool.{Bool, true, false, not, _&&_}
 use mathlib.Core.Path.{_≡_, refl, _∙_, ap}
 use mathlib.Core.Option.{Option, some, none}
 use mathlib.Core.List.{List, [], _∷_}
@@ -19,7 +19,7 @@ use Rattle.records.specs.Messages.{listBehind, rdKey, rdStamp, viewsBehind}
 use Rattle.records.specs.Tx.{readKey, readVersion, writeKey}
 use Rattle.records.specs.Vl.{Vl}
 use Rattle.records.specs.Views.{Views}
-use Rattle.rules.specs.Answers.{Decision, Dependency, Settled, Vote, settled, unsettled, unvoted, voteAbort, voteCommit, waiting}
+use Rattle.rules.specs.Answers.{Answer, Decision, Dependency, apartFromNumber, Settled, Vote, settled, unsettled, unvoted, voteAbort, voteCommit, waiting}
 use Rattle.rules.specs.Bodies.{Body, readsOf, stampOf, writesOf}
 use Rattle.rules.specs.Lists.{decisionOf}
 use Rattle.rules.specs.Table.{Box, Entry, Told, find, live}
@@ -28,12 +28,37 @@ use Rattle.rules.specs.Calls.{Act, Change, castAct, dcByEntry, dcRule, f
 use Rattle.rules.specs.Calls.{nothing, prByDecision, prByEntry, prByVote, prRule, puts, raises, rdAnswer, rdRule, refuse, roomFor}
 use Rattle.rules.specs.Fallback.{ivByEntry, ivRule, ldByEntry, ldRule, ledAct, takeAct}
 use Rattle.rules.specs.Act.{EntryPoint, act, after, boxAfter, dueAct, markBy, markedAct, rule, tableAfter, toldWrong}
-use Rattle.rules.specs.Order.{Call, Reordered, apartFromNumber, next, replies, reply}
+use Rattle.rules.specs.Order.{Call, Reordered, next, replies, reply}
 use Rattle.rules.proofs.Reordered.{any-same, find-same, length-same, newest-same, put-same}
 
 pub record Twins (x y : Box) : Type 0 where
   pub table : Reordered x.table y.table
   pub marks : x.marks ≡ y.marks
+
+-- an act apart from A6's number: what is answered without it, and what is changed
+unfoldable pub apartIn : Act → Act
+apartIn a = record { answer = apartFromNumber (a .answer); change = a .change }
+
+cast-apart : (b : Body) (o : Option Entry) (v : Vote) (n m : ℕ) → apartIn (castAct b o v n) ≡ apartIn (castAct b o v m)
+unfolding apartIn apartFromNumber castAct
+cast-apart b o v n m = refl
+
+pick-apart : (t : Bool) (a c z : Act) → apartIn a ≡ apartIn c → apartIn (pick t a z) ≡ apartIn (pick t c z)
+pick-apart true a c z h = h
+pick-apart false a c z h = refl
+
+guarded-apart : (n : ℕ) (a c : Act) → apartIn a ≡ apartIn c → apartIn (guarded n a) ≡ apartIn (guarded n c)
+unfolding guarded
+guarded-apart zero a c h = h
+guarded-apart (suc n) a c h = refl
+
+room-apart : (told : Told) (x : Box) (a c : Act) → apartIn a ≡ apartIn c → apartIn (roomFor told x a) ≡ apartIn (roomFor told x c)
+unfolding roomFor
+room-apart told x a c h = go (isFull told x)
+  where
+    go : (t : Bool) → apartIn (pick t (refuse Full) a) ≡ apartIn (pick t (refuse Full) c)
+    go true = refl
+    go false = h
 
 module _ {x y : Box} (w : Twins x y) where
   -- ---- the tests
@@ -73,27 +98,27 @@ module _ {x y : Box} (w : Twins x y) where
   unfolding roomFor isFull
   room-twins told a = ap (λ (n : ℕ). pick (leb told.capacity n) (refuse Full) a) (length-same (w .table))
 
-  -- ---- PR
-  vote-twins : (told : Told) (b : Body) (e : Entry) (v : Vote) → prByVote told x b e v ≡ prByVote told y b e v
+  -- ---- PR, whose number may differ
+  vote-twins : (told : Told) (b : Body) (e : Entry) (v : Vote) → apartIn (prByVote told x b e v) ≡ apartIn (prByVote told y b e v)
   unfolding prByVote
   vote-twins told b e voteCommit = refl
   vote-twins told b e (voteAbort r) = refl
-  vote-twins told b e waiting = ap (castAct b (some e)) (waiting-twins b)
-  vote-twins told b e unvoted = ap (castAct b (some e)) (first-twins told b)
+  vote-twins told b e waiting = rw (waiting-twins b) (cast-apart b (some e) _ _ _)
+  vote-twins told b e unvoted = rw (first-twins told b) (cast-apart b (some e) _ _ _)
 
-  decision-twins : (told : Told) (b : Body) (e : Entry) (d : Settled) → prByDecision told x b e d ≡ prByDecision told y b e d
+  decision-twins : (told : Told) (b : Body) (e : Entry) (d : Settled) → apartIn (prByDecision told x b e d) ≡ apartIn (prByDecision told y b e d)
   unfolding prByDecision
   decision-twins told b e (settled d) = refl
   decision-twins told b e unsettled = vote-twins told b e e.vote
 
-  pr-by : (told : Told) (b : Body) (o : Option Entry) → prByEntry told x b o ≡ prByEntry told y b o
+  pr-by : (told : Told) (b : Body) (o : Option Entry) → apartIn (prByEntry told x b o) ≡ apartIn (prByEntry told y b o)
   unfolding prByEntry
-  pr-by told b none = room-twins told _ ∙ ap (λ v. roomFor told y (castAct b none v)) (first-twins told b)
-  pr-by told b (some e) = rw (decision-twins told b e e.decided)
+  pr-by told b none = rw (room-twins told (castAct b none (firstVote told x b) _), first-twins told b) (room-apart told y _ _ (cast-apart b none _ _ _))
+  pr-by told b (some e) = pick-apart (sameBody e.body b) _ _ _ (decision-twins told b e e.decided)
 
-  pr-twins : (told : Told) (b : Body) → prRule told x b ≡ prRule told y b
+  pr-twins : (told : Told) (b : Body) → apartIn (prRule told x b) ≡ apartIn (prRule told y b)
   unfolding prRule
-  pr-twins told b = rw (find-same (stampOf b) (w .table), pr-by told b (find (stampOf b) y.table))
+  pr-twins told b = rw (find-same (stampOf b) (w .table)) (pr-by told b (find (stampOf b) y.table))
 
   -- ---- LG, DC
   lg-by : (told : Told) (b : Body) (l : Vl) (o : Option Entry) → lgByEntry told x b l o ≡ lgByEntry told y b l o
@@ -139,23 +164,32 @@ module _ {x y : Box} (w : Twins x y) where
   rd-twins told k s = rw (look-twins k s)
 
   -- ---- any bytes
-  rule-twins : (k : Mark) (told : Told) (m : List ℕ) → rule k told x m ≡ rule k told y m
+  rule-twins : (k : Mark) (told : Told) (m : List ℕ) → apartIn (rule k told x m) ≡ apartIn (rule k told y m)
   unfolding rule
   rule-twins PR told m = pr-twins told (txPart m)
-  rule-twins LG told m = lg-twins told (txPart m) (listBehind m)
-  rule-twins DC told m = dc-twins told (txPart m) (listBehind m)
-  rule-twins RD told m = rd-twins told (rdKey m) (rdStamp m)
-  rule-twins IV told m = iv-twins told (txPart m) (viewsBehind VS m)
-  rule-twins LD told m = ld-twins told (txPart m) (viewsBehind EL m)
+  rule-twins LG told m = ap apartIn (lg-twins told (txPart m) (listBehind m))
+  rule-twins DC told m = ap apartIn (dc-twins told (txPart m) (listBehind m))
+  rule-twins RD told m = ap apartIn (rd-twins told (rdKey m) (rdStamp m))
+  rule-twins IV told m = ap apartIn (iv-twins told (txPart m) (viewsBehind VS m))
+  rule-twins LD told m = ap apartIn (ld-twins told (txPart m) (viewsBehind EL m))
 
-  marked-twins : (k : Marked) (told : Told) (m : List ℕ) → markedAct k told x m ≡ markedAct k told y m
+  marked-twins : (k : Marked) (told : Told) (m : List ℕ) → apartIn (markedAct k told x m) ≡ apartIn (markedAct k told y m)
   unfolding markedAct dueAct
-  marked-twins (Is k) told m = ap (guarded _) (rule-twins k told m)
+  marked-twins (Is k) told m = guarded-apart _ _ _ (rule-twins k told m)
   marked-twins (Unmarked n) told m = refl
 
-  pub act-twins : (way : EntryPoint) (told : Told) (m : List ℕ) → act way told x m ≡ act way told y m
+  pub act-twins : (way : EntryPoint) (told : Told) (m : List ℕ) → apartIn (act way told x m) ≡ apartIn (act way told y m)
   unfolding act
-  act-twins way told m = ap (guarded (toldWrong told)) (marked-twins (markBy way m) told m)
+  act-twins way told m = guarded-apart (toldWrong told) _ _ (marked-twins (markBy way m) told m)
+
+  pub change-twins : (way : EntryPoint) (told : Told) (m : List ℕ) → act way told x m .change ≡ act way told y m .change
+  unfolding apartIn
+  change-twins way told m = ap (λ (a : Act). a .change) (act-twins way told m)
+
+  pub answer-twins : (way : EntryPoint) (told : Told) (m : List ℕ)
+      → apartFromNumber (act way told x m .answer) ≡ apartFromNumber (act way told y m .answer)
+  unfolding apartIn
+  answer-twins way told m = ap (λ (a : Act). a .answer) (act-twins way told m)
 
   table-by : (c : Change) → Reordered (tableAfter x.table c) (tableAfter y.table c)
   unfolding tableAfter
@@ -166,8 +200,8 @@ module _ {x y : Box} (w : Twins x y) where
   pub after-twins : (way : EntryPoint) (told : Told) (m : List ℕ) → Twins (after way told x m) (after way told y m)
   unfolding after boxAfter
   after-twins way told m = record {
-    table = rw (← act-twins way told m) (table-by (act way told x m .change));
-    marks = rw (act-twins way told m, w .marks);
+    table = rw (← change-twins way told m) (table-by (act way told x m .change));
+    marks = rw (change-twins way told m, w .marks);
   }
 
 pub replies-twins : (x y : Box) → Twins x y → (cs : List Call) → replies x cs ≡ replies y cs
@@ -175,5 +209,5 @@ unfolding replies reply next
 replies-twins x y w [] = refl
 replies-twins x y w (c ∷ cs) =
     λ i.
-    apartFromNumber (act-twins w (c .entry) (c .told) (c .message) i .answer)
+    answer-twins w (c .entry) (c .told) (c .message) i
     ∷ replies-twins _ _ (after-twins w (c .entry) (c .told) (c .message)) cs i

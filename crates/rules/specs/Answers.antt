@@ -15,6 +15,8 @@ pub use Rattle.rules.specs.declared.Vote.the-variants.{None as unvoted, 
 pub use Rattle.rules.specs.declared.Settled.{Settled}
 pub use Rattle.rules.specs.declared.Settled.the-variants.{None as unsettled, Is as settled}
 pub use Rattle.rules.specs.declared.Version.{Version}
+pub use Rattle.rules.specs.declared.Visited.{Visited}
+pub use Rattle.rules.specs.declared.Visited.the-variants.{None as unvisited, Is as visited}
 pub use Rattle.rules.specs.declared.Answer.{Answer}
 pub use Rattle.rules.specs.declared.Answer.the-variants.{Voted, Decided, Logged, Done, Found, Refused, Elected}
 pub use Rattle.terms.specs.declared.View.{View}
@@ -62,13 +64,32 @@ abbrev pub logView : Log → View
 logView unlogged = viewAs 0
 logView (logged d v) = v
 
+-- A6: a number of entries, told or not: "carry no number" is not 0
+abbrev pub visitedTold : Visited → ℕ
+visitedTold unvisited = 0
+visitedTold (visited n) = 1
+
+abbrev pub visitedNumber : Visited → ℕ
+visitedNumber unvisited = 0
+visitedNumber (visited n) = n
+
 -- "Answers: .. commit, abort and reason, wait, decided/logged and commit or abort, done, four numbers for RD .., refused and number"; A5: "a log answer
 -- tells its view", an election answer its decision, view and leader
 abbrev pub answerValues : Answer → List ℕ
-answerValues (Voted v) = voteNumber v ∷ voteReason v ∷ []
+answerValues (Voted v n) = voteNumber v ∷ voteReason v ∷ visitedTold n ∷ visitedNumber n ∷ []
 answerValues (Decided d) = decisionNumber d ∷ []
 answerValues (Logged d v) = decisionNumber d ∷ v .0 ∷ []
 answerValues Done = []
 answerValues (Found c u) = c .stamp .0 ∷ c .value ∷ u .stamp .0 ∷ u .value ∷ []
 answerValues (Refused r) = numberOf r ∷ lackingOf r ∷ []
 answerValues (Elected d v l) = decisionNumber d ∷ v .0 ∷ l ∷ []
+
+-- "apart from A6's number": an answer without it
+unfoldable pub apartFromNumber : Answer → Answer
+apartFromNumber (Voted v n) = Voted v unvisited
+apartFromNumber (Decided d) = Decided d
+apartFromNumber (Logged d v) = Logged d v
+apartFromNumber (Elected d v l) = Elected d v l
+apartFromNumber Done = Done
+apartFromNumber (Found c u) = Found c u
+apartFromNumber (Refused r) = Refused r

@@ -15,11 +15,12 @@ use Rattle.records.specs.Tx.{writeKey, writeValue}
 use Rattle.records.specs.Vl.{Vl}
 use Rattle.rules.specs.Answers.{Answer, Decided, Decision, Done, Found, Logged, Refused, Settled, Version, Voted, abort, commit, settled, unsettled}
 use Rattle.rules.specs.Answers.{Log, View, logged, unlogged, viewAs}
-use Rattle.rules.specs.Answers.{Vote, unvoted, voteAbort, voteCommit, waiting}
+use Rattle.rules.specs.Answers.{Vote, unvisited, unvoted, visited, voteAbort, voteCommit, waiting}
 use Rattle.rules.specs.Bodies.{Body, sameBody, stampOf, writesKey, writesOf}
 use Rattle.rules.specs.Lists.{decisionOf, forLogging, forProof, kindOf, lacking, meets}
 use Rattle.rules.specs.Table.{Box, Told, Entry, find, limit, live, logIn, viewIn, voteIn}
 use Rattle.rules.specs.Tests.{firstVote, waitingRule}
+use Rattle.rules.specs.Visits.{againVisits, firstVisits, newLast}
 
 -- what a call changes: nothing, an entry that is put into the table, or a key's read mark that is raised to a stamp
 pub data Change : Type 0 where
@@ -63,17 +64,17 @@ sameDecision abort commit = false
 sameDecision abort abort = true
 
 -- ---- PR
--- "An abort vote carries one of six reasons, and it is stored"; "the entry is stored"
-unfoldable pub castAct : Body → Option Entry → Vote → Act
-castAct b o v = record { answer = Voted v; change = puts (record { body = b; vote = v; log = logIn o; view = viewIn o; decided = unsettled }) }
+-- "An abort vote carries one of six reasons, and it is stored"; "the entry is stored"; A6: "a PR answer reports entries visited"
+unfoldable pub castAct : Body → Option Entry → Vote → ℕ → Act
+castAct b o v n = record { answer = Voted v (visited n); change = puts (record { body = b; vote = v; log = logIn o; view = viewIn o; decided = unsettled }) }
 
 -- "vote cast, the same vote again; waiting, the waiting rule; undecided with vote none .., the tests as if new, in its place"; A2: "A PR for it later,
--- while it is undecided, runs the five tests as if new but takes no further room."
+-- while it is undecided, runs the five tests as if new but takes no further room."; A6: "an answer for an entry already .. voted on" carries no number
 unfoldable pub prByVote : Told → Box → Body → Entry → Vote → Act
-prByVote told x b e voteCommit = keep (Voted voteCommit)
-prByVote told x b e (voteAbort r) = keep (Voted (voteAbort r))
-prByVote told x b e waiting = castAct b (some e) (waitingRule x b)
-prByVote told x b e unvoted = castAct b (some e) (firstVote told x b)
+prByVote told x b e voteCommit = keep (Voted voteCommit unvisited)
+prByVote told x b e (voteAbort r) = keep (Voted (voteAbort r) unvisited)
+prByVote told x b e waiting = castAct b (some e) (waitingRule x b) (againVisits x b)
+prByVote told x b e unvoted = castAct b (some e) (firstVote told x b) (firstVisits told x b (x .table))
 
 -- "Held with this body: decided, answer Decided"
 unfoldable pub prByDecision : Told → Box → Body → Entry → Settled → Act
@@ -82,7 +83,7 @@ prByDecision told x b e unsettled = prByVote told x b e (e .vote)
 
 -- "Held with another body: 9. Not held: 13, else the first failing test gives an abort vote."
 unfoldable pub prByEntry : Told → Box → Body → Option Entry → Act
-prByEntry told x b none = roomFor told x (castAct b none (firstVote told x b))
+prByEntry told x b none = roomFor told x (castAct b none (firstVote told x b) (firstVisits told x b (newLast b (x .table))))
 prByEntry told x b (some e) = pick (sameBody (e .body) b) (prByDecision told x b e (e .decided)) (refuse OtherBody)
 
 unfoldable pub prRule : Told → Box → Body → Act

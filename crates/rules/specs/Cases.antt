@@ -13,7 +13,8 @@ use Rattle.records.specs.declared.ViewMark.the-variants.{VS, EL}
 use Rattle.records.specs.declared.Mark.the-variants.{LG as markedLG, DC as markedDC}
 use Rattle.records.specs.Writing.{prBytes, listedBytes, viewedBytes, rdBytes}
 use Rattle.rules.specs.Answers.{Answer, Decision, Done, Found, Kind, Logged, Refused, Voted, abort, commit, logs, voteAbort, voteCommit, votes}
-use Rattle.rules.specs.Answers.{Reason, Ahead, Dependency, NoVersion, Overwritten, ReadMark, Undercuts, decisionNumber, kindNumber, viewAs, waiting}
+use Rattle.rules.specs.Answers.{Reason, Ahead, Dependency, NoVersion, Overwritten, ReadMark, Undercuts}
+use Rattle.rules.specs.Answers.{apartFromNumber, decisionNumber, kindNumber, unvisited, viewAs, waiting}
 use Rattle.rules.specs.Table.{Box, Told, empty}
 use Rattle.rules.specs.Act.{act, after, receive}
 
@@ -24,9 +25,10 @@ pub record Case : Type 0 where
   pub sent : List (List ℕ)
   pub due : List Answer
 
+-- answers "apart from A6's number", which have vectors of their own (Counts)
 unfoldable pub replay : Told → Box → List (List ℕ) → List Answer
 replay told x [] = []
-replay told x (m ∷ ms) = act receive told x m .answer ∷ replay told (after receive told x m) ms
+replay told x (m ∷ ms) = apartFromNumber (act receive told x m .answer) ∷ replay told (after receive told x m) ms
 
 unfoldable pub given : Case → List Answer
 given c = replay (c .told) (c .start) (c .sent)
@@ -107,15 +109,15 @@ DC t k d n = dc t (list k d (pairs 0 n d))
 unfoldable pub RD : ℕ → ℕ → List ℕ
 RD k s = rdBytes k s
 
--- ---- the answers of a PR
+-- ---- the answers of a PR, apart from A6's number
 unfoldable pub commits : Answer
-commits = Voted voteCommit
+commits = Voted voteCommit unvisited
 
 unfoldable pub waits : Answer
-waits = Voted waiting
+waits = Voted waiting unvisited
 
 unfoldable pub aborts : Reason → Answer
-aborts r = Voted (voteAbort r)
+aborts r = Voted (voteAbort r) unvisited
 
 -- the answer of an LG: a log of view 0
 unfoldable pub logs0 : Decision → Answer

@@ -8,7 +8,7 @@ use Rattle.terms.specs.declared.Refusal.the-variants.{Full}
 use Rattle.records.specs.declared.Mark.the-variants.{DC}
 use Rattle.records.specs.declared.Marked.the-variants.{Is}
 use Rattle.records.specs.Cutting.{txPart}
-use Rattle.rules.specs.Answers.{Answer, Done, Refused}
+use Rattle.rules.specs.Answers.{Answer, Done, Refused, apartFromNumber}
 use Rattle.rules.specs.Bodies.{stampOf}
 use Rattle.rules.specs.Table.{Box, Entry, Told, find}
 use Rattle.rules.specs.Act.{EntryPoint, act, after, markBy}
@@ -25,10 +25,6 @@ reply x c = act (c .entry) (c .told) x (c .message) .answer
 
 unfoldable pub next : Box → Call → Box
 next x c = after (c .entry) (c .told) x (c .message)
-
--- "apart from A6's number": an answer without it. No answer has that number yet, so this is the answer itself
-unfoldable pub apartFromNumber : Answer → Answer
-apartFromNumber a = a
 
 -- what is answered to calls that follow one another
 unfoldable pub replies : Box → List Call → List Answer

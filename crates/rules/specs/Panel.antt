@@ -7,7 +7,7 @@ use lib.Dec.{T, eqb, ltb}
 use Rattle.terms.specs.Group.{boxes}
 use Rattle.terms.specs.declared.Refusal.the-variants.{TooFew}
 use Rattle.records.specs.Tx.{txBytes}
-use Rattle.rules.specs.Answers.{ReadMark, Refused, commit, votes}
+use Rattle.rules.specs.Answers.{ReadMark, Refused, apartFromNumber, commit, votes}
 use Rattle.rules.specs.Act.{receive}
 use Rattle.rules.specs.System.{Event, Fair, Proof, Sound, answerTo, gave, howMany, vote}
 use Rattle.rules.specs.SlipUnder.{NoneHeld, NoneShown, everHeld, readWithout, watched}
@@ -40,7 +40,7 @@ pub record Panel : Type 0 where
   pub held-elsewhere : T (everHeld (watched 1 3) (txBytes (writes 60 3)) looked)
   pub voted-elsewhere : T (gave 1 3 (txBytes (writes 60 3)) (vote commit) looked)
   -- the read marks vote it down: with the liar it is one vote short of a list, and has no commit proof
-  pub stopped : answerTo 1 (at receive 0 (PR (writes 60 3))) looked ≡ aborts ReadMark
+  pub stopped : apartFromNumber (answerTo 1 (at receive 0 (PR (writes 60 3))) looked) ≡ aborts ReadMark
   pub one-short : answerTo 1 (at receive 0 (lg (writes 60 3) (list votes commit (withLiar 3 2 commit)))) (afterwards ++ looked) ≡ Refused (TooFew 1)
   pub never : Proof 1 liar (afterwards ++ looked) (txBytes (writes 60 3)) commit → ⊥
   -- another transaction commits later

@@ -49,7 +49,7 @@ asks k s e = isRd (markBy (e .entry) (e .message)) && (eqb (rdKey (e .message)) 
 
 -- "has been answered": not refused
 unfoldable pub isFound : Answer → Bool
-isFound (Voted v) = false
+isFound (Voted v n) = false
 isFound (Decided d) = false
 isFound (Logged d v) = false
 isFound (Elected d v l) = false

@@ -72,7 +72,7 @@ voteWord unsettled = none
 voteWord (settled d) = some (vote d)
 
 unfoldable pub wordIn : Answer → Option Word
-wordIn (Voted v) = voteWord (cast v)
+wordIn (Voted v n) = voteWord (cast v)
 wordIn (Logged d v) = some (log d (v .0))
 wordIn (Elected d v l) = some (elect d (v .0))
 wordIn (Decided d) = none

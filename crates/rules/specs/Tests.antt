@@ -23,12 +23,19 @@ liveWriter k none = false
 liveWriter k (some e) = live e && writesKey (e .body) k
 
 -- "2. a read names a nonzero version that is not a live entry writing that key"
+abbrev pub namesNone : Box → Read → Bool
+namesNone x r = not (eqb (readVersion r) 0) && not (liveWriter (readKey r) (find (readVersion r) (x .table)))
+
 unfoldable pub test2 : Box → Body → Bool
-test2 x b = any (λ r. not (eqb (readVersion r) 0) && not (liveWriter (readKey r) (find (readVersion r) (x .table)))) (readsOf b)
+test2 x b = any (namesNone x) (readsOf b)
+
+-- a read made at stamp s is undercut by b: b writes its key, with a stamp above the version read and below s
+abbrev pub readUndercut : ℕ → Body → Read → Bool
+readUndercut s b r = writesKey b (readKey r) && (ltb (readVersion r) (stampOf b) && ltb (stampOf b) s)
 
 -- what tests 3 and 4 look for: a reads a key that b writes, at a version below b's stamp, and b's stamp is below a's
 unfoldable pub undercut : Body → Body → Bool
-undercut a b = any (λ r. writesKey b (readKey r) && (ltb (readVersion r) (stampOf b) && ltb (stampOf b) (stampOf a))) (readsOf a)
+undercut a b = any (readUndercut (stampOf a) b) (readsOf a)
 
 -- "3. a live entry writes a key read here, its stamp above the version read and below this stamp."
 unfoldable pub test3 : Box → Body → Bool

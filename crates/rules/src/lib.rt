@@ -1,7 +1,7 @@
 // What a box answers: votes with their reasons, and the answer to each call; and the leader of a view. The rules of a box stand in specs/, their theorem in proofs/.
 ghost use mathlib.Core.Path.{_≡_};
 ghost use Prim.Native.Nat.{_≤_};
-ghost use Rattle.rules.specs.Answers.{reasonNumber, voteNumber, voteReason, settledNumber, logNumber, logView};
+ghost use Rattle.rules.specs.Answers.{reasonNumber, voteNumber, voteReason, settledNumber, logNumber, logView, visitedTold, visitedNumber};
 ghost use Rattle.rules.specs.Fallback.{leaderOf};
 use terms::Decision;
 use terms::Group;
@@ -129,9 +129,37 @@ pub struct Told {
     pub delta: u64,
 }
 
+// The entries that a PR visited, or no number: a vote that was cast before carries none.
+pub enum Visited {
+    None,
+    Is(usize),
+}
+
+impl Visited {
+    // Whether a number is told: 0 no, 1 yes.
+    pub fn told(self) -> u8
+        ensures { λ r. ⌜ r ≡ visitedTold self ⌝ }
+    {
+        match self {
+            Visited::None => 0,
+            Visited::Is(_) => 1,
+        }
+    }
+
+    // The number; 0 where none is told.
+    pub fn number(self) -> usize
+        ensures { λ r. ⌜ r ≡ visitedNumber self ⌝ }
+    {
+        match self {
+            Visited::None => 0,
+            Visited::Is(n) => n,
+        }
+    }
+}
+
 // What a box answers. PR: Voted or Decided; LG and LD: Logged or Decided; DC: Done; RD: Found; IV: Elected or Decided; every call: Refused.
 pub enum Answer {
-    Voted(Vote),
+    Voted(Vote, Visited),
     Decided(Decision),
     Logged(Decision, View),
     Done,

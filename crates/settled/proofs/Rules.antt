@@ -25,5 +25,11 @@ module _ {M : Type 1} (𝓤 : URA M) (H : Heap 𝓤) where
   pub log-view : Settled 𝓤 H rules.Log.view.ended (rules.Log.view.spec 𝓤 H) (rules.Log.view.clauses 𝓤 H)
   log-view A mem run = (refl, λ k o o′. settled 𝓤 (λ p q. one p q & refl))
 
+  pub visited-told : Settled 𝓤 H rules.Visited.told.ended (rules.Visited.told.spec 𝓤 H) (rules.Visited.told.clauses 𝓤 H)
+  visited-told A mem run = (refl, λ k o o′. settled 𝓤 (λ p q. one p q & refl))
+
+  pub visited-number : Settled 𝓤 H rules.Visited.number.ended (rules.Visited.number.spec 𝓤 H) (rules.Visited.number.clauses 𝓤 H)
+  visited-number A mem run = (refl, λ k o o′. settled 𝓤 (λ p q. one p q & refl))
+
   pub leader-of : Settled 𝓤 H rules.leader_of.ended (rules.leader_of.spec 𝓤 H) (rules.leader_of.clauses 𝓤 H)
   leader-of A mem run = (refl, λ k o o′. settled 𝓤 (λ p q. one p q & refl))
