@@ -70,7 +70,7 @@ gave-held f i b w (e ∷ es) h =
 -- an answer that shows versions is an answer
 pub shows-found : (v : ℕ) (a : Answer) → T (showsBelow v a) → T (isFound a)
 unfolding showsBelow isFound
-shows-found v (Voted w) h = absurd h
+shows-found v (Voted w n) h = absurd h
 shows-found v (Decided d) h = absurd h
 shows-found v (Logged d w) h = absurd h
 shows-found v (Elected d w l) h = absurd h

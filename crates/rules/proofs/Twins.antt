@@ -20,7 +20,7 @@ use Rattle.records.specs.Tx.{readKey, readVersion, writeKey}
 use Rattle.records.specs.Vl.{Vl}
 use Rattle.records.specs.Views.{Views}
 use Rattle.rules.specs.Answers.{Answer, Decision, Dependency, apartFromNumber, Settled, Vote, settled, unsettled, unvoted, voteAbort, voteCommit, waiting}
-use Rattle.rules.specs.Bodies.{Body, readsOf, stampOf, writesOf}
+use Rattle.rules.specs.Bodies.{Body, readsOf, sameBody, stampOf, writesOf}
 use Rattle.rules.specs.Lists.{decisionOf}
 use Rattle.rules.specs.Table.{Box, Entry, Told, find, live}
 use Rattle.rules.specs.Tests.{fine, firstVote, isBad, isPending, liveWriter, status, statusOf, test2, test3, test4, test5, waitingRule}

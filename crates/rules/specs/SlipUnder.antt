@@ -90,7 +90,7 @@ NothingSlipsUnder =
 -- ---- beside it, what whoever reads can go by: he sees what boxes show, not what they held
 -- both versions of an answer are below v
 unfoldable pub showsBelow : ℕ → Answer → Bool
-showsBelow v (Voted w) = false
+showsBelow v (Voted w n) = false
 showsBelow v (Decided d) = false
 showsBelow v (Logged d w) = false
 showsBelow v (Elected d w l) = false
