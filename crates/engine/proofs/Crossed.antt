@@ -13,7 +13,8 @@ use Rattle.rules.specs.Table.{Box, Entry, empty}
 use Rattle.rules.specs.Calls.{Act}
 use Rattle.rules.specs.Act.{receive, toldWrong}
 use Rattle.rules.specs.Cases.{line}
-use Rattle.rules.specs.Order.{Call, apartFromNumber, next, replies, reply}
+use Rattle.rules.specs.Answers.{apartFromNumber}
+use Rattle.rules.specs.Order.{Call, next, replies, reply}
 use Rattle.rules.specs.Crossed.{aborting, calls, committing, laterCalls, laterMessages}
 use Rattle.rules.proofs.Room.{never-overfull}
 use Rattle.rules.proofs.Running.{running}

@@ -20,7 +20,8 @@ use Rattle.rules.specs.Bodies.{stampOf}
 use Rattle.rules.specs.Table.{Box}
 use Rattle.rules.specs.Calls.{Act, Change, nothing, puts, raises}
 use Rattle.rules.specs.Act.{act, toldWrong}
-use Rattle.rules.specs.Order.{Call, IsDC, NeedsNew, Room, apartFromNumber, next, reply, same, stampIn}
+use Rattle.rules.specs.Answers.{apartFromNumber}
+use Rattle.rules.specs.Order.{Call, IsDC, NeedsNew, Room, next, reply, same, stampIn}
 use Rattle.rules.proofs.Room.{FitsBy, FitsIn, Fit, act-fits, never-overfull}
 use Rattle.rules.proofs.Reordered.{length-same}
 use Rattle.rules.proofs.Twins.{Twins, act-twins, after-twins}

@@ -7,7 +7,8 @@ use Rattle.terms.specs.declared.Refusal.the-variants.{Full}
 use Rattle.rules.specs.declared.Answer.{Answer}
 use Rattle.rules.specs.declared.Answer.the-variants.{Done, Refused}
 use Rattle.rules.specs.Table.{find}
-use Rattle.rules.specs.Order.{Call, IsDC, Reordered, apartFromNumber, stampIn}
+use Rattle.rules.specs.Answers.{apartFromNumber}
+use Rattle.rules.specs.Order.{Call, IsDC, Reordered, stampIn}
 use Rattle.table.specs.Table.{countOf, entriesOf}
 use Rattle.engine.specs.Outcome.{Kept, called, lentWrong}
 use Rattle.engine.specs.Safety.{leaves}

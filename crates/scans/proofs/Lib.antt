@@ -4,3 +4,5 @@ pub mod Written
 pub mod Naming
 pub mod Skipping
 pub mod Keys
+pub mod Visits
+pub mod Counting

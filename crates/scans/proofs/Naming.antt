@@ -69,7 +69,7 @@ module _ (es : List Entry) (r : Read) where
   abbrev number : Bool → Bool → Status → ℕ
   number z l s = pick z 0 (pick l (pick (isPending s) 1 0) 2)
 
-  named-bad : named es r ≡ 2 → unnamed es r ≡ true
+  pub named-bad : named es r ≡ 2 → unnamed es r ≡ true
   unfolding named namedBy unnamed
   named-bad e = by (eqb (readVersion r) 0) (liveWriter (readKey r) (find (readVersion r) es)) (statusOf (readKey r) (find (readVersion r) es)) e
     where
@@ -81,7 +81,7 @@ module _ (es : List Entry) (r : Read) where
       by false false s e = refl
 
   module _ (h : named es r ≡ 2 → ⊥) where
-    named-ok : unnamed es r ≡ false
+    pub named-ok : unnamed es r ≡ false
     unfolding named namedBy unnamed
     named-ok = by (eqb (readVersion r) 0) (liveWriter (readKey r) (find (readVersion r) es)) (statusOf (readKey r) (find (readVersion r) es)) h
       where

@@ -17,7 +17,7 @@ use Rattle.rules.specs.declared.Vote.the-variants.{Abort as voteAbort}
 use Rattle.rules.specs.Bodies.{Body, stampOf, readsOf, writesKey}
 use Rattle.rules.specs.declared.Told.{Told}
 use Rattle.rules.specs.Table.{Box, Entry, boxWith, find, limit, live}
-use Rattle.rules.specs.Tests.{test1, test2, test3, test4, test5, undercut, waitingRule, firstVote, status}
+use Rattle.rules.specs.Tests.{readUndercut, test1, test2, test3, test4, test5, undercut, waitingRule, firstVote, status}
 use Rattle.rules.specs.Calls.{rdAnswer}
 use Rattle.table.specs.Table.{rowTx, entryOf, entries, rowAt, place}
 use Rattle.table.proofs.Bodies.{body-stamp, body-reads, body-writes-key}
@@ -26,14 +26,14 @@ use Rattle.scans.specs.Scans.{over, older, below, hit3, hit4, marked}
 
 -- ---- whether some element passes
 module _ {A : Type 0} (p q : A → Bool) where
-  any-same : ((x : A) → p x ≡ q x) → (xs : List A) → any p xs ≡ any q xs
+  pub any-same : ((x : A) → p x ≡ q x) → (xs : List A) → any p xs ≡ any q xs
   any-same h [] = refl
   any-same h (x ∷ xs) =
       let e : p x ≡ q x = h x in
       let r : any p xs ≡ any q xs = any-same h xs in
       rw (e, r)
 
-any-never : {A : Type 0} (p : A → Bool) → ((x : A) → p x ≡ false) → (xs : List A) → any p xs ≡ false
+pub any-never : {A : Type 0} (p : A → Bool) → ((x : A) → p x ≡ false) → (xs : List A) → any p xs ≡ false
 any-never p h [] = refl
 any-never p h (x ∷ xs) =
     let e : p x ≡ false = h x in
@@ -49,11 +49,11 @@ any-clear p q h (x ∷ xs) e = by (p x) refl e (any-clear p q h xs)
     by true d z rest = absurd (false≢true (sym z))
     by false d z rest = rw (h x d) (rest z)
 
-and-yes : (w : Bool) → w ≡ (w && true)
+pub and-yes : (w : Bool) → w ≡ (w && true)
 and-yes true = refl
 and-yes false = refl
 
-and-no : (w : Bool) → false ≡ (w && false)
+pub and-no : (w : Bool) → false ≡ (w && false)
 and-no true = refl
 and-no false = refl
 
@@ -62,12 +62,12 @@ and-less true true c e = absurd (false≢true (sym e))
 and-less true false c e = refl
 and-less false b c e = refl
 
-and-true : (a b : Bool) → (a && (b && true)) ≡ (a && b)
+pub and-true : (a b : Bool) → (a && (b && true)) ≡ (a && b)
 and-true true true = refl
 and-true true false = refl
 and-true false b = refl
 
-and-false : (a b : Bool) → (a && (b && false)) ≡ false
+pub and-false : (a b : Bool) → (a && (b && false)) ≡ false
 and-false true true = refl
 and-false true false = refl
 and-false false b = refl
@@ -139,14 +139,15 @@ module _ (a b : Body) where
   pub under-yes : stampOf b < stampOf a → any (below b) (readsOf a) ≡ undercut a b
   unfolding undercut below
   under-yes h =
-      rw (lt-ltb (stampOf b) (stampOf a) h)
-      (any-same (below b) (asked true) (λ r. sym (and-true (writesKey b (readKey r)) (ltb (readVersion r) (stampOf b)))) (readsOf a))
+      any-same (below b) (readUndercut (stampOf a) b)
+      (λ r. rw (lt-ltb (stampOf b) (stampOf a) h) (sym (and-true (writesKey b (readKey r)) (ltb (readVersion r) (stampOf b))))) (readsOf a)
 
   pub under-no : stampOf a ≤ stampOf b → false ≡ undercut a b
   unfolding undercut
   under-no h =
-      rw (le-ltb (stampOf b) (stampOf a) h)
-      (sym (any-never (asked false) (λ r. and-false (writesKey b (readKey r)) (ltb (readVersion r) (stampOf b))) (readsOf a)))
+      sym
+      (any-never (readUndercut (stampOf a) b)
+      (λ r. rw (le-ltb (stampOf b) (stampOf a) h) (and-false (writesKey b (readKey r)) (ltb (readVersion r) (stampOf b)))) (readsOf a))
 
   -- nothing below, no undercut, however the stamps stand
   pub under-none : any (below b) (readsOf a) ≡ false → undercut a b ≡ false

@@ -70,75 +70,70 @@ module _ (es : List Entry) (r : Read) where
     unfolding status
     status-held q e p = p ∙ (rw (ne-eqb (readVersion r) 0 h, e))
 
--- ---- whether to wait
-module _ (w : Bool) (s : ℕ) (e : w ≡ false) where
-  pub waits-now : s ≡ 1 → true ≡ (w || eqb s 1)
-  waits-now p = rw (e, eq-eqb s 1 p)
+-- ---- whether one was so
+module _ (w : Bool) (s k : ℕ) (e : w ≡ false) where
+  pub now-so : s ≡ k → true ≡ (w || eqb s k)
+  now-so p = rw (e, eq-eqb s k p)
 
-  pub waits-not : (s ≡ 1 → ⊥) → false ≡ (w || eqb s 1)
-  waits-not p = rw (e, ne-eqb s 1 p)
+  pub not-so : (s ≡ k → ⊥) → false ≡ (w || eqb s k)
+  not-so p = rw (e, ne-eqb s k p)
 
--- ---- the loop: what is left from j on, and w of what stood before, have the answer of the whole, W
-pub record Waits (es : List Entry) (f : ℕ → Read) (n : ℕ) (W : Vote) (w : Bool) (j : ℕ) : Type 0 where
+-- ---- the loop: what is left from j on, with d and w of what stood before, have the answer of the whole, W
+pub record Waits (es : List Entry) (f : ℕ → Read) (n : ℕ) (W : Vote) (d w : Bool) (j : ℕ) : Type 0 where
   pub within : j ≤ n
-  pub same : waitBy es w (tab f j (n - j)) ≡ W
+  pub same : waitBy es d w (tab f j (n - j)) ≡ W
 
-module _ (w a c : Bool) where
-  abbrev choice : Bool → Bool → Vote
-  choice x y = pick x (voteAbort Dependency) (pick y waiting voteCommit)
+abbrev choice : Bool → Bool → Vote
+choice x y = pick x (voteAbort Dependency) (pick y waiting voteCommit)
 
-  one-bad : (s : Status) → statusNumber s ≡ 2 → choice (isBad s || a) (w || (isPending s || c)) ≡ voteAbort Dependency
-  one-bad bad e = refl
-  one-bad pending e = absurd (omega arith)
-  one-bad fine e = absurd (omega arith)
+or-assoc : (x y z : Bool) → (x || (y || z)) ≡ ((x || y) || z)
+or-assoc true y z = refl
+or-assoc false y z = refl
 
-  one-more : (s : Status) (v : Bool) → (statusNumber s ≡ 2 → ⊥) → v ≡ (w || eqb (statusNumber s) 1) → choice (isBad s || a) (w || (isPending s || c)) ≡ choice a (v || c)
-  one-more bad v h e = absurd (h refl)
-  one-more pending v h e = rw e (by w)
-    where
-      by : (x : Bool) → choice a (x || true) ≡ choice a ((x || true) || c)
-      by true = refl
-      by false = refl
-  one-more fine v h e = rw e (by w)
-    where
-      by : (x : Bool) → choice a (x || c) ≡ choice a ((x || false) || c)
-      by true = refl
-      by false = refl
+bad-is : (s : Status) → isBad s ≡ eqb (statusNumber s) 2
+bad-is bad = refl
+bad-is pending = refl
+bad-is fine = refl
+
+pending-is : (s : Status) → isPending s ≡ eqb (statusNumber s) 1
+pending-is bad = refl
+pending-is pending = refl
+pending-is fine = refl
+
+one-more : (d w a c : Bool) (s : Status) → choice (d || (isBad s || a)) (w || (isPending s || c)) ≡ choice ((d || eqb (statusNumber s) 2) || a) ((w || eqb (statusNumber s) 1) || c)
+one-more d w a c s = rw (or-assoc d (isBad s) a, or-assoc w (isPending s) c, bad-is s, pending-is s)
 
 module _ {es : List Entry} {f : ℕ → Read} {n : ℕ} {W : Vote} where
-  pub waits-begin : waitBy es false (tab f 0 n) ≡ W → Waits es f n W false 0
+  pub waits-begin : waitBy es false false (tab f 0 n) ≡ W → Waits es f n W false false 0
   waits-begin e = record { within = zero-le; same = rw sub-zero e }
 
-  module _ {w : Bool} {j : ℕ} (r : Waits es f n W w j) where
-    step : j < n → waitBy es w (tab f j (n - j)) ≡ waitBy es w (f j ∷ tab f (j + 1) (n - (j + 1)))
+  module _ {d w : Bool} {j : ℕ} (r : Waits es f n W d w j) where
+    step : j < n → waitBy es d w (tab f j (n - j)) ≡ waitBy es d w (f j ∷ tab f (j + 1) (n - (j + 1)))
     step h = let e : n - j ≡ suc (n - (j + 1)) = omega arith in rw e
 
-    pub waits-bad : (x : ℕ) → j < n → x ≡ statusNumber (status (over es) (f j)) → x ≡ 2 → voteAbort Dependency ≡ W
+    pub waits-go : {c v : Bool} (x : ℕ) → j < n → x ≡ statusNumber (status (over es) (f j)) → c ≡ (d || eqb x 2) → v ≡ (w || eqb x 1) → Waits es f n W c v (j + 1)
     unfolding waitBy
-    waits-bad x h e p =
-        sym
-        (one-bad w (any (λ q. isBad (status (over es) q)) (tab f (j + 1) (n - (j + 1)))) (any (λ q. isPending (status (over es) q)) (tab f (j + 1) (n - (j + 1))))
-        (status (over es) (f j)) (sym e ∙ p))
-        ∙ sym (step h)
-        ∙ r .same
-
-    pub waits-go : {v : Bool} (x : ℕ) → j < n → x ≡ statusNumber (status (over es) (f j)) → (x ≡ 2 → ⊥) → v ≡ (w || eqb x 1) → Waits es f n W v (j + 1)
-    unfolding waitBy
-    waits-go {v} x h e p q =
+    waits-go {c} {v} x h e p q =
         record {
           within = omega arith;
           same =
-              sym
-              (one-more w (any (λ q. isBad (status (over es) q)) (tab f (j + 1) (n - (j + 1)))) (any (λ q. isPending (status (over es) q)) (tab f (j + 1) (n - (j + 1))))
-              (status (over es) (f j)) v (λ z. p (e ∙ z)) (rw (← e) q))
-              ∙ sym (step h)
+              (rw (p, q, e)
+              (sym
+              (one-more d w (any (λ q. isBad (status (over es) q)) (tab f (j + 1) (n - (j + 1)))) (any (λ q. isPending (status (over es) q)) (tab f (j + 1) (n - (j + 1))))
+              (status (over es) (f j)))
+              ∙ sym (step h)))
               ∙ r .same;
         }
 
-    pub waits-wait : n ≤ j → w ≡ true → waiting ≡ W
-    unfolding waitBy
-    waits-wait h p = let e : n - j ≡ 0 = omega arith in rw (e, p) at (r .same)
+    module _ (h : n ≤ j) where
+      pub waits-abort : d ≡ true → voteAbort Dependency ≡ W
+      unfolding waitBy
+      waits-abort p = let e : n - j ≡ 0 = omega arith in rw (e, p) at (r .same)
 
-    pub waits-commit : n ≤ j → w ≡ false → voteCommit ≡ W
-    unfolding waitBy
-    waits-commit h p = let e : n - j ≡ 0 = omega arith in rw (e, p) at (r .same)
+      pub waits-wait : d ≡ false → w ≡ true → waiting ≡ W
+      unfolding waitBy
+      waits-wait p q = let e : n - j ≡ 0 = omega arith in rw (e, p, q) at (r .same)
+
+      pub waits-commit : d ≡ false → w ≡ false → voteCommit ≡ W
+      unfolding waitBy
+      waits-commit p q = let e : n - j ≡ 0 = omega arith in rw (e, p, q) at (r .same)

@@ -54,10 +54,10 @@ statusNumber fine = 0
 statusNumber pending = 1
 statusNumber bad = 2
 
--- the waiting rule over the reads that are left, w where an undecided version stood before them
-unfoldable pub waitBy : List Entry → Bool → List Read → Vote
-waitBy es w rs =
-    pick (any (λ r. isBad (status (over es) r)) rs) (voteAbort Dependency)
+-- the waiting rule over the reads that are left, d where a bad version stood before them, w where an undecided one did
+unfoldable pub waitBy : List Entry → Bool → Bool → List Read → Vote
+waitBy es d w rs =
+    pick (d || any (λ r. isBad (status (over es) r)) rs) (voteAbort Dependency)
     (pick (w || any (λ r. isPending (status (over es) r)) rs) waiting voteCommit)
 
 -- ---- test 2 and the waiting rule by one look-up: 2 where test 2 fails, else 1 where the version is undecided, else 0

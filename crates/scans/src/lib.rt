@@ -12,8 +12,10 @@ ghost use Rattle.rules.specs.Bodies.{readsOf, writesOf};
 ghost use Rattle.rules.specs.Table.{boxWith, limit};
 ghost use Rattle.rules.specs.Tests.{test1, test3, test4, test5, undercut, statusOf, status, waitingRule, firstVote};
 ghost use Rattle.rules.specs.Calls.{valueAt, rdAnswer};
+ghost use Rattle.rules.specs.Visits.{through, versionUp, visits2, visits3, visits4, waitingVisits, newLast, testVisits};
 ghost use Rattle.table.specs.Table.{WfRow, Wf, entryOf, entries};
 ghost use Rattle.scans.specs.Scans.{over, namedBy, named, namedAll, below, older, hit3, hit4, statusNumber, newerBy, nextWriters, newestWriters};
+ghost use Rattle.scans.specs.Visits.{clash3, clash4, readBelow, laterVote, laterVisits, voteAfter};
 ghost use Rattle.scans.specs.Keys.{inKeys, withKey, lacks, keysAt, keysRead, keysWritten};
 use records::Read;
 use rules::Answer;
@@ -33,6 +35,24 @@ const BAD: u8 = 2;
 
 // Where a transaction's reads begin.
 const READS_AT: usize = 12;
+
+// A version looked up: what it is, and how many entries were gone through.
+struct Seen {
+    what: u8,
+    visited: usize,
+}
+
+// A test at one key: whether it fails there, and how many entries were gone through.
+struct Gone {
+    fails: bool,
+    visited: usize,
+}
+
+// A vote, and how many entries were visited for it.
+pub struct Cast {
+    pub vote: Vote,
+    pub visited: usize,
+}
 
 // What the newest committed writer wrote, and the newest live undecided one.
 pub struct Writers {
@@ -79,44 +99,61 @@ fn named_by(e: &[u8], k: Key) -> u8
 }
 
 // The same of one version read; one that is not held fails test 2.
-fn named(t: &[u8], n: usize, p: Read) -> u8
+fn named(t: &[u8], n: usize, p: Read) -> Seen
     requires { ⌜ Wf (now t) n ⌝ }
-    ensures { λ r. ⌜ r ≡ named (entries (now (t .entry)) n) p ⌝ }
+    ensures { λ r. ⌜ (r .what ≡ named (entries (now (t .entry)) n) p) × (r .visited ≡ versionUp (entries (now (t .entry)) n) p) ⌝ }
 {
     let v = p.version;
     let k = p.key;
     if v.0 == 0 {
-        return FINE;
+        return Seen {
+            what: FINE,
+            visited: 0,
+        };
     }
     let i = table::place(t, n, v);
     if i < n {
         let e = table::row(t, i);
-        return named_by(e, k);
+        return Seen {
+            what: named_by(e, k),
+            visited: i + 1,
+        };
     }
-    BAD
+    Seen {
+        what: BAD,
+        visited: n,
+    }
 }
 
 // All versions read, each looked up once for test 2 and the waiting rule: one that fails the test, else one undecided, else fine.
-fn versions(t: &[u8], n: usize, b: &[u8]) -> u8
+fn versions(t: &[u8], n: usize, b: &[u8]) -> Seen
     requires { ⌜ Wf (now t) n × TxThere (now b) ⌝ }
-    ensures { λ r. ⌜ r ≡ namedAll (entries (now (t .entry)) n) false (readsOf (now (b .entry))) ⌝ }
+    ensures { λ r. ⌜ (r .what ≡ namedAll (entries (now (t .entry)) n) false (readsOf (now (b .entry)))) × (r .visited ≡ visits2 (over (entries (now (t .entry)) n)) (now (b .entry))) ⌝ }
 {
     let m = table::read_count(b);
     let mut waits = false;
+    let mut visited = 0;
     let mut j = 0;
     while j < m {
         let p = table::read_at(b, j);
         let one = named(t, n, p);
-        if one == BAD {
-            return BAD;
+        visited += one.visited;
+        if one.what == BAD {
+            return Seen { what: BAD, visited };
         }
-        waits = waits_too(waits, one);
+        waits = waits_too(waits, one.what);
         j += 1;
     }
     if waits {
-        return PENDING;
+        return Seen {
+            what: PENDING,
+            visited,
+        };
     }
-    FINE
+    Seen {
+        what: FINE,
+        visited,
+    }
 }
 
 // Whether a read lies below what the other transaction writes there.
@@ -362,21 +399,30 @@ fn status_of(e: &[u8], k: Key) -> u8
 }
 
 // The waiting rule of one version read; one that is not held is bad.
-fn status(t: &[u8], n: usize, p: Read) -> u8
+fn status(t: &[u8], n: usize, p: Read) -> Seen
     requires { ⌜ Wf (now t) n ⌝ }
-    ensures { λ r. ⌜ r ≡ statusNumber (status (over (entries (now (t .entry)) n)) p) ⌝ }
+    ensures { λ r. ⌜ (r .what ≡ statusNumber (status (over (entries (now (t .entry)) n)) p)) × (r .visited ≡ versionUp (entries (now (t .entry)) n) p) ⌝ }
 {
     let v = p.version;
     let k = p.key;
     if v.0 == 0 {
-        return FINE;
+        return Seen {
+            what: FINE,
+            visited: 0,
+        };
     }
     let i = table::place(t, n, v);
     if i < n {
         let e = table::row(t, i);
-        return status_of(e, k);
+        return Seen {
+            what: status_of(e, k),
+            visited: i + 1,
+        };
     }
-    BAD
+    Seen {
+        what: BAD,
+        visited: n,
+    }
 }
 
 // Whether to wait, one version more looked at.
@@ -392,54 +438,257 @@ fn waits_too(waits: bool, s: u8) -> bool
     false
 }
 
-// The waiting rule: any bad, abort with reason 6; else any undecided, wait; else commit.
-pub fn waiting_rule(t: &[u8], n: usize, b: &[u8]) -> Vote
+// Whether one was bad, one version more looked at.
+fn bad_too(bad: bool, s: u8) -> bool
+    ensures { λ r. ⌜ r ≡ (bad || eqb s 2) ⌝ }
+{
+    if bad {
+        return true;
+    }
+    if s == BAD {
+        return true;
+    }
+    false
+}
+
+// The waiting rule: any bad, abort with reason 6; else any undecided, wait; else commit. Every version is looked up, behind a bad one too.
+pub fn waiting_rule(t: &[u8], n: usize, b: &[u8]) -> Cast
     requires { ⌜ Wf (now t) n × TxThere (now b) ⌝ }
-    ensures { λ v. ⌜ v ≡ waitingRule (over (entries (now (t .entry)) n)) (now (b .entry)) ⌝ }
+    ensures { λ r. ⌜ (r .vote ≡ waitingRule (over (entries (now (t .entry)) n)) (now (b .entry))) × (r .visited ≡ waitingVisits (entries (now (t .entry)) n) (now (b .entry))) × (r .visited ≤ 8 * n) ⌝ }
 {
     let m = table::read_count(b);
+    let mut bad = false;
     let mut waits = false;
+    let mut visited = 0;
     let mut j = 0;
     while j < m {
         let p = table::read_at(b, j);
-        let s = status(t, n, p);
-        if s == BAD {
-            return Vote::Abort(Reason::Dependency);
-        }
-        waits = waits_too(waits, s);
+        let one = status(t, n, p);
+        visited += one.visited;
+        bad = bad_too(bad, one.what);
+        waits = waits_too(waits, one.what);
         j += 1;
     }
+    if bad {
+        return Cast {
+            vote: Vote::Abort(Reason::Dependency),
+            visited,
+        };
+    }
     if waits {
+        return Cast {
+            vote: Vote::Waiting,
+            visited,
+        };
+    }
+    Cast {
+        vote: Vote::Commit,
+        visited,
+    }
+}
+
+// Test 3 at one key and one row: the stamps first, then the key.
+fn fails_3(e: &[u8], b: &[u8], p: Read) -> bool
+    requires { ⌜ WfRow (now e) × TxThere (now b) ⌝ }
+    ensures { λ r. ⌜ r ≡ clash3 (now (b .entry)) p (entryOf (now (e .entry))) ⌝ }
+{
+    let a = table::tx_of(e);
+    if table::stamp_of(b).0 <= table::stamp_of(a).0 {
+        return false;
+    }
+    if below(a, p) {
+        return table::live(e);
+    }
+    false
+}
+
+// The rows gone through at one key read here, up to the first that fails test 3.
+fn through_3(t: &[u8], n: usize, b: &[u8], p: Read) -> Gone
+    requires { ⌜ Wf (now t) n × TxThere (now b) ⌝ }
+    ensures { λ r. ⌜ (r .fails ≡ any (clash3 (now (b .entry)) p) (entries (now (t .entry)) n)) × (r .visited ≡ through (clash3 (now (b .entry)) p) (entries (now (t .entry)) n)) ⌝ }
+{
+    let mut i = 0;
+    while i < n {
+        let e = table::row(t, i);
+        if fails_3(e, b, p) {
+            return Gone {
+                fails: true,
+                visited: i + 1,
+            };
+        }
+        i += 1;
+    }
+    Gone {
+        fails: false,
+        visited: n,
+    }
+}
+
+// The rows that test 3 visits key by key. Only where it fails: else it is every row for every key.
+fn visits_3(t: &[u8], n: usize, b: &[u8]) -> usize
+    requires { ⌜ Wf (now t) n × TxThere (now b) ⌝ }
+    ensures { λ r. ⌜ r ≡ visits3 (over (entries (now (t .entry)) n)) (now (b .entry)) ⌝ }
+{
+    let m = table::read_count(b);
+    let mut visited = 0;
+    let mut j = 0;
+    while j < m {
+        let p = table::read_at(b, j);
+        let one = through_3(t, n, b, p);
+        visited += one.visited;
+        if one.fails {
+            return visited;
+        }
+        j += 1;
+    }
+    visited
+}
+
+// Whether a read of the key lies below a stamp.
+fn read_below(a: &[u8], k: Key, s: Stamp) -> bool
+    requires { ⌜ TxThere (now a) ⌝ }
+    ensures { λ r. ⌜ r ≡ any (readBelow (k .0) (s .0)) (readsOf (now (a .entry))) ⌝ }
+{
+    let m = table::read_count(a);
+    let mut j = 0;
+    while j < m {
+        let p = table::read_at(a, j);
+        if is_below(p, k, s) {
+            return true;
+        }
+        j += 1;
+    }
+    false
+}
+
+// The same of one read.
+fn is_below(p: Read, k: Key, s: Stamp) -> bool
+    ensures { λ r. ⌜ r ≡ readBelow (k .0) (s .0) p ⌝ }
+{
+    if k.0 == p.key.0 {
+        return p.version.0 < s.0;
+    }
+    false
+}
+
+// Test 4 at one key and one row: the stamps first, then the key.
+fn fails_4(e: &[u8], b: &[u8], k: Key) -> bool
+    requires { ⌜ WfRow (now e) × TxThere (now b) ⌝ }
+    ensures { λ r. ⌜ r ≡ clash4 (now (b .entry)) (k .0) (entryOf (now (e .entry))) ⌝ }
+{
+    let a = table::tx_of(e);
+    let s = table::stamp_of(b);
+    if table::stamp_of(a).0 <= s.0 {
+        return false;
+    }
+    if read_below(a, k, s) {
+        return table::live(e);
+    }
+    false
+}
+
+// The rows gone through at one key written here, up to the first that fails test 4.
+fn through_4(t: &[u8], n: usize, b: &[u8], k: Key) -> Gone
+    requires { ⌜ Wf (now t) n × TxThere (now b) ⌝ }
+    ensures { λ r. ⌜ (r .fails ≡ any (clash4 (now (b .entry)) (k .0)) (entries (now (t .entry)) n)) × (r .visited ≡ through (clash4 (now (b .entry)) (k .0)) (entries (now (t .entry)) n)) ⌝ }
+{
+    let mut i = 0;
+    while i < n {
+        let e = table::row(t, i);
+        if fails_4(e, b, k) {
+            return Gone {
+                fails: true,
+                visited: i + 1,
+            };
+        }
+        i += 1;
+    }
+    Gone {
+        fails: false,
+        visited: n,
+    }
+}
+
+// The rows that test 4 visits key by key. Only where it fails: else it is every row for every key.
+fn visits_4(t: &[u8], n: usize, b: &[u8]) -> usize
+    requires { ⌜ Wf (now t) n × TxThere (now b) ⌝ }
+    ensures { λ r. ⌜ r ≡ visits4 (over (entries (now (t .entry)) n)) (now (b .entry)) ⌝ }
+{
+    let m = table::write_count(b);
+    let mut visited = 0;
+    let mut j = 0;
+    while j < m {
+        let w = table::write_at(b, j);
+        let one = through_4(t, n, b, w.key);
+        visited += one.visited;
+        if one.fails {
+            return visited;
+        }
+        j += 1;
+    }
+    visited
+}
+
+// Tests 3 to 5, then the waiting rule, which finds each version where test 2 found it. A test that passes visits every row for every key.
+fn later_vote(t: &[u8], n: usize, marks: &[u64], b: &[u8], read: Seen) -> Cast
+    requires { ⌜ Wf (now t) n × TxThere (now b) × (read .visited ≤ 8 * n) ⌝ }
+    ensures { λ r. ⌜ (r .vote ≡ laterVote (boxWith (entries (now (t .entry)) n) (now (marks .entry))) (now (b .entry)) (voteAfter (read .what))) × (r .visited ≡ read .visited + laterVisits (boxWith (entries (now (t .entry)) n) (now (marks .entry))) (now (b .entry)) (read .visited)) ⌝ }
+{
+    if test_3(t, n, b) {
+        return Cast {
+            vote: Vote::Abort(Reason::Overwritten),
+            visited: read.visited + visits_3(t, n, b),
+        };
+    }
+    let third = read.visited + table::read_count(b) * n;
+    if test_4(t, n, b) {
+        return Cast {
+            vote: Vote::Abort(Reason::Undercuts),
+            visited: third + visits_4(t, n, b),
+        };
+    }
+    let fourth = third + table::write_count(b) * n;
+    if test_5(marks, b) {
+        return Cast {
+            vote: Vote::Abort(Reason::ReadMark),
+            visited: fourth,
+        };
+    }
+    Cast {
+        vote: vote_after(read.what),
+        visited: fourth + read.visited,
+    }
+}
+
+// The waiting rule by what test 2 passed: that is never bad.
+fn vote_after(what: u8) -> Vote
+    ensures { λ r. ⌜ r ≡ voteAfter what ⌝ }
+{
+    if what == PENDING {
         return Vote::Waiting;
     }
     Vote::Commit
 }
 
-// The vote of a PR not held: the first failing test aborts, else the waiting rule; what test 2 passed is never bad to that.
-pub fn first_vote(t: &[u8], n: usize, marks: &[u64], b: &[u8], told: Told) -> Vote
+// The vote of a PR not held: the first failing test aborts, else the waiting rule. The new entry, standing last, is not reached by a look-up that finds.
+pub fn first_vote(t: &[u8], n: usize, marks: &[u64], b: &[u8], told: Told) -> Cast
     requires { ⌜ Wf (now t) n × TxThere (now b) ⌝ }
-    ensures { λ v. ⌜ v ≡ firstVote told (boxWith (entries (now (t .entry)) n) (now (marks .entry))) (now (b .entry)) ⌝ }
+    ensures { λ r. ⌜ (r .vote ≡ firstVote told (boxWith (entries (now (t .entry)) n) (now (marks .entry))) (now (b .entry))) × (r .visited ≡ testVisits told (boxWith (entries (now (t .entry)) n) (now (marks .entry))) (now (b .entry)) (newLast (now (b .entry)) (entries (now (t .entry)) n))) × (r .visited ≡ testVisits told (boxWith (entries (now (t .entry)) n) (now (marks .entry))) (now (b .entry)) (entries (now (t .entry)) n)) × (r .visited ≤ 32 * n) ⌝ }
 {
     if test_1(b, told) {
-        return Vote::Abort(Reason::Ahead);
+        return Cast {
+            vote: Vote::Abort(Reason::Ahead),
+            visited: 0,
+        };
     }
     let read = versions(t, n, b);
-    if read == BAD {
-        return Vote::Abort(Reason::NoVersion);
+    if read.what == BAD {
+        return Cast {
+            vote: Vote::Abort(Reason::NoVersion),
+            visited: read.visited,
+        };
     }
-    if test_3(t, n, b) {
-        return Vote::Abort(Reason::Overwritten);
-    }
-    if test_4(t, n, b) {
-        return Vote::Abort(Reason::Undercuts);
-    }
-    if test_5(marks, b) {
-        return Vote::Abort(Reason::ReadMark);
-    }
-    if read == PENDING {
-        return Vote::Waiting;
-    }
-    Vote::Commit
+    later_vote(t, n, marks, b, read)
 }
 
 // The value of the first write of a key, 0 where there is none.

@@ -1,7 +1,13 @@
+use Prim.Native.Nat.{zero-le}
 use mathlib.Core.Path.{sym, _∙_}
+use Rattle.terms.proofs.Scans.{tab-length}
+use Rattle.rules.specs.Visits.{newLast}
 use Rattle.table.specs.Table.{entries}
-use Rattle.scans.proofs.Outcomes.{first-1, first-2, first-3, first-4, first-5, first-6}
-use Rattle.scans.proofs.Naming.{fails-2, passes-2, then-waits, then-commits}
+use Rattle.scans.specs.Visits.{voteAfter}
+use Rattle.scans.proofs.Outcomes.{first-1, first-2}
+use Rattle.scans.proofs.Naming.{fails-2, passes-2}
+use Rattle.scans.proofs.Counting.{visits2-most, after-is, number-1, number-2, vote-on, number-held, number-new, number-most}
+use native.Mathlib.Omega.{arith}
 use borrow.Author.Needs.{needs}
 use Rattle.scans.proofs.first_vote.Statement.{statement}
 use Rattle.scans.proofs.first_vote.Tie as tie
@@ -10,37 +16,19 @@ test-1-requires : tie.Need-test-1-requires
 test-1-requires c κs = search needs
 
 returns : tie.Need-returns
-returns c = let a = c .before .before .before .before .before .args in let es = entries (a .t .now) (a .n) in first-1 (a .told) es (a .marks .now) (a .b .now) (sym (c .before .test-1 .ensures) ∙ c .if1 .taken)
+returns c = let s = c .before .before .before .before .before in let es = entries (s .args .t .now) (s .args .n) in let a = sym (c .before .test-1 .ensures) ∙ c .if1 .taken in (first-1 (s .args .told) es (s .args .marks .now) (s .args .b .now) a, number-1 (s .args .told) es (s .args .marks .now) (s .args .b .now) a (newLast (s .args .b .now) es), number-1 (s .args .told) es (s .args .marks .now) (s .args .b .now) a es, zero-le)
 
 versions-requires : tie.Need-versions-requires
 versions-requires c κs = search needs
 
 returns-2 : tie.Need-returns-2
-returns-2 c = let a = c .before .before .before .before .before .before .before .args in let es = entries (a .t .now) (a .n) in first-2 (a .told) es (a .marks .now) (a .b .now) (sym (c .before .before .before .test-1 .ensures) ∙ c .before .before .if1 .left) (sym (fails-2 es (a .b .now) (c .before .versions .ensures) (c .if2 .taken)))
+returns-2 c = let s = c .before .before .before .before .before .before .before .before in let es = entries (s .args .t .now) (s .args .n) in let a = sym (c .before .before .before .before .test-1 .ensures) ∙ c .before .before .before .if1 .left in let d = sym (fails-2 es (s .args .b .now) (c .before .before .versions .ensures .0) (c .if2 .taken)) in let e = c .before .before .versions .ensures .1 in let m = visits2-most es (s .args .b .now) (s .args .n) (tab-length _ _ _) (s .pre .1 .0) in (first-2 (s .args .told) es (s .args .marks .now) (s .args .b .now) a d, number-2 (s .args .told) es (s .args .marks .now) (s .args .b .now) a d (c .before .before .versions .result .visited) e (newLast (s .args .b .now) es), number-2 (s .args .told) es (s .args .marks .now) (s .args .b .now) a d (c .before .before .versions .result .visited) e es, omega arith)
 
-test-3-requires : tie.Need-test-3-requires
-test-3-requires c κs = search needs
+later-vote-requires : tie.Need-later-vote-requires
+later-vote-requires c κs = let s = c .before .before .before .before .before .before .before .before in let es = entries (s .args .t .now) (s .args .n) in let e = c .before .before .versions .ensures .1 in (s .pre .0, s .pre .1, rw e (visits2-most es (s .args .b .now) (s .args .n) (tab-length _ _ _) (s .pre .1 .0)))
 
 returns-3 : tie.Need-returns-3
-returns-3 c = let a = c .before .before .before .before .before .before .before .before .before .args in let es = entries (a .t .now) (a .n) in first-3 (a .told) es (a .marks .now) (a .b .now) (sym (c .before .before .before .before .before .test-1 .ensures) ∙ c .before .before .before .before .if1 .left) (sym (passes-2 es (a .b .now) (c .before .before .before .versions .ensures) (c .before .before .if2 .left))) (sym (c .before .test-3 .ensures) ∙ c .if3 .taken)
-
-test-4-requires : tie.Need-test-4-requires
-test-4-requires c κs = search needs
-
-returns-4 : tie.Need-returns-4
-returns-4 c = let a = c .before .before .before .before .before .before .before .before .before .before .before .args in let es = entries (a .t .now) (a .n) in first-4 (a .told) es (a .marks .now) (a .b .now) (sym (c .before .before .before .before .before .before .before .test-1 .ensures) ∙ c .before .before .before .before .before .before .if1 .left) (sym (passes-2 es (a .b .now) (c .before .before .before .before .before .versions .ensures) (c .before .before .before .before .if2 .left))) (sym (c .before .before .before .test-3 .ensures) ∙ c .before .before .if3 .left) (sym (c .before .test-4 .ensures) ∙ c .if4 .taken)
-
-test-5-requires : tie.Need-test-5-requires
-test-5-requires c κs = search needs
-
-returns-5 : tie.Need-returns-5
-returns-5 c = let a = c .before .before .before .before .before .before .before .before .before .before .before .before .before .args in let es = entries (a .t .now) (a .n) in first-5 (a .told) es (a .marks .now) (a .b .now) (sym (c .before .before .before .before .before .before .before .before .before .test-1 .ensures) ∙ c .before .before .before .before .before .before .before .before .if1 .left) (sym (passes-2 es (a .b .now) (c .before .before .before .before .before .before .before .versions .ensures) (c .before .before .before .before .before .before .if2 .left))) (sym (c .before .before .before .before .before .test-3 .ensures) ∙ c .before .before .before .before .if3 .left) (sym (c .before .before .before .test-4 .ensures) ∙ c .before .before .if4 .left) (sym (c .before .test-5 .ensures) ∙ c .if5 .taken)
-
-returns-6 : tie.Need-returns-6
-returns-6 c = let a = c .before .before .before .before .before .before .before .before .before .before .before .before .before .before .args in let es = entries (a .t .now) (a .n) in then-waits es (a .b .now) (c .before .before .before .before .before .before .before .before .versions .ensures) (c .before .before .before .before .before .before .before .if2 .left) (c .if6 .taken) ∙ first-6 (a .told) es (a .marks .now) (a .b .now) (sym (c .before .before .before .before .before .before .before .before .before .before .test-1 .ensures) ∙ c .before .before .before .before .before .before .before .before .before .if1 .left) (sym (passes-2 es (a .b .now) (c .before .before .before .before .before .before .before .before .versions .ensures) (c .before .before .before .before .before .before .before .if2 .left))) (sym (c .before .before .before .before .before .before .test-3 .ensures) ∙ c .before .before .before .before .before .if3 .left) (sym (c .before .before .before .before .test-4 .ensures) ∙ c .before .before .before .if4 .left) (sym (c .before .before .test-5 .ensures) ∙ c .before .if5 .left)
-
-returns-7 : tie.Need-returns-7
-returns-7 c = let a = c .before .before .before .before .before .before .before .before .before .before .before .before .before .before .args in let es = entries (a .t .now) (a .n) in then-commits es (a .b .now) (c .before .before .before .before .before .before .before .before .versions .ensures) (c .before .before .before .before .before .before .before .if2 .left) (c .if6 .left) ∙ first-6 (a .told) es (a .marks .now) (a .b .now) (sym (c .before .before .before .before .before .before .before .before .before .before .test-1 .ensures) ∙ c .before .before .before .before .before .before .before .before .before .if1 .left) (sym (passes-2 es (a .b .now) (c .before .before .before .before .before .before .before .before .versions .ensures) (c .before .before .before .before .before .before .before .if2 .left))) (sym (c .before .before .before .before .before .before .test-3 .ensures) ∙ c .before .before .before .before .before .if3 .left) (sym (c .before .before .before .before .test-4 .ensures) ∙ c .before .before .before .if4 .left) (sym (c .before .before .test-5 .ensures) ∙ c .before .if5 .left)
+returns-3 c = let s = c .before .before .before .before .before .before .before .before .before in let es = entries (s .args .t .now) (s .args .n) in let a = sym (c .before .before .before .before .before .test-1 .ensures) ∙ c .before .before .before .before .if1 .left in let d = sym (passes-2 es (s .args .b .now) (c .before .before .before .versions .ensures .0) (c .before .if2 .left)) in let g = c .before .before .before .versions .result .visited in let y = c .later-vote .result .visited in let e = c .before .before .before .versions .ensures .1 in let f = c .later-vote .ensures .1 in (vote-on (s .args .told) es (s .args .marks .now) (s .args .b .now) a d (c .later-vote .result .vote) (voteAfter (c .before .before .before .versions .result .what)) (after-is es (s .args .b .now) (c .before .before .before .versions .result .what) (c .before .before .before .versions .ensures .0) (c .before .if2 .left)) (c .later-vote .ensures .0), number-new (s .args .told) es (s .args .marks .now) (s .args .b .now) a d g y e f, number-held (s .args .told) es (s .args .marks .now) (s .args .b .now) a d g y e f, number-most (s .args .told) es (s .args .marks .now) (s .args .b .now) a d g y e f (s .args .n) (tab-length _ _ _) (s .pre .1 .0) (s .pre .1 .1))
 
 pub first-vote-spec : {M : Type 1} → statement M
 first-vote-spec =
@@ -50,11 +38,5 @@ first-vote-spec =
     returns
     versions-requires
     returns-2
-    test-3-requires
-    returns-3
-    test-4-requires
-    returns-4
-    test-5-requires
-    returns-5
-    returns-6
-    returns-7)
+    later-vote-requires
+    returns-3)

@@ -1,0 +1,70 @@
+use mathlib.Core.Path.{sym, _∙_}
+use Prim.Native.Nat.{_-_}
+use Rattle.terms.specs.Choice.{any}
+use Rattle.terms.proofs.Scans.{tab-length}
+use Rattle.records.specs.Tx.{writeAt, writesFrom, writeKey, txOf}
+use Rattle.rules.specs.Bodies.{writesOf}
+use Rattle.rules.specs.Visits.{through, visits4}
+use Rattle.table.specs.Table.{entries}
+use Rattle.scans.specs.Scans.{over}
+use Rattle.scans.specs.Visits.{clash4}
+use Rattle.scans.proofs.Visits.{Keyed, keyed-begin, keyed-fits, keyed-stop, keyed-go, keyed-end}
+use Rattle.scans.proofs.Counting.{visits4-most}
+use native.Mathlib.Omega.{arith}
+use borrow.Author.Needs.{needs}
+use Rattle.scans.proofs.visits_4.Statement.{statement}
+use Rattle.scans.proofs.visits_4.Tie as tie
+
+abbrev Inv-loop : tie.InvT-loop
+Inv-loop t n b m visited₀ j₀ visited j = Keyed (λ r. through (clash4 b (writeKey r)) (entries t n)) (λ r. any (clash4 b (writeKey r)) (entries t n)) (writeAt b (writesFrom b)) m (visits4 (over (entries t n)) b) visited j
+
+abbrev μ-loop : tie.MeasureT-loop
+μ-loop t n b m visited₀ j₀ visited j = m - j
+
+write-count-requires : tie.Need-write-count-requires Inv-loop μ-loop
+write-count-requires c κs = search needs
+
+loop-holds : tie.Need-loop-holds Inv-loop μ-loop
+unfolding writesOf txOf visits4 clash4
+loop-holds c = keyed-begin (rw (c .write-count .ensures .0))
+
+write-at-requires : tie.Need-write-at-requires Inv-loop μ-loop
+write-at-requires c κs = search needs
+
+through-4-requires : tie.Need-through-4-requires Inv-loop μ-loop
+through-4-requires c κs = search needs
+
+add-visited : tie.Need-add-visited Inv-loop μ-loop
+add-visited c = let s = c .before .before .before .before .before .before .before .before in let r = s .pre .0 .room in let k = keyed-fits (c .before .before .before .before .loop .inv) (omega arith) (c .before .through-4 .result .visited) (rw (← c .before .before .write-at .ensures) (c .before .through-4 .ensures .1)) in let m = visits4-most (entries (s .args .t .now) (s .args .n)) (s .args .b .now) (s .args .n) (tab-length _ _ _) (s .pre .1 .1) in omega arith
+
+returns : tie.Need-returns Inv-loop μ-loop
+returns c = keyed-stop (c .before .before .before .before .before .loop .inv) (omega arith) (c .before .before .through-4 .result .visited) (rw (← c .before .before .before .write-at .ensures) (c .before .before .through-4 .ensures .1)) (rw (← c .before .before .before .write-at .ensures) (sym (c .before .before .through-4 .ensures .0) ∙ c .if1 .taken))
+
+add-j : tie.Need-add-j Inv-loop μ-loop
+add-j c = search needs
+
+loop-less : tie.Need-loop-less Inv-loop μ-loop
+loop-less c = search needs
+
+loop-again : tie.Need-loop-again Inv-loop μ-loop
+loop-again c = keyed-go (c .before .before .before .before .before .loop .inv) (omega arith) (c .before .before .through-4 .result .visited) (rw (← c .before .before .before .write-at .ensures) (c .before .before .through-4 .ensures .1)) (rw (← c .before .before .before .write-at .ensures) (sym (c .before .before .through-4 .ensures .0) ∙ c .if1 .left))
+
+returns-2 : tie.Need-returns-2 Inv-loop μ-loop
+returns-2 c = keyed-end (c .before .loop .inv) (omega arith)
+
+pub visits-4-spec : {M : Type 1} → statement M
+visits-4-spec =
+    tie.close
+    (tie.spec
+    Inv-loop
+    μ-loop
+    write-count-requires
+    loop-holds
+    write-at-requires
+    through-4-requires
+    add-visited
+    returns
+    add-j
+    loop-less
+    loop-again
+    returns-2)
