@@ -55,6 +55,10 @@ fn cases(text: &str) -> Vec<(String, Vec<Record>)> {
 /// The words beside a line pack to the very bytes of the record; there are none only where it was refused as it was read.
 fn words_are_the_record(group: Group, line: &Line, bytes: &[u8]) {
     let packed = pack_line(group, &line.words).unwrap_or_else(|wrong| panic!("{}: {wrong:?}", line.words));
+    // A number in the answer, of a reason or a refusal, has words too.
+    let told = line.words.split_once("# ").map(|(_, why)| why);
+    assert_eq!(told.is_some(), line.said.contains(" PR abort ") || line.said.contains(" refused "), "{}", line.said);
+    assert!(told.is_none() || told.is_some_and(|why| why.contains(' ')), "{}", line.words);
     match packed {
         Some((_, packed)) => assert_eq!(packed, bytes, "{}", line.words),
         None => {
@@ -114,8 +118,9 @@ fn too_long_and_stops() {
     assert_eq!(printed(&["run"], vec![b'X'; 65_537]), "too long\n");
     assert_eq!(printed(&["run"], vec![b'X'; 65_536]), "0 ?? refused 2  # mark: the mark is not the one due\n");
     let begun = file("crates/bench/stdin")[..12].to_vec();
-    for (behind, said) in [(&b"GP"[..], "1 GP refused 2"), (b"TX", "1 ?? refused 2"), (b"C", "1 ?? refused 1"), (b"CK", "1 CK refused 1"), (b"LDTX\x00\x00", "1 LD refused 3")] {
-        let given = run(&[&begun, behind].concat());
+    let stops = [("GP", "1 GP refused 2"), ("TX", "1 ?? refused 2"), ("C", "1 ?? refused 1"), ("CK", "1 CK refused 1"), ("LDTX\0\0", "1 LD refused 3")];
+    for (behind, said) in stops {
+        let given = run(&[&begun, behind.as_bytes()].concat());
         assert_eq!((given.len(), given[1].said.as_str()), (2, said));
     }
 }

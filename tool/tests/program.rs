@@ -45,8 +45,8 @@ fn unknown_words_are_told_by_the_usage() {
         assert_eq!(program(words, b""), (vec![], usage.into(), Some(2)), "{words:?}");
     }
     let of_pack = "usage: stobbarel pack [--f N] < TEXT > RECORDS\n";
-    for words in [&["pack", "file"][..], &["pack", "--f"], &["pack", "--f", "0"], &["pack", "--f", "6"], &["pack", "--f", "1", "--f", "1"], &["pack", "--text"]] {
-        assert_eq!(program(words, b"CK clock 1\n"), (vec![], of_pack.into(), Some(2)), "{words:?}");
+    for words in [&["file"][..], &["--f"], &["--f", "0"], &["--f", "6"], &["--f", "1", "--f", "1"], &["--text"]] {
+        assert_eq!(program(&[&["pack"], words].concat(), b"CK clock 1\n"), (vec![], of_pack.into(), Some(2)), "{words:?}");
     }
     assert_eq!(program(&["run", "--f", "1"], b""), (vec![], "usage: stobbarel run [--text] < RECORDS\n".into(), Some(2)));
 }

@@ -1,4 +1,5 @@
-//! Text to records and back, records to text and back: of every kind of record, at the extremes, with spaces put anywhere, and of text and bytes that were damaged.
+//! Text to records and back, records to text and back: of every kind of record, at the extremes, with spaces put anywhere, and of text and bytes that were
+//! damaged.
 
 #[allow(dead_code)]
 #[path = "../../tests/src/random.rs"]

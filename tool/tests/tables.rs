@@ -5,6 +5,8 @@ use stobbarel::layout::{table_len, BODY_AT, DECIDED_AT, HEAD, LOG_AT, REASON_AT,
 use stobbarel::{Group, Table};
 use stobbarel_tool::{capacity_by_length, pack_line, read_marks, readable, told, Outcome, Record};
 
+const DOCUMENT: &str = include_str!("../../docs/TOOL.md");
+
 /// The table of the stored example, behind its last record.
 fn example() -> Table {
     let text = fs::read_to_string(concat!(env!("CARGO_MANIFEST_DIR"), "/examples/box.txt")).expect("the example");
@@ -20,20 +22,19 @@ fn example() -> Table {
     table.expect("a GP")
 }
 
-const EXAMPLE: &str = "\
-3 of 4 entries
-row  stamp  vote                                                                     log               view  decision  reads  writes
-0    50     commit                                                                   commit in view 0  0     commit    none   3=7
-1    60     commit                                                                   commit in view 1  1     none      3@50   4=8
-2    55     abort 4: a live entry above read a key written here, at a version below  none              0     none      none   3=9
-";
+/// The example's table, and behind an empty line its read marks.
+const EXAMPLE: &str = include_str!("../examples/box.table");
+
+fn without_marks() -> &'static str {
+    EXAMPLE.split_once("\n\n").map_or(EXAMPLE, |(table, _)| &EXAMPLE[..=table.len()])
+}
 
 #[test]
 fn the_example() {
     let table = example();
-    assert_eq!(readable(table.bytes(), 4, None).as_deref(), Ok(EXAMPLE));
-    let due = format!("{EXAMPLE}\nkey  read mark\n3    60\n");
-    assert_eq!(readable(table.bytes(), 4, Some(table.marks())), Ok(due));
+    assert_eq!(readable(table.bytes(), 4, None).as_deref(), Ok(without_marks()));
+    assert_eq!(readable(table.bytes(), 4, Some(table.marks())).as_deref(), Ok(EXAMPLE));
+    assert!(without_marks().ends_with("3=9\n") && EXAMPLE.ends_with("\nkey  read mark\n3    60\n"));
 }
 
 #[test]
@@ -70,6 +71,7 @@ fn the_first_wrong_row_is_told() {
         (BODY_AT + 3, 9, "vote 1, reason 0, decision 0, log 1, 1 reads, 9 writes"),
     ] {
         let wrong = broken(at, byte).expect_err("a wrong row");
+        assert!(at != VOTE_AT || byte != 4 || DOCUMENT.contains(&wrong.lines().map(|line| format!("    {line}\n")).collect::<String>()));
         assert!(wrong.starts_with("refused 16, table: "), "{wrong}");
         assert_eq!(wrong.lines().nth(1), Some(row(codes).as_str()));
     }
@@ -125,10 +127,10 @@ fn from_files() {
     fs::write(&kept, table.bytes()).expect("a file");
     fs::write(&longer, [table.bytes(), &[0]].concat()).expect("a file");
     fs::write(&marks, table.marks().iter().flat_map(|mark| mark.to_le_bytes()).collect::<Vec<u8>>()).expect("a file");
-    assert_eq!(command(&["table", &kept]).out, EXAMPLE.as_bytes());
-    assert_eq!(command(&["table", &longer, "--capacity", "4"]).out, EXAMPLE.as_bytes());
+    assert_eq!(command(&["table", &kept]).out, without_marks().as_bytes());
+    assert_eq!(command(&["table", &longer, "--capacity", "4"]).out, without_marks().as_bytes());
     let with_marks = command(&["table", "--marks", &marks, &kept]);
-    assert_eq!(with_marks.out, format!("{EXAMPLE}\nkey  read mark\n3    60\n").into_bytes());
+    assert_eq!(with_marks.out, EXAMPLE.as_bytes());
     let refused = command(&["table", &kept, "--capacity", "2"]);
     assert_eq!((refused.out.len(), refused.code), (0, 1));
     assert!(refused.wrong.starts_with(&format!("{kept}: refused 16, table: ")));
