@@ -2,6 +2,7 @@
 
 use crate::record::{write, Record};
 use crate::words;
+use stobbarel::layout::KEYS;
 use stobbarel::{Decision, Election, Group, Key, Message, Stamp, Transaction, View, VoteList};
 
 /// Where a line goes wrong, and why.
@@ -73,7 +74,7 @@ const CAPACITY: Range = range("a capacity", 1, 255);
 const DELTA: Range = range("delta", 0, u64::MAX);
 const CLOCK: Range = range("a clock", 0, u64::MAX);
 const STAMP: Range = range("a stamp", 1, u64::MAX);
-const KEY: Range = range("a key", 0, 511);
+const KEY: Range = range("a key", 0, KEYS as u64 - 1);
 const VALUE: Range = range("a value", 0, u64::MAX);
 const VIEW: Range = range("a view", 0, u16::MAX as u64);
 const MOST: usize = 8;

@@ -106,8 +106,8 @@ pub fn read(group: Group, bytes: &[u8]) -> Result<Record, Refusal> {
     }
 }
 
-/// How many bytes the record in front has: as many as its reader does not call short, since 1 goes before all that stands behind the cut. A refusal of the cut
-/// itself, 1, 2 or 3, is told.
+/// How many bytes the record in front has: as few as its reader does not call short, since 1 goes before all that stands behind the cut. A wrong mark or count is
+/// among them, and refused when they are read.
 pub fn cut<T>(bytes: &[u8], read: impl Fn(&[u8]) -> Result<T, Refusal>) -> Result<usize, Refusal> {
     let short = |length: usize| matches!(read(&bytes[..length]), Err(Refusal::Short));
     let (mut low, mut high) = (0, bytes.len().min(LONGEST));
@@ -119,10 +119,7 @@ pub fn cut<T>(bytes: &[u8], read: impl Fn(&[u8]) -> Result<T, Refusal>) -> Resul
         let middle = (low + high) / 2;
         (low, high) = if short(middle) { (middle + 1, high) } else { (low, middle) };
     }
-    match read(&bytes[..low]) {
-        Err(refusal @ (Refusal::Mark | Refusal::Count)) => Err(refusal),
-        _ => Ok(low),
-    }
+    Ok(low)
 }
 
 fn write_gp(f: u8, capacity: u8, delta: u64, out: &mut [u8]) -> Result<usize, Refusal> {

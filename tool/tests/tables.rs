@@ -78,6 +78,17 @@ fn the_first_wrong_row_is_told() {
 }
 
 #[test]
+fn of_two_wrong_rows_the_first_is_told() {
+    let mut bytes = example().bytes().to_vec();
+    (bytes[HEAD + ROW + VOTE_AT], bytes[HEAD + 2 * ROW + VOTE_AT]) = (7, 8);
+    let wrong = readable(&bytes, 4, None).expect_err("wrong rows");
+    assert!(wrong.contains("\nrow 1 is the first that is wrong: vote 7, "), "{wrong}");
+    // What stands behind the last entry is not looked at.
+    bytes[0] = 1;
+    assert!(readable(&bytes, 4, None).is_ok_and(|told| told.starts_with("1 of 4 entries\n")));
+}
+
+#[test]
 fn a_wrong_count_or_length_is_told() {
     let bytes = example().bytes().to_vec();
     let why = |bytes: &[u8], capacity: u64| readable(bytes, capacity, None).expect_err("a wrong table").lines().nth(1).map(String::from);
