@@ -106,8 +106,8 @@ pub fn read(group: Group, bytes: &[u8]) -> Result<Record, Refusal> {
     }
 }
 
-/// How many bytes the record in front has: as few as its reader does not call short, since 1 goes before all that stands behind the cut. A wrong mark or count is
-/// among them, and refused when they are read.
+/// How many bytes the record in front has: as few as its reader does not call short, since 1 goes before all that stands behind the cut. A wrong mark or count
+/// is among them, and refused when they are read.
 pub fn cut<T>(bytes: &[u8], read: impl Fn(&[u8]) -> Result<T, Refusal>) -> Result<usize, Refusal> {
     let short = |length: usize| matches!(read(&bytes[..length]), Err(Refusal::Short));
     let (mut low, mut high) = (0, bytes.len().min(LONGEST));

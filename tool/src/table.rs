@@ -82,7 +82,7 @@ fn first_wrong(bytes: &[u8], capacity: u64) -> String {
     let found = (0..count.into()).find_map(|number| Some((number, row(bytes, number).filter(|row| wrong(row))?)));
     found.map_or("no row of it is wrong by itself".into(), |(number, row)| {
         let codes = format!("vote {}, reason {}, decision {}, log {}", row[VOTE_AT], row[REASON_AT], row[DECIDED_AT], row[LOG_AT]);
-        format!("row {number} is the first that is wrong: {codes}, {} reads, {} writes", row[R_AT], row[W_AT])
+        format!("row {number} is the first that is wrong: {codes}, reads {}, writes {}", row[R_AT], row[W_AT])
     })
 }
 

@@ -62,13 +62,13 @@ fn broken(at: usize, byte: u8) -> Result<String, String> {
 fn the_first_wrong_row_is_told() {
     let row = |codes: &str| format!("row 1 is the first that is wrong: {codes}");
     for (at, byte, codes) in [
-        (VOTE_AT, 4, "vote 4, reason 0, decision 0, log 1, 1 reads, 1 writes"),
-        (VOTE_AT, 2, "vote 2, reason 0, decision 0, log 1, 1 reads, 1 writes"),
-        (REASON_AT, 1, "vote 1, reason 1, decision 0, log 1, 1 reads, 1 writes"),
-        (DECIDED_AT, 3, "vote 1, reason 0, decision 3, log 1, 1 reads, 1 writes"),
-        (LOG_AT, 255, "vote 1, reason 0, decision 0, log 255, 1 reads, 1 writes"),
-        (BODY_AT + 2, 9, "vote 1, reason 0, decision 0, log 1, 9 reads, 1 writes"),
-        (BODY_AT + 3, 9, "vote 1, reason 0, decision 0, log 1, 1 reads, 9 writes"),
+        (VOTE_AT, 4, "vote 4, reason 0, decision 0, log 1, reads 1, writes 1"),
+        (VOTE_AT, 2, "vote 2, reason 0, decision 0, log 1, reads 1, writes 1"),
+        (REASON_AT, 1, "vote 1, reason 1, decision 0, log 1, reads 1, writes 1"),
+        (DECIDED_AT, 3, "vote 1, reason 0, decision 3, log 1, reads 1, writes 1"),
+        (LOG_AT, 255, "vote 1, reason 0, decision 0, log 255, reads 1, writes 1"),
+        (BODY_AT + 2, 9, "vote 1, reason 0, decision 0, log 1, reads 9, writes 1"),
+        (BODY_AT + 3, 9, "vote 1, reason 0, decision 0, log 1, reads 1, writes 9"),
     ] {
         let wrong = broken(at, byte).expect_err("a wrong row");
         assert!(at != VOTE_AT || byte != 4 || DOCUMENT.contains(&wrong.lines().map(|line| format!("    {line}\n")).collect::<String>()));
