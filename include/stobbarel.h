@@ -7,7 +7,7 @@
  *
  * Signatures are yours. No function looks at one. A DC whose list looks right is taken, though nobody voted for it; an LG, an IV and an LD
  * likewise. So beside each list travels, for every box on it, that box's signature of what it answered: the transaction's bytes, whether it is a vote, a
- * log, a view or an election answer, the decision, and the view where there is one. Check each of them before the call (stobbarel_fields and
+ * log, a view or an election answer, the decision, and the view where there is one. Check each of them before the call (stobbarel_message_of and
  * stobbarel_views tell who is listed with what, stobbarel_part where the transaction stands), and sign what you answer in the same way.
  *
  * Copy, call, make durable, answer. Make the call on a copy of table and read marks, make both durable together, and only then send the answer. A
@@ -21,9 +21,9 @@
  * stands, and in read marks it sees nothing. Keep a checksum of both, and do not call with what fails it.
  *
  * What you owe. Each pointer is to as many numbers as stand beside it, nothing lent for writing overlaps anything else lent, and no other
- * thread uses it during the call. Bytes (table, message, buffer) may begin anywhere; wider numbers have to be aligned as C wants them, so read
- * marks in a mapped file begin at a multiple of 8. A pointer may be null where the length beside it is 0: that of a message, of a table, of a
- * buffer. No other may.
+ * thread uses it during the call; calls that are lent different things may run at once. Bytes (table, message, buffer) may begin anywhere; wider
+ * numbers have to be aligned as C wants them, so read marks in a mapped file begin at a multiple of 8. A pointer may be null where the length beside
+ * it is 0: that of a message, of a table, of a buffer. No other may.
  *
  * A box is a table, read marks and four numbers (f, capacity, clock, delta). The caller keeps them; nothing is
  * kept here. A new table is STOBBAREL_TABLE_LEN(capacity) bytes, all 0; new read marks are STOBBAREL_KEYS numbers, all 0.
@@ -324,6 +324,60 @@ static inline void stobbarel_lead(const struct stobbarel_box *box, const uint8_t
 STOBBAREL_NONNULL(5)
 uint8_t stobbarel_held(const uint8_t *table, size_t table_len, uint64_t capacity, uint64_t stamp, uint64_t out[STOBBAREL_OF(8)]);
 
+/* The same numbers by their names. */
+struct stobbarel_holding {
+    uint64_t body_at, body_len; /* the transaction's bytes (TX) in the table; none where nothing is held */
+    uint64_t vote, reason, decision, log, log_view, view;
+};
+
+STOBBAREL_NONNULL(1, 3)
+static inline uint8_t stobbarel_holding_of(const struct stobbarel_box *box, uint64_t stamp, struct stobbarel_holding *holding) {
+    uint64_t out[8] = {0};
+    uint8_t wrong = stobbarel_held(box->table, box->table_len, box->capacity, stamp, out);
+    holding->body_at = out[0];
+    holding->body_len = out[1];
+    holding->vote = out[2];
+    holding->reason = out[3];
+    holding->decision = out[4];
+    holding->log = out[5];
+    holding->log_view = out[6];
+    holding->view = out[7];
+    return wrong;
+}
+
+/* ---- a transaction, a list, views and an election as structs, for the inline functions below. One that is zero all over is a good beginning; the functions
+ * that put down arrays, those of the passage register too, may be lent these. */
+
+struct stobbarel_tx {
+    uint64_t stamp;
+    size_t r, w; /* how many reads and writes, up to eight each */
+    uint16_t reads[8];
+    uint64_t versions[8];
+    uint16_t writes[8];
+    uint64_t values[8];
+};
+
+struct stobbarel_vl {
+    uint8_t kind, decision;
+    uint16_t view; /* of logs; beside votes it is not looked at */
+    size_t count;
+    uint8_t numbers[26], answers[26];
+};
+
+struct stobbarel_vs {
+    size_t count;
+    uint8_t numbers[26];
+    uint16_t views[26];
+};
+
+struct stobbarel_el {
+    uint8_t leader, decision;
+    uint16_t view;
+    size_t count;
+    uint8_t numbers[26], answers[26];
+    uint16_t views[26];
+};
+
 /* ---- records read */
 
 /* Any of the six messages, read alone: 0, or the refusal's number (14, 1 to 8). Without a clock, so never 15. */
@@ -357,6 +411,32 @@ STOBBAREL_NONNULL(4, 5, 6, 7, 8, 9, 10)
 uint8_t stobbarel_fields(uint64_t f, const uint8_t *message, size_t message_len, uint64_t head[STOBBAREL_OF(9)], uint16_t reads[STOBBAREL_OF(8)],
                          uint64_t versions[STOBBAREL_OF(8)], uint16_t writes[STOBBAREL_OF(8)], uint64_t values[STOBBAREL_OF(8)],
                          uint8_t numbers[STOBBAREL_OF(26)], uint8_t answers[STOBBAREL_OF(26)]);
+
+/* The same values by their names. */
+struct stobbarel_message {
+    uint64_t mark;
+    struct stobbarel_tx tx; /* its stamp is that of an RD too */
+    uint16_t key;           /* of an RD */
+    struct stobbarel_vl vl; /* of an LG or a DC */
+};
+
+STOBBAREL_NONNULL(4)
+static inline uint8_t stobbarel_message_of(uint64_t f, const uint8_t *bytes, size_t bytes_len, struct stobbarel_message *message) {
+    uint64_t head[9] = {0};
+    struct stobbarel_tx *tx = &message->tx;
+    struct stobbarel_vl *vl = &message->vl;
+    uint8_t wrong = stobbarel_fields(f, bytes, bytes_len, head, tx->reads, tx->versions, tx->writes, tx->values, vl->numbers, vl->answers);
+    message->mark = head[0];
+    tx->stamp = head[1];
+    tx->r = (size_t)head[2];
+    tx->w = (size_t)head[3];
+    message->key = (uint16_t)head[4];
+    vl->kind = (uint8_t)head[5];
+    vl->decision = (uint8_t)head[6];
+    vl->view = (uint16_t)head[7];
+    vl->count = (size_t)head[8];
+    return wrong;
+}
 
 /* The views of an IV and the election answers of an LD: 0, or the refusal's number, as stobbarel_reading. The head's five numbers:
  *   mark       1 PR, 2 LG, 3 DC, 4 RD, 5 IV, 6 LD; 0 refused
@@ -440,38 +520,6 @@ uint8_t stobbarel_write_ld(uint64_t f, uint64_t stamp, size_t r, size_t w, const
 /* RD: 12 bytes; 5 or 17. */
 STOBBAREL_NONNULL(5)
 uint8_t stobbarel_write_rd(uint16_t key, uint64_t stamp, uint8_t *out, size_t out_len, size_t *length);
-
-/* A transaction, a list, views and an election as structs; one that is zero all over is a good beginning. The functions above fill their arrays, those
- * of the passage register too. */
-struct stobbarel_tx {
-    uint64_t stamp;
-    size_t r, w; /* how many reads and writes, up to eight each */
-    uint16_t reads[8];
-    uint64_t versions[8];
-    uint16_t writes[8];
-    uint64_t values[8];
-};
-
-struct stobbarel_vl {
-    uint8_t kind, decision;
-    uint16_t view; /* of logs; beside votes it is not looked at */
-    size_t count;
-    uint8_t numbers[26], answers[26];
-};
-
-struct stobbarel_vs {
-    size_t count;
-    uint8_t numbers[26];
-    uint16_t views[26];
-};
-
-struct stobbarel_el {
-    uint8_t leader, decision;
-    uint16_t view;
-    size_t count;
-    uint8_t numbers[26], answers[26];
-    uint16_t views[26];
-};
 
 /* The messages from structs; answers as above. */
 STOBBAREL_NONNULL(1, 4)

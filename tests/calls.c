@@ -33,6 +33,12 @@ static int passage(void) {
     if (stobbarel_correct_direction(5, 70, before, seen, reads, versions, writes, values) != 0) return 1;
     if (stobbarel_report(5, after, values, report) != 0) return 1;
     printf("corrected: hot axle %d\n", (int)report[3]);
+    const uint64_t other[4] = {7403, 0, 96, 8}, apart[4] = {50, 50, 50, 40};
+    if (stobbarel_correct(5, 70, before, seen, other, reads, versions, writes, values) != 0) return 1;
+    printf("corrected: train %d, read at %d\n", (int)values[0], (int)versions[3]);
+    if (stobbarel_correct(5, 70, apart, seen, other, reads, versions, writes, values) != STOBBAREL_VERSIONS || values[0] != 0) return 1;
+    if (stobbarel_enter(5, 70, apart, seen, other, reads, versions, writes, values) != 0) return 1;
+    printf("entered: train %d at key %d, read at %d\n", (int)values[0], writes[0], (int)versions[3]);
     return stobbarel_report(128, before, seen, report) != STOBBAREL_PASSAGE;
 }
 
@@ -47,12 +53,14 @@ static int rescue(void) {
     uint8_t message[STOBBAREL_LONGEST], reply[2] = {0};
     uint32_t told = 0, commits = 0, aborts = 0;
     uint16_t views[26] = {0};
-    uint64_t head[4], held[8];
+    uint64_t head[4];
     size_t length;
+    struct stobbarel_holding held;
     if (stobbarel_make_lg(F, &tx, &four, message, sizeof message, &length) != 0) return 1;
     send(stobbarel_log, message, length);
-    if (stobbarel_held(table, sizeof table, CAPACITY, 70, held) != 0 || stobbarel_reading_tx(table + held[0], (size_t)held[1]) != 0) return 1;
-    printf("held under 70: %d bytes from %d on, vote %d, log %d in view %d\n", (int)held[1], (int)held[0], (int)held[2], (int)held[5], (int)held[6]);
+    if (stobbarel_holding_of(&box, 70, &held) != 0 || stobbarel_reading_tx(table + held.body_at, (size_t)held.body_len) != 0) return 1;
+    printf("held under 70: %d bytes from %d on, vote %d, log %d in view %d\n", (int)held.body_len, (int)held.body_at, (int)held.vote, (int)held.log,
+           (int)held.log_view);
     for (uint64_t b = 0; b < 4; b++)
         if (stobbarel_tell(&told, views, F, b, 0) != 0) return 1;
     if (stobbarel_told(told, views, F, &vs.count, vs.numbers, vs.views) != 0) return 1;
@@ -70,6 +78,46 @@ static int rescue(void) {
     if (stobbarel_make_ld(F, &tx, &el, message, sizeof message, &length) != 0) return 1;
     send(stobbarel_lead, message, length);
     return 0;
+}
+
+/* Stamp 110 is clock + delta, 111 is ahead, by either way in. */
+static int ahead(void) {
+    uint8_t message[STOBBAREL_LONGEST];
+    size_t length;
+    for (uint64_t stamp = 110; stamp <= 111; stamp++) {
+        if (stobbarel_write_rd(9, stamp, message, sizeof message, &length) != 0) return 1;
+        send(stobbarel_read, message, length);
+        send(stobbarel_call, message, length);
+    }
+    return 0;
+}
+
+/* What the structs name: two rows of a lent table, a DC and an RD. */
+static int names(void) {
+    const struct stobbarel_tx tx = {51, 1, 2, {3}, {50}, {6, 7}, {70, 71}};
+    const struct stobbarel_vl vl = {STOBBAREL_LOGS, STOBBAREL_ABORT, 9, 3, {1, 2, 4}, {2, 1, 2}};
+    const uint8_t codes[2][STOBBAREL_BODY_AT] = {{2, 5, 1, 1, 7, 0, 8}, {1, 0, 2, 1, 10, 0, 11}};
+    uint8_t lent[STOBBAREL_TABLE_LEN(2)] = {2}, message[STOBBAREL_LONGEST];
+    const struct stobbarel_box kept = {lent, sizeof lent, marks, F, 2, CLOCK, DELTA};
+    struct stobbarel_holding held;
+    struct stobbarel_message read;
+    size_t length;
+    for (uint64_t entry = 0; entry < 2; entry++) {
+        uint8_t *row = lent + STOBBAREL_TABLE_LEN(entry);
+        memcpy(row, codes[entry], STOBBAREL_BODY_AT);
+        if (stobbarel_write_tx(51 + entry, 1, 2, tx.reads, tx.versions, tx.writes, tx.values, row + STOBBAREL_BODY_AT, 42, &length) != 0) return 1;
+        if (stobbarel_holding_of(&kept, 51 + entry, &held) != 0) return 1;
+        printf("held: %d bytes from %d, vote %d, reason %d, decision %d, log %d in view %d, view %d\n", (int)held.body_len, (int)held.body_at, (int)held.vote,
+               (int)held.reason, (int)held.decision, (int)held.log, (int)held.log_view, (int)held.view);
+    }
+    if (stobbarel_make_dc(F, &tx, &vl, message, sizeof message, &length) != 0 || stobbarel_message_of(F, message, length, &read) != 0) return 1;
+    printf("mark %d, stamp %d, r %d, w %d, key %d, kind %d, decision %d, view %d, count %d\n", (int)read.mark, (int)read.tx.stamp, (int)read.tx.r,
+           (int)read.tx.w, read.key, read.vl.kind, read.vl.decision, read.vl.view, (int)read.vl.count);
+    printf("reads %d at %d, writes %d as %d, box %d answers %d\n", read.tx.reads[0], (int)read.tx.versions[0], read.tx.writes[1], (int)read.tx.values[1],
+           read.vl.numbers[2], read.vl.answers[1]);
+    if (stobbarel_write_rd(9, 110, message, sizeof message, &length) != 0 || stobbarel_message_of(F, message, length, &read) != 0) return 1;
+    printf("mark %d, stamp %d, key %d\n", (int)read.mark, (int)read.tx.stamp, read.key);
+    return stobbarel_message_of(F, message, 3, &read) != STOBBAREL_SHORT || read.mark != 0;
 }
 
 /* A null pointer beside length 0 is lent for each message, table and buffer that there is, to every function that takes one: how many calls answered
@@ -169,7 +217,7 @@ int main(void) {
     printf("%d %d\n", stobbarel_reading(F, write, length), (int)stobbarel_part(F, write, length));
     if (stobbarel_thresholds(F, needed) != 0) return 1;
     printf("%d boxes: %d %d %d %d %d\n", (int)needed[0], (int)needed[1], (int)needed[2], (int)needed[3], (int)needed[4], (int)needed[5]);
-    if (rescue() != 0 || passage() != 0) return 1;
+    if (rescue() != 0 || passage() != 0 || ahead() != 0 || names() != 0) return 1;
     printf("%d wrong answers to null pointers\n", nulls());
     return texts();
 }

@@ -15,10 +15,15 @@ struct host {
 
 static struct host hosts[BOXES];
 
+static struct stobbarel_box box_of(struct host *host) {
+    struct stobbarel_box box = {host->table, sizeof host->table, host->marks, F, CAPACITY, CLOCK, DELTA};
+    return box;
+}
+
 /* The host's work on a message whose signatures it has checked: copy, call, make durable, and then the answer may go out. */
 static void receive(struct host *host, const uint8_t *message, size_t length, uint64_t answer[5]) {
     struct host copy = *host;
-    struct stobbarel_box box = {copy.table, sizeof copy.table, copy.marks, F, CAPACITY, CLOCK, DELTA};
+    const struct stobbarel_box box = box_of(&copy);
     stobbarel_call(&box, message, length, answer);
     *host = copy; /* in a real box: written beside the old one, synced, renamed */
 }
@@ -88,18 +93,16 @@ static size_t decide(int gateway, const struct stobbarel_tx *tx, const struct st
 }
 
 /* What a box's host is asked for when a gateway has died: the transaction under a stamp, whole. The bytes go behind the mark of a PR as they are. */
-static size_t taken_over(const struct host *host, uint64_t stamp, uint8_t message[STOBBAREL_LONGEST], struct stobbarel_tx *tx) {
-    uint64_t held[8], head[9];
-    uint8_t numbers[26], answers[26];
-    if (stobbarel_held(host->table, sizeof host->table, CAPACITY, stamp, held) != 0 || held[1] == 0) return 0;
+static size_t taken_over(struct host *host, uint64_t stamp, uint8_t message[STOBBAREL_LONGEST], struct stobbarel_tx *tx) {
+    const struct stobbarel_box box = box_of(host);
+    struct stobbarel_holding held;
+    struct stobbarel_message prepare;
+    if (stobbarel_holding_of(&box, stamp, &held) != 0 || held.body_len == 0) return 0;
     memcpy(message, "PR", 2);
-    memcpy(message + 2, host->table + held[0], (size_t)held[1]);
-    size_t length = 2 + (size_t)held[1];
-    if (stobbarel_fields(F, message, length, head, tx->reads, tx->versions, tx->writes, tx->values, numbers, answers) != 0) return 0;
-    tx->stamp = head[1];
-    tx->r = (size_t)head[2];
-    tx->w = (size_t)head[3];
-    return length;
+    memcpy(message + 2, host->table + held.body_at, (size_t)held.body_len);
+    if (stobbarel_message_of(F, message, 2 + (size_t)held.body_len, &prepare) != 0) return 0;
+    *tx = prepare.tx;
+    return 2 + (size_t)held.body_len;
 }
 
 /* What a box tells of the passage at a stamp: four versions, and four values. */
