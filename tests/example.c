@@ -77,19 +77,20 @@ static struct stobbarel_vl list_of(const struct stobbarel_sheet *sheet, uint8_t 
     return list;
 }
 
-/* A commit that a sheet proves goes to all boxes. The message is left for who wants to send it elsewhere. */
-static size_t decide(int gateway, const struct stobbarel_tx *tx, const struct stobbarel_sheet *sheet, uint8_t message[STOBBAREL_LONGEST]) {
+/* A commit that a sheet proves goes to all boxes, by a DC. */
+static int decide(int gateway, const struct stobbarel_tx *tx, const struct stobbarel_sheet *sheet) {
+    uint8_t message[STOBBAREL_LONGEST];
     uint64_t answer[5];
     size_t length;
     struct stobbarel_vl list = list_of(sheet, STOBBAREL_COMMIT);
-    if (stobbarel_make_dc(F, tx, &list, message, STOBBAREL_LONGEST, &length) != 0) return 0;
+    if (stobbarel_make_dc(F, tx, &list, message, sizeof message, &length) != 0) return 1;
     printf("gateway %d, DC:", gateway);
     for (int number = 0; number < BOXES; number++) {
         ask(gateway, number, message, length, answer);
         show(answer);
     }
     printf("\n");
-    return length;
+    return 0;
 }
 
 /* What a box's host is asked for when a gateway has died: the transaction under a stamp, whole. The bytes go behind the mark of a PR as they are. */
@@ -174,10 +175,10 @@ int main(void) {
     if (stobbarel_make_lg(F, &found, &list, message, sizeof message, &length) != 0) return 1;
     struct stobbarel_sheet logs = {STOBBAREL_LOGS, 0, 0, 0};
     gather(1, "LG commit", message, length, &logs);
-    if (decide(1, &found, &logs, message) == 0) return 1;
+    if (decide(1, &found, &logs) != 0) return 1;
 
     /* Gateway 0 comes back with its six votes. They prove the same: a proof means one thing. */
-    if (decide(0, &entry, &votes, message) == 0) return 1;
+    if (decide(0, &entry, &votes) != 0) return 1;
     if (dispatch(60, &seen) != 0) return 1;
 
     /* The train ran the other way: the direction is corrected, and the hot axle counted from the other end. */
@@ -186,13 +187,15 @@ int main(void) {
     if (stobbarel_make_pr(&turn, message, sizeof message, &length) != 0) return 1;
     struct stobbarel_sheet turned = {STOBBAREL_VOTES, 0, 0, 0};
     gather(0, "PR", message, length, &turned);
-    length = decide(0, &turn, &turned, message);
+    if (decide(0, &turn, &turned) != 0) return 1;
     if (dispatch(80, &seen) != 0) return 1;
 
-    /* Signatures are the host's: a box that has heard of nothing takes a decision that nobody voted for, since its list looks right. */
-    static struct host gullible;
-    receive(&gullible, message, length, answer);
-    printf("a new box, the same DC, no vote seen:");
+    /* Signatures are the host's. A transaction that no box was asked about, with the votes for another one as its list, is taken. */
+    const struct stobbarel_tx forged = {90, 0, 1, {0}, {0}, {20}, {1}};
+    list = list_of(&turned, STOBBAREL_COMMIT);
+    if (stobbarel_make_dc(F, &forged, &list, message, sizeof message, &length) != 0) return 1;
+    receive(&hosts[0], message, length, answer);
+    printf("box 0, a DC that nobody voted for:");
     show(answer);
     printf("\n");
     return 0;
