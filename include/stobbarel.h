@@ -1,13 +1,34 @@
-/* Stobbarel: one box of a register, its records, the gateway's tally, and the passage register, for programs in C.
+/* Stobbarel: one box of a register, its records, the gateway's tally, and the passage register, for programs in C99 and C++17.
  *
- * Every function is proved for every input: it reads and writes only what it is lent. The caller owes what the types say:
- * each pointer is to as many numbers as stand beside it, nothing lent for writing overlaps anything else lent, and no other
- * thread uses it during the call. No pointer is null, not even that of an empty message or buffer.
+ * Every function of the library is proved for every input: it reads and writes only what it is lent, always ends, and refuses by number. What is
+ * inline here hands its arguments on, or gives a text, and decides nothing. docs/TUTORIAL.md goes from here to six boxes, one of which lies.
+ *
+ * WHAT A BOX MAKER HAS TO KNOW BEFORE HIS FIRST BOX
+ *
+ * Signatures are yours. No function looks at one. A DC whose list looks right is taken, though nobody voted for it; an LG, an IV and an LD
+ * likewise. So beside each list travels, for every box on it, that box's signature of what it answered: the transaction's bytes, whether it is a vote, a
+ * log, a view or an election answer, the decision, and the view where there is one. Check each of them before the call (stobbarel_message_of and
+ * stobbarel_views tell who is listed with what, stobbarel_part where the transaction stands), and sign what you answer in the same way.
+ *
+ * Copy, call, make durable, answer. Make the call on a copy of table and read marks, make both durable together, and only then send the answer. A
+ * call on a mapped file that is cut off in the middle can leave a row half written. A box that answered and then lost what it had answered counts as one
+ * of the f that lie. After a refusal nothing has changed, and nothing has to be written.
+ *
+ * A full box stays full. No entry is ever dropped, and at capacity a new transaction is refused with 13, even one that would be voted down. Until
+ * forgetting lands, 255 transactions are a box's life.
+ *
+ * 16 is no check of damage. It tells codes outside their lists, counts that cannot be, and a table too short; a spoiled value or stamp it takes as it
+ * stands, and in read marks it sees nothing. Keep a checksum of both, and do not call with what fails it.
+ *
+ * What you owe. Each pointer is to as many numbers as stand beside it, nothing lent for writing overlaps anything else lent, and no other
+ * thread uses it during the call; calls that are lent different things may run at once. Bytes (table, message, buffer) may begin anywhere; wider
+ * numbers have to be aligned as C wants them, so read marks in a mapped file begin at a multiple of 8. A pointer may be null where the length beside
+ * it is 0: that of a message, of a table, of a buffer. No other may.
  *
  * A box is a table, read marks and four numbers (f, capacity, clock, delta). The caller keeps them; nothing is
- * kept here. A new table is STOBBAREL_TABLE_LEN(capacity) bytes, all 0; new read marks are 512 numbers, all 0.
+ * kept here. A new table is STOBBAREL_TABLE_LEN(capacity) bytes, all 0; new read marks are STOBBAREL_KEYS numbers, all 0.
  *
- * An answer is five numbers:
+ * An answer is five numbers, the first by enum stobbarel_answer:
  *   1 voted    vote (1 commit, 2 abort, 3 waiting), reason (1 to 6 beside an abort, else 0), told, number: how many entries the PR
  *              visited, where told is 1; 0, 0 where the entry was voted on before
  *   2 decided  decision (1 commit, 2 abort), 0, 0, 0
@@ -23,6 +44,24 @@
 
 #include <stddef.h>
 #include <stdint.h>
+
+/* Of this header and what was installed with it. Before 1.0 a new minor number may come with another layout or other numbers. */
+#define STOBBAREL_VERSION "0.6.0"
+#define STOBBAREL_VERSION_MAJOR 0
+#define STOBBAREL_VERSION_MINOR 6
+#define STOBBAREL_VERSION_PATCH 0
+
+/* An array of so many numbers at least, and pointers that are not null, by their places: told to compilers that can be told. */
+#if defined(__cplusplus) || defined(_MSC_VER)
+#define STOBBAREL_OF(count) count
+#else
+#define STOBBAREL_OF(count) static count
+#endif
+#if defined(__GNUC__)
+#define STOBBAREL_NONNULL(...) __attribute__((nonnull(__VA_ARGS__)))
+#else
+#define STOBBAREL_NONNULL(...)
+#endif
 
 #ifdef __cplusplus
 extern "C" {
@@ -55,13 +94,38 @@ enum stobbarel_mark {
     STOBBAREL_LD = 6
 };
 
-/* Votes, logged decisions, election answers, decisions, and what a tally takes, which is not a wait; 0 is none. */
-enum stobbarel_code {
+/* What a transaction is decided, logged and elected, what a list names, and what a tally takes. */
+enum stobbarel_decision {
+    STOBBAREL_NONE = 0,
     STOBBAREL_COMMIT = 1,
-    STOBBAREL_ABORT = 2,
-    STOBBAREL_WAITING = 3
+    STOBBAREL_ABORT = 2
 };
 
+/* What a box votes. Commit and abort are a decision's numbers, so a vote goes to the tally as it was answered; a wait is refused there. */
+enum stobbarel_vote {
+    STOBBAREL_VOTE_NONE = 0, /* an entry that came by an LG, a DC or an LD: no PR for it was voted on */
+    STOBBAREL_VOTE_COMMIT = 1,
+    STOBBAREL_VOTE_ABORT = 2,
+    STOBBAREL_VOTE_WAITING = 3 /* for a version read that is undecided: ask again, by the same PR */
+};
+
+/* Why a box voted abort; 0 beside any other vote. stobbarel_reason_text explains each. */
+enum stobbarel_reason {
+    STOBBAREL_REASON_AHEAD = 1,
+    STOBBAREL_REASON_NO_VERSION = 2,
+    STOBBAREL_REASON_OVERWRITTEN = 3,
+    STOBBAREL_REASON_UNDERCUTS = 4,
+    STOBBAREL_REASON_READ_MARK = 5,
+    STOBBAREL_REASON_DEPENDENCY = 6
+};
+
+/* Of what a list or a sheet is made. */
+enum stobbarel_kind {
+    STOBBAREL_VOTES = 1,
+    STOBBAREL_LOGS = 2 /* all of one view */
+};
+
+/* The first number of an answer. */
 enum stobbarel_answer {
     STOBBAREL_VOTED = 1,
     STOBBAREL_DECIDED = 2,
@@ -72,86 +136,183 @@ enum stobbarel_answer {
     STOBBAREL_ELECTED = 7
 };
 
-/* The numbers of the refusals, wherever one is told; 0 is none. */
-enum stobbarel_refusal {
-    STOBBAREL_SHORT = 1,         /* bytes end inside a record */
-    STOBBAREL_MARK = 2,          /* the mark is not the one due, or not PR, LG, DC, RD, IV, LD */
-    STOBBAREL_COUNT = 3,         /* r or w above 8, r + w = 0, list count 0 or above 26 */
-    STOBBAREL_TRAILING = 4,      /* bytes after the message */
-    STOBBAREL_RANGE = 5,         /* stamp 0, key above 511, box number n or more */
-    STOBBAREL_ORDER = 6,         /* keys or box numbers not strictly rising */
-    STOBBAREL_MISBEHAVIOUR = 7,  /* a read version at or above the own stamp */
-    STOBBAREL_CODE = 8,          /* kind, decision or answer not 1 or 2; kind 2 in an LG */
-    STOBBAREL_OTHER_BODY = 9,    /* another body is held under this stamp */
-    STOBBAREL_UNKNOWN = 10,      /* no longer given: an LG for a stamp not held is logged */
-    STOBBAREL_TOO_FEW = 11,      /* the list misses its threshold; the answer tells by how much */
-    STOBBAREL_CONTRADICTION = 12, /* the stamp is already decided otherwise */
-    STOBBAREL_FULL = 13,         /* a new entry is needed and the table is at capacity */
-    STOBBAREL_GROUP = 14,        /* f not 1 to 5, or capacity not 1 to 255 */
-    STOBBAREL_AHEAD = 15,        /* RD stamp above clock + delta */
-    STOBBAREL_TABLE = 16,        /* a lent table or tally sheet that is not in order */
-    STOBBAREL_BUFFER = 17,       /* output buffer shorter than the record */
-    STOBBAREL_PASSED = 21,       /* LD: the box's current view is above the decision's, or its logged view is not below */
-    STOBBAREL_NOT_LOGGED = 22,   /* IV: the box holds no log for this body */
-    STOBBAREL_ELECTION = 23,     /* LD: leader, number of answers, their view or their majority is wrong; too few on a leader's sheet */
-    STOBBAREL_LAST_VIEW = 24,    /* IV: the new view would pass 65535 */
-    STOBBAREL_PASSAGE = 26,      /* passage above 127 */
-    STOBBAREL_VERSIONS = 27,     /* the four committed versions of a passage are not all equal */
-    STOBBAREL_DIRECTION = 28,    /* direction not 0 or 1 */
-    STOBBAREL_AXLE_COUNT = 29,   /* axle count not 1 to 1000, as at a passage never written */
-    STOBBAREL_HOT_AXLE = 30      /* hot axle above the count */
+/* The first number of a tally's reply. */
+enum stobbarel_reply {
+    STOBBAREL_REPLY_VOTES = 1,
+    STOBBAREL_REPLY_LOGS = 2,
+    STOBBAREL_REPLY_REPEAT = 3,
+    STOBBAREL_REPLY_REFUSED = 4
 };
+
+/* The first number that a leader's sheet replies. */
+enum stobbarel_election_reply {
+    STOBBAREL_ELECTION_TAKEN = 1,
+    STOBBAREL_ELECTION_OTHER_VIEW = 2,
+    STOBBAREL_ELECTION_REPEAT = 3,
+    STOBBAREL_ELECTION_REFUSED = 4
+};
+
+/* The numbers of the refusals, wherever one is told; 0 is none. stobbarel_refusal_text explains each. */
+enum stobbarel_refusal {
+    STOBBAREL_SHORT = 1,
+    STOBBAREL_MARK = 2,
+    STOBBAREL_COUNT = 3,
+    STOBBAREL_TRAILING = 4,
+    STOBBAREL_RANGE = 5,
+    STOBBAREL_ORDER = 6,
+    STOBBAREL_MISBEHAVIOUR = 7,
+    STOBBAREL_CODE = 8,
+    STOBBAREL_OTHER_BODY = 9,
+    STOBBAREL_UNKNOWN = 10,
+    STOBBAREL_TOO_FEW = 11,
+    STOBBAREL_CONTRADICTION = 12,
+    STOBBAREL_FULL = 13,
+    STOBBAREL_GROUP = 14,
+    STOBBAREL_AHEAD = 15,
+    STOBBAREL_TABLE = 16,
+    STOBBAREL_BUFFER = 17,
+    STOBBAREL_PASSED = 21,
+    STOBBAREL_NOT_LOGGED = 22,
+    STOBBAREL_ELECTION = 23,
+    STOBBAREL_LAST_VIEW = 24,
+    STOBBAREL_PASSAGE = 26,
+    STOBBAREL_VERSIONS = 27,
+    STOBBAREL_DIRECTION = 28,
+    STOBBAREL_AXLE_COUNT = 29,
+    STOBBAREL_HOT_AXLE = 30
+};
+
+/* A reason's name, and when it is given; "" for any other number. */
+static inline const char *stobbarel_reason_text(uint64_t reason) {
+    switch (reason) {
+    case STOBBAREL_REASON_AHEAD: return "ahead: stamp above clock + delta";
+    case STOBBAREL_REASON_NO_VERSION: return "no version: a read names a nonzero version that is not a live entry writing that key";
+    case STOBBAREL_REASON_OVERWRITTEN:
+        return "overwritten: a live entry writes a key read here, its stamp above the version read and below this stamp";
+    case STOBBAREL_REASON_UNDERCUTS: return "undercuts: a live entry with a higher stamp read a key written here at a version below this stamp";
+    case STOBBAREL_REASON_READ_MARK: return "read mark: a written key's read mark is above this stamp";
+    case STOBBAREL_REASON_DEPENDENCY: return "dependency: a version read is decided abort, or committed by a body that lacks the key, or not held";
+    default: return "";
+    }
+}
+
+/* A refusal's name, and when it is given; "" for any other number. */
+static inline const char *stobbarel_refusal_text(uint64_t refusal) {
+    switch (refusal) {
+    case STOBBAREL_SHORT: return "short: bytes end inside a record";
+    case STOBBAREL_MARK: return "mark: mark is not the one due, or not PR, LG, DC, RD, IV, LD";
+    case STOBBAREL_COUNT: return "count: r or w above 8, r + w = 0, list count 0 or above 26";
+    case STOBBAREL_TRAILING: return "trailing: bytes after the message";
+    case STOBBAREL_RANGE: return "range: stamp 0, key above 511, box number n or more";
+    case STOBBAREL_ORDER: return "order: keys or box numbers not strictly rising";
+    case STOBBAREL_MISBEHAVIOUR: return "misbehaviour: a read version at or above the own stamp";
+    case STOBBAREL_CODE: return "code: kind, decision or answer not 1 or 2; kind 2 in an LG";
+    case STOBBAREL_OTHER_BODY: return "other body: another body is held under this stamp";
+    case STOBBAREL_UNKNOWN: return "unknown: no longer given, an LG for a stamp not held is logged";
+    case STOBBAREL_TOO_FEW: return "too few: the list misses its threshold";
+    case STOBBAREL_CONTRADICTION: return "contradiction: the stamp is already decided otherwise";
+    case STOBBAREL_FULL: return "full: a new entry is needed and the table is at capacity";
+    case STOBBAREL_GROUP: return "group: f not 1 to 5, or capacity not 1 to 255";
+    case STOBBAREL_AHEAD: return "ahead: RD stamp above clock + delta";
+    case STOBBAREL_TABLE:
+        return "table: in a lent table, fewer bytes than its capacity needs, more entries than the capacity, an entry's r or w above 8, or a vote, reason, "
+               "log or decision code outside its list; in a lent tally sheet, a kind not 1 or 2, a box n or more, or a box under both answers";
+    case STOBBAREL_BUFFER: return "buffer: output buffer shorter than the record";
+    case STOBBAREL_PASSED: return "passed: the box's view is above that of the leader's decision, or its logged view is not below";
+    case STOBBAREL_NOT_LOGGED: return "not logged: the box holds no log for this body";
+    case STOBBAREL_ELECTION: return "election: the leader, the number of answers, their view or their majority is wrong; fewer than 4f + 1 on a leader's sheet";
+    case STOBBAREL_LAST_VIEW: return "last view: the new view would pass 65535";
+    case STOBBAREL_PASSAGE: return "passage: passage above 127";
+    case STOBBAREL_VERSIONS: return "versions: the four committed versions not all equal";
+    case STOBBAREL_DIRECTION: return "direction: direction not 0 or 1";
+    case STOBBAREL_AXLE_COUNT: return "axle count: count not 1 to 1000, as at a passage never written";
+    case STOBBAREL_HOT_AXLE: return "hot axle: hot axle above the count";
+    default: return "";
+    }
+}
 
 /* ---- a box */
 
 /* Any of the six messages, by its mark. */
-void stobbarel_receive(uint8_t *table, size_t table_len, uint64_t marks[512], uint64_t f, uint64_t capacity, uint64_t clock,
-                       uint64_t delta, const uint8_t *message, size_t message_len, uint64_t answer[5]);
+STOBBAREL_NONNULL(3, 10)
+void stobbarel_receive(uint8_t *table, size_t table_len, uint64_t marks[STOBBAREL_OF(512)], uint64_t f, uint64_t capacity, uint64_t clock,
+                       uint64_t delta, const uint8_t *message, size_t message_len, uint64_t answer[STOBBAREL_OF(5)]);
 
 /* The message of one mark: PR, LG, DC, RD, IV or LD by its number above. A number that is none of them is refused with 2 after 14
  * and 16, before the message is looked at; a message with another mark is refused with 2 in its order. RD leaves the table as it
  * is, all others the read marks. */
-void stobbarel_due(uint64_t mark, uint8_t *table, size_t table_len, uint64_t marks[512], uint64_t f, uint64_t capacity,
-                   uint64_t clock, uint64_t delta, const uint8_t *message, size_t message_len, uint64_t answer[5]);
+STOBBAREL_NONNULL(4, 11)
+void stobbarel_due(uint64_t mark, uint8_t *table, size_t table_len, uint64_t marks[STOBBAREL_OF(512)], uint64_t f, uint64_t capacity, uint64_t clock,
+                   uint64_t delta, const uint8_t *message, size_t message_len, uint64_t answer[STOBBAREL_OF(5)]);
+
+/* A box as its host keeps it, for the calls below. */
+struct stobbarel_box {
+    uint8_t *table;    /* STOBBAREL_TABLE_LEN(capacity) bytes or more */
+    size_t table_len;  /* how many */
+    uint64_t *marks;   /* STOBBAREL_KEYS numbers */
+    uint64_t f;        /* 1 to 5, the same at all 5f + 1 boxes of a group */
+    uint64_t capacity; /* 1 to 255 */
+    uint64_t clock;    /* to be set before a call */
+    uint64_t delta;    /* how far a stamp may be ahead of the clock */
+};
+
+/* Any of the six messages. */
+STOBBAREL_NONNULL(1, 4)
+static inline void stobbarel_call(const struct stobbarel_box *box, const uint8_t *message, size_t message_len, uint64_t answer[STOBBAREL_OF(5)]) {
+    stobbarel_receive(box->table, box->table_len, box->marks, box->f, box->capacity, box->clock, box->delta, message, message_len, answer);
+}
+
+/* The message of one mark. */
+STOBBAREL_NONNULL(2, 5)
+static inline void stobbarel_call_due(uint64_t mark, const struct stobbarel_box *box, const uint8_t *message, size_t message_len,
+                                      uint64_t answer[STOBBAREL_OF(5)]) {
+    stobbarel_due(mark, box->table, box->table_len, box->marks, box->f, box->capacity, box->clock, box->delta, message, message_len, answer);
+}
 
 /* PR: vote on a transaction. */
-static inline void stobbarel_prepare(uint8_t *table, size_t table_len, uint64_t marks[512], uint64_t f, uint64_t capacity,
-                                     uint64_t clock, uint64_t delta, const uint8_t *message, size_t message_len, uint64_t answer[5]) {
-    stobbarel_due(STOBBAREL_PR, table, table_len, marks, f, capacity, clock, delta, message, message_len, answer);
+STOBBAREL_NONNULL(1, 4)
+static inline void stobbarel_prepare(const struct stobbarel_box *box, const uint8_t *message, size_t message_len,
+                                     uint64_t answer[STOBBAREL_OF(5)]) {
+    stobbarel_call_due(STOBBAREL_PR, box, message, message_len, answer);
 }
 
 /* LG: log a decision, in view 0. A transaction that is not held takes an entry with this log and no vote; a PR for it later is voted
  * on there. Where something is logged already, that log is answered with its view. */
-static inline void stobbarel_log(uint8_t *table, size_t table_len, uint64_t marks[512], uint64_t f, uint64_t capacity,
-                                 uint64_t clock, uint64_t delta, const uint8_t *message, size_t message_len, uint64_t answer[5]) {
-    stobbarel_due(STOBBAREL_LG, table, table_len, marks, f, capacity, clock, delta, message, message_len, answer);
+STOBBAREL_NONNULL(1, 4)
+static inline void stobbarel_log(const struct stobbarel_box *box, const uint8_t *message, size_t message_len,
+                                 uint64_t answer[STOBBAREL_OF(5)]) {
+    stobbarel_call_due(STOBBAREL_LG, box, message, message_len, answer);
 }
 
 /* DC: take a decision. */
-static inline void stobbarel_decide(uint8_t *table, size_t table_len, uint64_t marks[512], uint64_t f, uint64_t capacity,
-                                    uint64_t clock, uint64_t delta, const uint8_t *message, size_t message_len, uint64_t answer[5]) {
-    stobbarel_due(STOBBAREL_DC, table, table_len, marks, f, capacity, clock, delta, message, message_len, answer);
+STOBBAREL_NONNULL(1, 4)
+static inline void stobbarel_decide(const struct stobbarel_box *box, const uint8_t *message, size_t message_len,
+                                    uint64_t answer[STOBBAREL_OF(5)]) {
+    stobbarel_call_due(STOBBAREL_DC, box, message, message_len, answer);
 }
 
 /* RD: what stands at a key; its read mark is raised. */
-static inline void stobbarel_read(uint8_t *table, size_t table_len, uint64_t marks[512], uint64_t f, uint64_t capacity,
-                                  uint64_t clock, uint64_t delta, const uint8_t *message, size_t message_len, uint64_t answer[5]) {
-    stobbarel_due(STOBBAREL_RD, table, table_len, marks, f, capacity, clock, delta, message, message_len, answer);
+STOBBAREL_NONNULL(1, 4)
+static inline void stobbarel_read(const struct stobbarel_box *box, const uint8_t *message, size_t message_len,
+                                  uint64_t answer[STOBBAREL_OF(5)]) {
+    stobbarel_call_due(STOBBAREL_RD, box, message, message_len, answer);
 }
 
 /* IV: what a gateway sends where logs differ and no proof can be made of them. A box that has logged the transaction moves on to the
  * view that the listed views call for, never back, and gives its election answer: what it has logged, that view, and its leader,
  * to whom the answer is to be carried. */
-static inline void stobbarel_invoke(uint8_t *table, size_t table_len, uint64_t marks[512], uint64_t f, uint64_t capacity,
-                                    uint64_t clock, uint64_t delta, const uint8_t *message, size_t message_len, uint64_t answer[5]) {
-    stobbarel_due(STOBBAREL_IV, table, table_len, marks, f, capacity, clock, delta, message, message_len, answer);
+STOBBAREL_NONNULL(1, 4)
+static inline void stobbarel_invoke(const struct stobbarel_box *box, const uint8_t *message, size_t message_len,
+                                    uint64_t answer[STOBBAREL_OF(5)]) {
+    stobbarel_call_due(STOBBAREL_IV, box, message, message_len, answer);
 }
 
 /* LD: what the leader of a view sends, the majority of 4f + 1 election answers of that view. A box logs it in that view, if its
  * current view is not above and its logged view is below, and answers as to an LG. It needs no log and no entry before. */
-static inline void stobbarel_lead(uint8_t *table, size_t table_len, uint64_t marks[512], uint64_t f, uint64_t capacity,
-                                  uint64_t clock, uint64_t delta, const uint8_t *message, size_t message_len, uint64_t answer[5]) {
-    stobbarel_due(STOBBAREL_LD, table, table_len, marks, f, capacity, clock, delta, message, message_len, answer);
+STOBBAREL_NONNULL(1, 4)
+static inline void stobbarel_lead(const struct stobbarel_box *box, const uint8_t *message, size_t message_len,
+                                  uint64_t answer[STOBBAREL_OF(5)]) {
+    stobbarel_call_due(STOBBAREL_LD, box, message, message_len, answer);
 }
 
 /* What a table holds under a stamp, that of its first entry with it. 0; or 14 (the capacity), 16, out being all 0. out is eight numbers, all 0
@@ -161,7 +322,62 @@ static inline void stobbarel_lead(uint8_t *table, size_t table_len, uint64_t mar
  *   decision (0 none, 1 commit, 2 abort)
  *   logged decision (0 none, 1 commit, 2 abort), the view that it was logged in (0 where nothing is)
  *   current view */
-uint8_t stobbarel_held(const uint8_t *table, size_t table_len, uint64_t capacity, uint64_t stamp, uint64_t out[8]);
+STOBBAREL_NONNULL(5)
+uint8_t stobbarel_held(const uint8_t *table, size_t table_len, uint64_t capacity, uint64_t stamp, uint64_t out[STOBBAREL_OF(8)]);
+
+/* The same numbers by their names. */
+struct stobbarel_holding {
+    uint64_t body_at, body_len; /* the transaction's bytes (TX) in the table; none where nothing is held */
+    uint64_t vote, reason, decision, log, log_view, view;
+};
+
+STOBBAREL_NONNULL(1, 3)
+static inline uint8_t stobbarel_holding_of(const struct stobbarel_box *box, uint64_t stamp, struct stobbarel_holding *holding) {
+    uint64_t out[8] = {0};
+    uint8_t wrong = stobbarel_held(box->table, box->table_len, box->capacity, stamp, out);
+    holding->body_at = out[0];
+    holding->body_len = out[1];
+    holding->vote = out[2];
+    holding->reason = out[3];
+    holding->decision = out[4];
+    holding->log = out[5];
+    holding->log_view = out[6];
+    holding->view = out[7];
+    return wrong;
+}
+
+/* ---- a transaction, a list, views and an election as structs, for the inline functions below. One that is zero all over is a good beginning; the functions
+ * that put down arrays, those of the passage register too, may be lent these. */
+
+struct stobbarel_tx {
+    uint64_t stamp;
+    size_t r, w; /* how many reads and writes, up to eight each */
+    uint16_t reads[8];
+    uint64_t versions[8];
+    uint16_t writes[8];
+    uint64_t values[8];
+};
+
+struct stobbarel_vl {
+    uint8_t kind, decision;
+    uint16_t view; /* of logs; beside votes it is not looked at */
+    size_t count;
+    uint8_t numbers[26], answers[26];
+};
+
+struct stobbarel_vs {
+    size_t count;
+    uint8_t numbers[26];
+    uint16_t views[26];
+};
+
+struct stobbarel_el {
+    uint8_t leader, decision;
+    uint16_t view;
+    size_t count;
+    uint8_t numbers[26], answers[26];
+    uint16_t views[26];
+};
 
 /* ---- records read */
 
@@ -192,9 +408,36 @@ uint8_t stobbarel_reading_el(uint64_t f, const uint8_t *bytes, size_t bytes_len)
  * then the keys and versions read, the keys and values written, the boxes and their answers, in the places' order. What a
  * message does not have, every place that is not used, and all of them where the message is refused, are 0. An IV and an LD have
  * no such list: theirs is told by stobbarel_views. */
-uint8_t stobbarel_fields(uint64_t f, const uint8_t *message, size_t message_len, uint64_t head[9], uint16_t reads[8],
-                         uint64_t versions[8], uint16_t writes[8], uint64_t values[8], uint8_t numbers[26],
-                         uint8_t answers[26]);
+STOBBAREL_NONNULL(4, 5, 6, 7, 8, 9, 10)
+uint8_t stobbarel_fields(uint64_t f, const uint8_t *message, size_t message_len, uint64_t head[STOBBAREL_OF(9)], uint16_t reads[STOBBAREL_OF(8)],
+                         uint64_t versions[STOBBAREL_OF(8)], uint16_t writes[STOBBAREL_OF(8)], uint64_t values[STOBBAREL_OF(8)],
+                         uint8_t numbers[STOBBAREL_OF(26)], uint8_t answers[STOBBAREL_OF(26)]);
+
+/* The same values by their names. */
+struct stobbarel_message {
+    uint64_t mark;
+    struct stobbarel_tx tx; /* its stamp is that of an RD too */
+    uint16_t key;           /* of an RD */
+    struct stobbarel_vl vl; /* of an LG or a DC */
+};
+
+STOBBAREL_NONNULL(4)
+static inline uint8_t stobbarel_message_of(uint64_t f, const uint8_t *bytes, size_t bytes_len, struct stobbarel_message *message) {
+    uint64_t head[9] = {0};
+    struct stobbarel_tx *tx = &message->tx;
+    struct stobbarel_vl *vl = &message->vl;
+    uint8_t wrong = stobbarel_fields(f, bytes, bytes_len, head, tx->reads, tx->versions, tx->writes, tx->values, vl->numbers, vl->answers);
+    message->mark = head[0];
+    tx->stamp = head[1];
+    tx->r = (size_t)head[2];
+    tx->w = (size_t)head[3];
+    message->key = (uint16_t)head[4];
+    vl->kind = (uint8_t)head[5];
+    vl->decision = (uint8_t)head[6];
+    vl->view = (uint16_t)head[7];
+    vl->count = (size_t)head[8];
+    return wrong;
+}
 
 /* The views of an IV and the election answers of an LD: 0, or the refusal's number, as stobbarel_reading. The head's five numbers:
  *   mark       1 PR, 2 LG, 3 DC, 4 RD, 5 IV, 6 LD; 0 refused
@@ -204,8 +447,9 @@ uint8_t stobbarel_fields(uint64_t f, const uint8_t *message, size_t message_len,
  *   count      how many boxes are listed
  * then the boxes, their answers (of an LD; 1 commit, 2 abort) and their views. All but the mark is 0 for any other message, and all of
  * it where the message is refused; every place that is not used is 0. */
-uint8_t stobbarel_views(uint64_t f, const uint8_t *message, size_t message_len, uint64_t head[5], uint8_t numbers[26],
-                        uint8_t answers[26], uint16_t views[26]);
+STOBBAREL_NONNULL(4, 5, 6, 7)
+uint8_t stobbarel_views(uint64_t f, const uint8_t *message, size_t message_len, uint64_t head[STOBBAREL_OF(5)], uint8_t numbers[STOBBAREL_OF(26)],
+                        uint8_t answers[STOBBAREL_OF(26)], uint16_t views[STOBBAREL_OF(26)]);
 
 /* The length of the transaction's bytes inside a message, where they stand from byte 2 on; 0 for a refused message or an RD. */
 size_t stobbarel_part(uint64_t f, const uint8_t *message, size_t message_len);
@@ -223,69 +467,102 @@ size_t stobbarel_part(uint64_t f, const uint8_t *message, size_t message_len);
  * where one is taken), then 3 (counts), then 5, 6, 7 (the transaction), then 8, 5, 6 (the list), then 17 (out is too short). */
 
 /* A TX by itself. */
-uint8_t stobbarel_write_tx(uint64_t stamp, size_t r, size_t w, const uint16_t reads[8], const uint64_t versions[8],
-                           const uint16_t writes[8], const uint64_t values[8], uint8_t *out, size_t out_len, size_t *length);
+STOBBAREL_NONNULL(4, 5, 6, 7, 10)
+uint8_t stobbarel_write_tx(uint64_t stamp, size_t r, size_t w, const uint16_t reads[STOBBAREL_OF(8)], const uint64_t versions[STOBBAREL_OF(8)],
+                           const uint16_t writes[STOBBAREL_OF(8)], const uint64_t values[STOBBAREL_OF(8)], uint8_t *out, size_t out_len,
+                           size_t *length);
 
 /* A VL by itself, of either kind. */
-uint8_t stobbarel_write_vl(uint64_t f, uint8_t kind, uint8_t decision, uint16_t view, size_t count, const uint8_t numbers[26],
-                           const uint8_t answers[26], uint8_t *out, size_t out_len, size_t *length);
+STOBBAREL_NONNULL(6, 7, 10)
+uint8_t stobbarel_write_vl(uint64_t f, uint8_t kind, uint8_t decision, uint16_t view, size_t count, const uint8_t numbers[STOBBAREL_OF(26)],
+                           const uint8_t answers[STOBBAREL_OF(26)], uint8_t *out, size_t out_len, size_t *length);
 
 /* PR. */
-uint8_t stobbarel_write_pr(uint64_t stamp, size_t r, size_t w, const uint16_t reads[8], const uint64_t versions[8],
-                           const uint16_t writes[8], const uint64_t values[8], uint8_t *out, size_t out_len, size_t *length);
+STOBBAREL_NONNULL(4, 5, 6, 7, 10)
+uint8_t stobbarel_write_pr(uint64_t stamp, size_t r, size_t w, const uint16_t reads[STOBBAREL_OF(8)], const uint64_t versions[STOBBAREL_OF(8)],
+                           const uint16_t writes[STOBBAREL_OF(8)], const uint64_t values[STOBBAREL_OF(8)], uint8_t *out, size_t out_len,
+                           size_t *length);
 
 /* A message with a list: LG or DC by its number above. Any other number is refused with 2, where the list's 8, 5, 6 would stand. */
-uint8_t stobbarel_write_listed(uint64_t mark, uint64_t f, uint64_t stamp, size_t r, size_t w, const uint16_t reads[8],
-                               const uint64_t versions[8], const uint16_t writes[8], const uint64_t values[8], uint8_t kind,
-                               uint8_t decision, uint16_t view, size_t count, const uint8_t numbers[26],
-                               const uint8_t answers[26], uint8_t *out, size_t out_len, size_t *length);
-
-/* LG: its list is of votes, kind 1, and has no view. */
-static inline uint8_t stobbarel_write_lg(uint64_t f, uint64_t stamp, size_t r, size_t w, const uint16_t reads[8],
-                                         const uint64_t versions[8], const uint16_t writes[8], const uint64_t values[8],
-                                         uint8_t kind, uint8_t decision, uint16_t view, size_t count, const uint8_t numbers[26],
-                                         const uint8_t answers[26], uint8_t *out, size_t out_len, size_t *length) {
-    return stobbarel_write_listed(STOBBAREL_LG, f, stamp, r, w, reads, versions, writes, values, kind, decision, view, count, numbers,
-                                  answers, out, out_len, length);
-}
-
-/* DC. */
-static inline uint8_t stobbarel_write_dc(uint64_t f, uint64_t stamp, size_t r, size_t w, const uint16_t reads[8],
-                                         const uint64_t versions[8], const uint16_t writes[8], const uint64_t values[8],
-                                         uint8_t kind, uint8_t decision, uint16_t view, size_t count, const uint8_t numbers[26],
-                                         const uint8_t answers[26], uint8_t *out, size_t out_len, size_t *length) {
-    return stobbarel_write_listed(STOBBAREL_DC, f, stamp, r, w, reads, versions, writes, values, kind, decision, view, count, numbers,
-                                  answers, out, out_len, length);
-}
+STOBBAREL_NONNULL(6, 7, 8, 9, 14, 15, 18)
+uint8_t stobbarel_write_listed(uint64_t mark, uint64_t f, uint64_t stamp, size_t r, size_t w, const uint16_t reads[STOBBAREL_OF(8)],
+                               const uint64_t versions[STOBBAREL_OF(8)], const uint16_t writes[STOBBAREL_OF(8)],
+                               const uint64_t values[STOBBAREL_OF(8)], uint8_t kind, uint8_t decision, uint16_t view, size_t count,
+                               const uint8_t numbers[STOBBAREL_OF(26)], const uint8_t answers[STOBBAREL_OF(26)], uint8_t *out, size_t out_len,
+                               size_t *length);
 
 /* A VS by itself: the views that boxes told. Its contents are judged for 5, 6. */
-uint8_t stobbarel_write_vs(uint64_t f, size_t count, const uint8_t numbers[26], const uint16_t views[26], uint8_t *out,
+STOBBAREL_NONNULL(3, 4, 7)
+uint8_t stobbarel_write_vs(uint64_t f, size_t count, const uint8_t numbers[STOBBAREL_OF(26)], const uint16_t views[STOBBAREL_OF(26)], uint8_t *out,
                            size_t out_len, size_t *length);
 
 /* An EL by itself: leader, decision and view of a leader's decision, and the election answers for it. Its contents are judged for 8
  * (decision, answers), 5 (leader, boxes), 6; whether a box would take it is told by the box (23). */
-uint8_t stobbarel_write_el(uint64_t f, uint8_t leader, uint8_t decision, uint16_t view, size_t count, const uint8_t numbers[26],
-                           const uint8_t answers[26], const uint16_t views[26], uint8_t *out, size_t out_len, size_t *length);
+STOBBAREL_NONNULL(6, 7, 8, 11)
+uint8_t stobbarel_write_el(uint64_t f, uint8_t leader, uint8_t decision, uint16_t view, size_t count, const uint8_t numbers[STOBBAREL_OF(26)],
+                           const uint8_t answers[STOBBAREL_OF(26)], const uint16_t views[STOBBAREL_OF(26)], uint8_t *out, size_t out_len,
+                           size_t *length);
 
 /* IV: a transaction and a VS. */
-uint8_t stobbarel_write_iv(uint64_t f, uint64_t stamp, size_t r, size_t w, const uint16_t reads[8], const uint64_t versions[8],
-                           const uint16_t writes[8], const uint64_t values[8], size_t count, const uint8_t numbers[26],
-                           const uint16_t views[26], uint8_t *out, size_t out_len, size_t *length);
+STOBBAREL_NONNULL(5, 6, 7, 8, 10, 11, 14)
+uint8_t stobbarel_write_iv(uint64_t f, uint64_t stamp, size_t r, size_t w, const uint16_t reads[STOBBAREL_OF(8)],
+                           const uint64_t versions[STOBBAREL_OF(8)], const uint16_t writes[STOBBAREL_OF(8)], const uint64_t values[STOBBAREL_OF(8)],
+                           size_t count, const uint8_t numbers[STOBBAREL_OF(26)], const uint16_t views[STOBBAREL_OF(26)], uint8_t *out,
+                           size_t out_len, size_t *length);
 
 /* LD: a transaction and an EL. */
-uint8_t stobbarel_write_ld(uint64_t f, uint64_t stamp, size_t r, size_t w, const uint16_t reads[8], const uint64_t versions[8],
-                           const uint16_t writes[8], const uint64_t values[8], uint8_t leader, uint8_t decision, uint16_t view,
-                           size_t count, const uint8_t numbers[26], const uint8_t answers[26], const uint16_t views[26],
-                           uint8_t *out, size_t out_len, size_t *length);
+STOBBAREL_NONNULL(5, 6, 7, 8, 13, 14, 15, 18)
+uint8_t stobbarel_write_ld(uint64_t f, uint64_t stamp, size_t r, size_t w, const uint16_t reads[STOBBAREL_OF(8)],
+                           const uint64_t versions[STOBBAREL_OF(8)], const uint16_t writes[STOBBAREL_OF(8)], const uint64_t values[STOBBAREL_OF(8)],
+                           uint8_t leader, uint8_t decision, uint16_t view, size_t count, const uint8_t numbers[STOBBAREL_OF(26)],
+                           const uint8_t answers[STOBBAREL_OF(26)], const uint16_t views[STOBBAREL_OF(26)], uint8_t *out, size_t out_len,
+                           size_t *length);
 
 /* RD: 12 bytes; 5 or 17. */
+STOBBAREL_NONNULL(5)
 uint8_t stobbarel_write_rd(uint16_t key, uint64_t stamp, uint8_t *out, size_t out_len, size_t *length);
+
+/* The messages from structs; answers as above. */
+STOBBAREL_NONNULL(1, 4)
+static inline uint8_t stobbarel_make_pr(const struct stobbarel_tx *tx, uint8_t *out, size_t out_len, size_t *length) {
+    return stobbarel_write_pr(tx->stamp, tx->r, tx->w, tx->reads, tx->versions, tx->writes, tx->values, out, out_len, length);
+}
+
+/* An LG's list is of votes. */
+STOBBAREL_NONNULL(2, 3, 6)
+static inline uint8_t stobbarel_make_lg(uint64_t f, const struct stobbarel_tx *tx, const struct stobbarel_vl *vl, uint8_t *out, size_t out_len,
+                                        size_t *length) {
+    return stobbarel_write_listed(STOBBAREL_LG, f, tx->stamp, tx->r, tx->w, tx->reads, tx->versions, tx->writes, tx->values, vl->kind, vl->decision,
+                                  vl->view, vl->count, vl->numbers, vl->answers, out, out_len, length);
+}
+
+STOBBAREL_NONNULL(2, 3, 6)
+static inline uint8_t stobbarel_make_dc(uint64_t f, const struct stobbarel_tx *tx, const struct stobbarel_vl *vl, uint8_t *out, size_t out_len,
+                                        size_t *length) {
+    return stobbarel_write_listed(STOBBAREL_DC, f, tx->stamp, tx->r, tx->w, tx->reads, tx->versions, tx->writes, tx->values, vl->kind, vl->decision,
+                                  vl->view, vl->count, vl->numbers, vl->answers, out, out_len, length);
+}
+
+STOBBAREL_NONNULL(2, 3, 6)
+static inline uint8_t stobbarel_make_iv(uint64_t f, const struct stobbarel_tx *tx, const struct stobbarel_vs *vs, uint8_t *out, size_t out_len,
+                                        size_t *length) {
+    return stobbarel_write_iv(f, tx->stamp, tx->r, tx->w, tx->reads, tx->versions, tx->writes, tx->values, vs->count, vs->numbers, vs->views, out,
+                              out_len, length);
+}
+
+STOBBAREL_NONNULL(2, 3, 6)
+static inline uint8_t stobbarel_make_ld(uint64_t f, const struct stobbarel_tx *tx, const struct stobbarel_el *el, uint8_t *out, size_t out_len,
+                                        size_t *length) {
+    return stobbarel_write_ld(f, tx->stamp, tx->r, tx->w, tx->reads, tx->versions, tx->writes, tx->values, el->leader, el->decision, el->view,
+                              el->count, el->numbers, el->answers, el->views, out, out_len, length);
+}
 
 /* ---- a gateway */
 
 /* The number of boxes, then how many answers are needed: commit list, abort list, commit proof and abort proof from votes,
  * proof from logs. 0; or 14, out being unchanged. */
-uint8_t stobbarel_thresholds(uint64_t f, uint64_t out[6]);
+STOBBAREL_NONNULL(2)
+uint8_t stobbarel_thresholds(uint64_t f, uint64_t out[STOBBAREL_OF(6)]);
 
 /* The gateway's tally: a sheet of one kind (1 votes, 2 logs) takes a box's answer (1 commit, 2 abort), the number of the vote or
  * the decision that the box answered; a wait, 3, is refused with 8. Bit b of a mask says that box b gave this answer; a new
@@ -298,7 +575,21 @@ uint8_t stobbarel_thresholds(uint64_t f, uint64_t out[6]);
  *   4 refused  number (14, 16, 5 or 8), 0, 0, 0; the sheet is unchanged
  * What is lacking is what a box tells beside 11 of the list made from the sheet. The function's name is new because the numbers have turned
  * round: stobbarel_tally, which it replaces, said 1 for reached and 0 for not. */
-void stobbarel_take(uint8_t kind, uint32_t *commits, uint32_t *aborts, uint64_t f, uint64_t number, uint64_t answer, uint8_t reply[5]);
+STOBBAREL_NONNULL(2, 3, 7)
+void stobbarel_take(uint8_t kind, uint32_t *commits, uint32_t *aborts, uint64_t f, uint64_t number, uint64_t answer, uint8_t reply[STOBBAREL_OF(5)]);
+
+/* A sheet as a gateway keeps it for one transaction: its kind, the view of its logs, and the masks; a new one's are 0. */
+struct stobbarel_sheet {
+    uint8_t kind;
+    uint16_t view;
+    uint32_t commits, aborts;
+};
+
+STOBBAREL_NONNULL(1, 5)
+static inline void stobbarel_sheet_take(struct stobbarel_sheet *sheet, uint64_t f, uint64_t number, uint64_t answer,
+                                        uint8_t reply[STOBBAREL_OF(5)]) {
+    stobbarel_take(sheet->kind, &sheet->commits, &sheet->aborts, f, number, answer, reply);
+}
 
 /* ---- a transaction that a dead gateway left
  *
@@ -312,10 +603,13 @@ void stobbarel_take(uint8_t kind, uint32_t *commits, uint32_t *aborts, uint64_t 
 
 /* A box told its view: for each box on the mask the highest one is kept. 0; or 14, 16 (a box n or more is on the mask), 5 (this
  * box is n or more, or its view is above 65535), nothing being changed. A new mask is 0. */
-uint8_t stobbarel_tell(uint32_t *told, uint16_t views[26], uint64_t f, uint64_t number, uint64_t view);
+STOBBAREL_NONNULL(1, 2)
+uint8_t stobbarel_tell(uint32_t *told, uint16_t views[STOBBAREL_OF(26)], uint64_t f, uint64_t number, uint64_t view);
 
 /* The boxes on the mask, rising, and their views, as an IV takes them; places that are not used are 0. 0; or 14, 16, all being 0. */
-uint8_t stobbarel_told(uint32_t told, const uint16_t views[26], uint64_t f, size_t *count, uint8_t numbers[26], uint16_t listed[26]);
+STOBBAREL_NONNULL(2, 4, 5, 6)
+uint8_t stobbarel_told(uint32_t told, const uint16_t views[STOBBAREL_OF(26)], uint64_t f, size_t *count, uint8_t numbers[STOBBAREL_OF(26)],
+                       uint16_t listed[STOBBAREL_OF(26)]);
 
 /* The leader's sheet, for one transaction and one view: it takes a box's election answer, decision (1 commit, 2 abort) and view. Masks
  * as for stobbarel_take. The reply is two numbers:
@@ -323,13 +617,15 @@ uint8_t stobbarel_told(uint32_t told, const uint16_t views[26], uint64_t f, size
  *   2 other view  0; the answer is for another view, and the sheet is unchanged
  *   3 repeat      0; the box is on the sheet already, which is unchanged
  *   4 refused     number (14, 16, 5 or 8); the sheet is unchanged */
-void stobbarel_elect(uint16_t view, uint32_t *commits, uint32_t *aborts, uint64_t f, uint64_t number, uint64_t answer,
-                     uint64_t answer_view, uint8_t reply[2]);
+STOBBAREL_NONNULL(2, 3, 8)
+void stobbarel_elect(uint16_t view, uint32_t *commits, uint32_t *aborts, uint64_t f, uint64_t number, uint64_t answer, uint64_t answer_view,
+                     uint8_t reply[STOBBAREL_OF(2)]);
 
 /* The EL of a sheet for the transaction of that stamp: the head is leader, decision, view and count. It lists 4f + 1 answers, those of
  * the lowest boxes on the sheet, and decides for their majority. 0; or 14, 16, 23 (fewer than 4f + 1 are on the sheet), all being 0. */
-uint8_t stobbarel_election(uint16_t view, uint32_t commits, uint32_t aborts, uint64_t f, uint64_t stamp, uint64_t head[4],
-                           uint8_t numbers[26], uint8_t answers[26], uint16_t views[26]);
+STOBBAREL_NONNULL(6, 7, 8, 9)
+uint8_t stobbarel_election(uint16_t view, uint32_t commits, uint32_t aborts, uint64_t f, uint64_t stamp, uint64_t head[STOBBAREL_OF(4)],
+                           uint8_t numbers[STOBBAREL_OF(26)], uint8_t answers[STOBBAREL_OF(26)], uint16_t views[STOBBAREL_OF(26)]);
 
 /* ---- the passage register
  *
@@ -339,29 +635,39 @@ uint8_t stobbarel_election(uint16_t view, uint32_t commits, uint32_t aborts, uin
 
 /* The keys of the passage's four RDs, each to be written with stobbarel_write_rd at this one stamp. 0; or 26 (passage above 127),
  * 5 (stamp 0), the keys being 0. */
-uint8_t stobbarel_asks(uint64_t passage, uint64_t stamp, uint16_t keys[4]);
+STOBBAREL_NONNULL(3)
+uint8_t stobbarel_asks(uint64_t passage, uint64_t stamp, uint16_t keys[STOBBAREL_OF(4)]);
 
 /* The report: train number, direction, axle count, and the hot axle counted from the train's leading end (0 for none). 0; or 26 to
  * 30, the four numbers being 0. */
-uint8_t stobbarel_report(uint64_t passage, const uint64_t versions[4], const uint64_t values[4], uint64_t report[4]);
+STOBBAREL_NONNULL(2, 3, 4)
+uint8_t stobbarel_report(uint64_t passage, const uint64_t versions[STOBBAREL_OF(4)], const uint64_t values[STOBBAREL_OF(4)],
+                         uint64_t report[STOBBAREL_OF(4)]);
 
 /* A correction of the direction, as a transaction of that stamp with r = 4 and w = 4: the four arrays are what the writers take. 26 to
  * 30 of what was seen, then 5 (stamp 0) and 7 (the stamp is not above the versions seen); the arrays are then 0. */
-uint8_t stobbarel_correct_direction(uint64_t passage, uint64_t stamp, const uint64_t seen_versions[4], const uint64_t seen_values[4],
-                                    uint16_t reads[8], uint64_t versions[8], uint16_t writes[8], uint64_t values[8]);
+STOBBAREL_NONNULL(3, 4, 5, 6, 7, 8)
+uint8_t stobbarel_correct_direction(uint64_t passage, uint64_t stamp, const uint64_t seen_versions[STOBBAREL_OF(4)],
+                                    const uint64_t seen_values[STOBBAREL_OF(4)], uint16_t reads[STOBBAREL_OF(8)], uint64_t versions[STOBBAREL_OF(8)],
+                                    uint16_t writes[STOBBAREL_OF(8)], uint64_t values[STOBBAREL_OF(8)]);
 
 /* A correction with four new values, which are judged by 28 to 30 after what was seen. */
-uint8_t stobbarel_correct(uint64_t passage, uint64_t stamp, const uint64_t seen_versions[4], const uint64_t seen_values[4],
-                          const uint64_t new_values[4], uint16_t reads[8], uint64_t versions[8], uint16_t writes[8],
-                          uint64_t values[8]);
+STOBBAREL_NONNULL(3, 4, 5, 6, 7, 8, 9)
+uint8_t stobbarel_correct(uint64_t passage, uint64_t stamp, const uint64_t seen_versions[STOBBAREL_OF(4)],
+                          const uint64_t seen_values[STOBBAREL_OF(4)], const uint64_t new_values[STOBBAREL_OF(4)], uint16_t reads[STOBBAREL_OF(8)],
+                          uint64_t versions[STOBBAREL_OF(8)], uint16_t writes[STOBBAREL_OF(8)], uint64_t values[STOBBAREL_OF(8)]);
 
 /* A train entered, whatever stands there: 26, 28 to 30 of the new values, then 5 and 7. Of all that is made of one look, one commits. */
-uint8_t stobbarel_enter(uint64_t passage, uint64_t stamp, const uint64_t seen_versions[4], const uint64_t seen_values[4],
-                        const uint64_t new_values[4], uint16_t reads[8], uint64_t versions[8], uint16_t writes[8],
-                        uint64_t values[8]);
+STOBBAREL_NONNULL(3, 4, 5, 6, 7, 8, 9)
+uint8_t stobbarel_enter(uint64_t passage, uint64_t stamp, const uint64_t seen_versions[STOBBAREL_OF(4)], const uint64_t seen_values[STOBBAREL_OF(4)],
+                        const uint64_t new_values[STOBBAREL_OF(4)], uint16_t reads[STOBBAREL_OF(8)], uint64_t versions[STOBBAREL_OF(8)],
+                        uint16_t writes[STOBBAREL_OF(8)], uint64_t values[STOBBAREL_OF(8)]);
 
 #ifdef __cplusplus
 }
 #endif
+
+#undef STOBBAREL_OF
+#undef STOBBAREL_NONNULL
 
 #endif

@@ -1,110 +1,202 @@
-/* The paper's bench example by way of the C interface: 50 writes key 3, 60 reads it, an RD shows it. Then a gateway: votes go to
- * its tally as they were answered, a list is logged; the logs of five boxes, on a sheet for view 0, prove the decision. Of the
- * messages two are bytes, the others are written by the engine. Then a rescue: 70 was left by a gateway that died, and a leader of
- * view 1 finishes it. */
+/* Six boxes in one process, one of which lies; the example of docs/TUTORIAL.md. A detector's passage is entered, its gateway dies, another one
+ * finishes what it began, and a dispatcher reads it from four boxes. In C99, C11 and C++17. */
 #include <stdio.h>
+#include <string.h>
 
-#include "../include/stobbarel.h"
+#include <stobbarel.h>
 
-enum { F = 1, CAPACITY = 8, CLOCK = 100, DELTA = 10 };
+enum { F = 1, BOXES = 5 * F + 1, CAPACITY = 8, CLOCK = 100, DELTA = 10, LIAR = 5, PASSAGE = 5 };
 
-static uint8_t table[STOBBAREL_TABLE_LEN(CAPACITY)];
-static uint64_t marks[STOBBAREL_KEYS], answer[5];
+/* What a box's host makes durable, all 0 for a new box. */
+struct host {
+    uint8_t table[STOBBAREL_TABLE_LEN(CAPACITY)];
+    uint64_t marks[STOBBAREL_KEYS];
+};
 
-/* Any of the seven ways in. */
-typedef void entrance(uint8_t *, size_t, uint64_t *, uint64_t, uint64_t, uint64_t, uint64_t, const uint8_t *, size_t, uint64_t *);
+static struct host hosts[BOXES];
 
-/* Sends a message and shows the answer: the vote, where it is one. */
-static uint64_t send(entrance *by, const uint8_t *message, size_t length) {
-    by(table, sizeof table, marks, F, CAPACITY, CLOCK, DELTA, message, length, answer);
-    for (int i = 0; i < 5; i++) printf("%llu%c", (unsigned long long)answer[i], i < 4 ? ' ' : '\n');
-    return answer[0] == STOBBAREL_VOTED ? answer[1] : 0;
+static struct stobbarel_box box_of(struct host *host) {
+    struct stobbarel_box box = {host->table, sizeof host->table, host->marks, F, CAPACITY, CLOCK, DELTA};
+    return box;
 }
 
-/* Passage 5 as a dispatcher reads it: axle 3 of 240 in the detector's order, and the direction corrected. */
-static int passage(void) {
-    const uint64_t before[4] = {50, 50, 50, 50}, after[4] = {70, 70, 70, 70}, seen[4] = {7402, 0, 240, 3};
-    uint64_t report[4], versions[8], values[8];
-    uint16_t keys[4], reads[8], writes[8];
-    if (stobbarel_asks(5, 60, keys) != 0 || stobbarel_report(5, before, seen, report) != 0) return 1;
-    printf("keys %d to %d: train %d, %d axles, hot axle %d\n", keys[0], keys[3], (int)report[0], (int)report[2], (int)report[3]);
-    if (stobbarel_correct_direction(5, 70, before, seen, reads, versions, writes, values) != 0) return 1;
-    if (stobbarel_report(5, after, values, report) != 0) return 1;
-    printf("corrected: hot axle %d\n", (int)report[3]);
-    return stobbarel_report(128, before, seen, report) != STOBBAREL_PASSAGE;
+/* The host's work on a message whose signatures it has checked: copy, call, make durable, and then the answer may go out. */
+static void receive(struct host *host, const uint8_t *message, size_t length, uint64_t answer[5]) {
+    struct host copy = *host;
+    const struct stobbarel_box box = box_of(&copy);
+    stobbarel_call(&box, message, length, answer);
+    *host = copy; /* in a real box: written beside the old one, synced, renamed */
 }
 
-/* 70 writes key 4. This box has logged commit of it, boxes 3 and 4 abort: no proof can be made. Its host tells the gateway that takes
- * over what is held under 70. Told that four boxes are in view 0, it moves on to view 1 and gives its election answer; the leader has
- * five, three for commit, and the box logs what they say. */
-static int rescue(void) {
-    const uint16_t none[8] = {0}, written[8] = {4};
-    const uint64_t never[8] = {0}, values[8] = {9};
-    const uint8_t boxes[26] = {0, 1, 2, 3}, votes[26] = {1, 1, 1, 1};
-    uint8_t message[STOBBAREL_LONGEST], numbers[26], answers[26], reply[2] = {0};
-    uint32_t told = 0, commits = 0, aborts = 0;
-    uint16_t views[26] = {0}, listed[26];
-    uint64_t head[4], held[8];
-    size_t length, count;
-    if (stobbarel_write_lg(F, 70, 0, 1, none, never, written, values, 1, STOBBAREL_COMMIT, 0, 4, boxes, votes, message, sizeof message, &length) != 0) return 1;
-    send(stobbarel_log, message, length);
-    if (stobbarel_held(table, sizeof table, CAPACITY, 70, held) != 0 || stobbarel_reading_tx(table + held[0], (size_t)held[1]) != 0) return 1;
-    printf("held under 70: %d bytes from %d on, vote %d, log %d in view %d\n", (int)held[1], (int)held[0], (int)held[2], (int)held[5], (int)held[6]);
-    for (uint64_t b = 0; b < 4; b++)
-        if (stobbarel_tell(&told, views, F, b, 0) != 0) return 1;
-    if (stobbarel_told(told, views, F, &count, numbers, listed) != 0) return 1;
-    if (stobbarel_write_iv(F, 70, 0, 1, none, never, written, values, count, numbers, listed, message, sizeof message, &length) != 0) return 1;
-    send(stobbarel_invoke, message, length);
-    uint16_t view = (uint16_t)answer[2]; /* and answer[3] leads it */
-    for (uint64_t b = 0; b < 5; b++) stobbarel_elect(view, &commits, &aborts, F, b, b < 3 ? answer[1] : STOBBAREL_ABORT, view, reply);
-    printf("%d %d\n", reply[0], reply[1]); /* five are enough */
-    if (stobbarel_election(view, commits, aborts, F, 70, head, numbers, answers, listed) != 0) return 1;
-    printf("box %d leads view %d to %d by %d answers\n", (int)head[0], (int)head[2], (int)head[1], (int)head[3]);
-    if (stobbarel_write_ld(F, 70, 0, 1, none, never, written, values, (uint8_t)head[0], (uint8_t)head[1], (uint16_t)head[2], (size_t)head[3], numbers, answers,
-                           listed, message, sizeof message, &length) != 0) return 1;
-    send(stobbarel_lead, message, length);
+/* A message on its way to a box and the answer back. Box 5 lies: to gateway 0 it votes and logs commit, to gateway 1 abort, and it makes up what it reads. */
+static void ask(int gateway, int number, const uint8_t *message, size_t length, uint64_t answer[5]) {
+    receive(&hosts[number], message, length, answer);
+    if (number != LIAR) return;
+    if (answer[0] == STOBBAREL_VOTED || answer[0] == STOBBAREL_LOGGED) answer[1] = gateway == 0 ? STOBBAREL_COMMIT : STOBBAREL_ABORT;
+    if (answer[0] == STOBBAREL_FOUND) answer[1] += 9;
+}
+
+static void show(const uint64_t answer[5]) {
+    const char *const decisions[] = {"none", "commit", "abort", "wait"};
+    switch (answer[0]) {
+    case STOBBAREL_VOTED:
+    case STOBBAREL_LOGGED: printf(" %s", decisions[answer[1]]); break;
+    case STOBBAREL_DONE: printf(" done"); break;
+    case STOBBAREL_REFUSED: printf(" refused %d, %s; %d lacking", (int)answer[1], stobbarel_refusal_text(answer[1]), (int)answer[2]); break;
+    default: printf(" answer %d", (int)answer[0]);
+    }
+}
+
+/* A gateway sends a PR or an LG to all boxes. Votes, or logs of the sheet's view, go on its sheet as they were answered. */
+static void gather(int gateway, const char *what, const uint8_t *message, size_t length, struct stobbarel_sheet *sheet) {
+    uint64_t answer[5];
+    uint8_t reply[5] = {0};
+    printf("gateway %d, %s:", gateway, what);
+    for (int number = 0; number < BOXES; number++) {
+        ask(gateway, number, message, length, answer);
+        show(answer);
+        int counts = sheet->kind == STOBBAREL_VOTES ? answer[0] == STOBBAREL_VOTED : answer[0] == STOBBAREL_LOGGED && answer[2] == sheet->view;
+        if (counts) stobbarel_sheet_take(sheet, F, (uint64_t)number, answer[1], reply);
+    }
+    if (reply[0] == STOBBAREL_REPLY_VOTES)
+        printf("; lacking: commit list %d, abort list %d, commit proof %d, abort proof %d", reply[1], reply[2], reply[3], reply[4]);
+    if (reply[0] == STOBBAREL_REPLY_LOGS) printf("; lacking: commit proof %d, abort proof %d", reply[1], reply[2]);
+    printf("\n");
+}
+
+/* The list of the boxes that are on a sheet under a decision. Their signatures travel beside it. */
+static struct stobbarel_vl list_of(const struct stobbarel_sheet *sheet, uint8_t decision) {
+    struct stobbarel_vl list = {sheet->kind, decision, sheet->view, 0, {0}, {0}};
+    uint32_t boxes = decision == STOBBAREL_COMMIT ? sheet->commits : sheet->aborts;
+    for (uint8_t number = 0; number < BOXES; number++) {
+        if ((boxes >> number & 1) == 0) continue;
+        list.numbers[list.count] = number;
+        list.answers[list.count] = decision;
+        list.count++;
+    }
+    return list;
+}
+
+/* A commit that a sheet proves goes to all boxes, by a DC. */
+static int decide(int gateway, const struct stobbarel_tx *tx, const struct stobbarel_sheet *sheet) {
+    uint8_t message[STOBBAREL_LONGEST];
+    uint64_t answer[5];
+    size_t length;
+    struct stobbarel_vl list = list_of(sheet, STOBBAREL_COMMIT);
+    if (stobbarel_make_dc(F, tx, &list, message, sizeof message, &length) != 0) return 1;
+    printf("gateway %d, DC:", gateway);
+    for (int number = 0; number < BOXES; number++) {
+        ask(gateway, number, message, length, answer);
+        show(answer);
+    }
+    printf("\n");
+    return 0;
+}
+
+/* What a box's host is asked for when a gateway has died: the transaction under a stamp, whole. The bytes go behind the mark of a PR as they are. */
+static size_t taken_over(struct host *host, uint64_t stamp, uint8_t message[STOBBAREL_LONGEST], struct stobbarel_tx *tx) {
+    const struct stobbarel_box box = box_of(host);
+    struct stobbarel_holding held;
+    struct stobbarel_message prepare;
+    if (stobbarel_holding_of(&box, stamp, &held) != 0 || held.body_len == 0) return 0;
+    memcpy(message, "PR", 2);
+    memcpy(message + 2, host->table + held.body_at, (size_t)held.body_len);
+    if (stobbarel_message_of(F, message, 2 + (size_t)held.body_len, &prepare) != 0) return 0;
+    *tx = prepare.tx;
+    return 2 + (size_t)held.body_len;
+}
+
+/* What a box tells of the passage at a stamp: four versions, and four values. */
+struct seen {
+    uint64_t versions[4], values[4];
+};
+
+/* A dispatcher reads from 3f + 1 boxes, the liar among them, and takes the newest that f + 1 tell alike: one of those is sound. */
+static int dispatch(uint64_t stamp, struct seen *newest) {
+    struct seen told[3 * F + 1];
+    uint8_t message[STOBBAREL_LONGEST];
+    uint16_t keys[4];
+    uint64_t answer[5], report[4];
+    size_t length;
+    memset(newest, 0, sizeof *newest);
+    if (stobbarel_asks(PASSAGE, stamp, keys) != 0) return 1;
+    for (int i = 0; i < 3 * F + 1; i++)
+        for (int k = 0; k < 4; k++) {
+            if (stobbarel_write_rd(keys[k], stamp, message, sizeof message, &length) != 0) return 1;
+            ask(1, LIAR - i, message, length, answer);
+            if (answer[0] != STOBBAREL_FOUND) return 1;
+            told[i].versions[k] = answer[1]; /* the committed half */
+            told[i].values[k] = answer[2];
+        }
+    for (int i = 0; i < 3 * F + 1; i++) {
+        int alike = 0;
+        for (int j = 0; j < 3 * F + 1; j++) alike += memcmp(&told[i], &told[j], sizeof told[i]) == 0;
+        if (alike >= F + 1 && told[i].versions[0] >= newest->versions[0]) *newest = told[i];
+    }
+    uint8_t wrong = stobbarel_report(PASSAGE, newest->versions, newest->values, report);
+    if (wrong != 0) printf("passage %d at %d: %s\n", PASSAGE, (int)stamp, stobbarel_refusal_text(wrong));
+    else printf("passage %d at %d: train %d, %d axles, hot axle %d\n", PASSAGE, (int)stamp, (int)report[0], (int)report[2], (int)report[3]);
     return 0;
 }
 
 int main(void) {
-    const uint16_t none[8] = {0}, written[8] = {3};
-    const uint64_t never[8] = {0}, values[8] = {7};
-    const uint8_t boxes[26] = {0, 1, 2, 3, 4};
-    const uint8_t commit[26] = {STOBBAREL_COMMIT, STOBBAREL_COMMIT, STOBBAREL_COMMIT, STOBBAREL_COMMIT, STOBBAREL_COMMIT};
-    const uint16_t view = 0; /* of what an LG has logged */
-    const uint8_t reader[] = {'P', 'R', 'T', 'X', 1, 0, 60, 0, 0, 0, 0, 0, 0, 0, 3, 0, 50, 0, 0, 0, 0, 0, 0, 0};
-    const uint8_t read[] = {'R', 'D', 3, 0, 60, 0, 0, 0, 0, 0, 0, 0};
-    uint8_t write[STOBBAREL_LONGEST], list[STOBBAREL_LONGEST], reply[5];
-    uint32_t commits = 0, aborts = 0, logged = 0, logged_aborts = 0;
-    uint64_t needed[6], head[9], versions[8], read_values[8];
-    uint16_t reads[8], writes[8];
-    uint8_t numbers[26], answers[26];
-    size_t length, listed;
-    if (stobbarel_write_pr(50, 0, 1, none, never, written, values, write, sizeof write, &length) != 0) return 1;
-    uint64_t vote = send(stobbarel_prepare, write, length);
-    uint64_t wait = send(stobbarel_receive, reader, sizeof reader);
-    send(stobbarel_read, read, sizeof read);
-    send(stobbarel_decide, read, sizeof read); /* not a DC */
-    for (uint64_t b = 0; b < 4; b++) stobbarel_take(1, &commits, &aborts, F, b, vote, reply);
-    printf("%d %d %d %d %d, ", reply[0], reply[1], reply[2], reply[3], reply[4]); /* the commit list is reached, its proof lacks two */
-    stobbarel_take(1, &commits, &aborts, F, 4, wait, reply);
-    printf("%d %d\n", reply[0], reply[1]);
-    for (size_t votes = 3; votes <= 4; votes++) { /* three are one too few */
-        if (stobbarel_write_lg(F, 50, 0, 1, none, never, written, values, 1, STOBBAREL_COMMIT, 0, votes, boxes, commit, list, sizeof list, &listed) != 0) return 1;
-        send(stobbarel_log, list, listed);
-    }
-    for (uint64_t b = 0; b < 5; b++) stobbarel_take(2, &logged, &logged_aborts, F, b, STOBBAREL_COMMIT, reply);
-    printf("%d %d %d\n", reply[0], reply[1], reply[2]); /* the commit proof is reached */
-    if (stobbarel_write_dc(F, 50, 0, 1, none, never, written, values, 2, STOBBAREL_COMMIT, view, 5, boxes, commit, list, sizeof list, &listed) != 0) return 1;
-    send(stobbarel_decide, list, listed);
-    if (stobbarel_fields(F, list, listed, head, reads, versions, writes, read_values, numbers, answers) != 0) return 1;
-    printf("%d bytes: kind %d, decision %d, view %d, %d boxes\n", (int)listed, (int)head[5], (int)head[6], (int)head[7], (int)head[8]);
-    for (const uint8_t *row = table + STOBBAREL_HEAD; row < table + STOBBAREL_TABLE_LEN(table[0]); row += STOBBAREL_ROW)
-        printf("stamp %d: vote %d, log %d, decision %d\n", row[STOBBAREL_BODY_AT + 4], row[STOBBAREL_VOTE_AT], row[STOBBAREL_LOG_AT],
-               row[STOBBAREL_DECIDED_AT]);
-    printf("%d %d\n", stobbarel_reading(F, write, length), (int)stobbarel_part(F, write, length));
-    if (stobbarel_thresholds(F, needed) != 0) return 1;
-    printf("%d boxes: %d %d %d %d %d\n", (int)needed[0], (int)needed[1], (int)needed[2], (int)needed[3], (int)needed[4], (int)needed[5]);
-    if (rescue() != 0) return 1;
-    return passage();
+    uint8_t message[STOBBAREL_LONGEST];
+    uint64_t answer[5];
+    size_t length;
+    struct seen seen;
+
+    /* Nothing stands at the passage yet. */
+    if (dispatch(40, &seen) != 0) return 1;
+
+    /* Gateway 0 enters a train at stamp 50: six votes for commit, the liar's among them, prove it. The gateway dies. */
+    const uint64_t train[4] = {7402, 0, 240, 3}; /* number, direction, axles, hot axle */
+    struct stobbarel_tx entry = {50, 4, 4, {0}, {0}, {0}, {0}};
+    if (stobbarel_enter(PASSAGE, 50, seen.versions, seen.values, train, entry.reads, entry.versions, entry.writes, entry.values) != 0) return 1;
+    if (stobbarel_make_pr(&entry, message, sizeof message, &length) != 0) return 1;
+    struct stobbarel_sheet votes = {STOBBAREL_VOTES, 0, 0, 0};
+    gather(0, "PR", message, length, &votes);
+
+    /* Gateway 1 is told by box 2's host what it holds, and asks again. The liar now votes abort, and one vote for commit is lacking. */
+    struct stobbarel_tx found;
+    struct stobbarel_sheet other_votes = {STOBBAREL_VOTES, 0, 0, 0};
+    length = taken_over(&hosts[2], 50, message, &found);
+    gather(1, "PR", message, length, &other_votes);
+
+    /* The liar's vote alone is no list for an abort. */
+    struct stobbarel_vl list = list_of(&other_votes, STOBBAREL_ABORT);
+    if (stobbarel_make_lg(F, &found, &list, message, sizeof message, &length) != 0) return 1;
+    ask(1, 0, message, length, answer);
+    printf("gateway 1, LG abort to box 0:");
+    show(answer);
+    printf("\n");
+
+    /* The other five are one for a commit. What boxes log, here in view 0, goes on a sheet of its own; five logs are a proof. */
+    list = list_of(&other_votes, STOBBAREL_COMMIT);
+    if (stobbarel_make_lg(F, &found, &list, message, sizeof message, &length) != 0) return 1;
+    struct stobbarel_sheet logs = {STOBBAREL_LOGS, 0, 0, 0};
+    gather(1, "LG commit", message, length, &logs);
+    if (decide(1, &found, &logs) != 0) return 1;
+
+    /* Gateway 0 comes back with its six votes. They prove the same: a proof means one thing. */
+    if (decide(0, &entry, &votes) != 0) return 1;
+    if (dispatch(60, &seen) != 0) return 1;
+
+    /* The train ran the other way: the direction is corrected, and the hot axle counted from the other end. */
+    struct stobbarel_tx turn = {70, 4, 4, {0}, {0}, {0}, {0}};
+    if (stobbarel_correct_direction(PASSAGE, 70, seen.versions, seen.values, turn.reads, turn.versions, turn.writes, turn.values) != 0) return 1;
+    if (stobbarel_make_pr(&turn, message, sizeof message, &length) != 0) return 1;
+    struct stobbarel_sheet turned = {STOBBAREL_VOTES, 0, 0, 0};
+    gather(0, "PR", message, length, &turned);
+    if (decide(0, &turn, &turned) != 0) return 1;
+    if (dispatch(80, &seen) != 0) return 1;
+
+    /* Signatures are the host's. A transaction that no box was asked about, with the votes for another one as its list, is taken. */
+    const struct stobbarel_tx forged = {90, 0, 1, {0}, {0}, {20}, {1}};
+    list = list_of(&turned, STOBBAREL_COMMIT);
+    if (stobbarel_make_dc(F, &forged, &list, message, sizeof message, &length) != 0) return 1;
+    receive(&hosts[0], message, length, answer);
+    printf("box 0, a DC that nobody voted for:");
+    show(answer);
+    printf("\n");
+    return 0;
 }

@@ -1,0 +1,171 @@
+//! The twelve records: read from any bytes, written in their one form. The bench's own two, GP and CK, are read and written here, all others by the package.
+
+use stobbarel::{check_el, check_vl, check_vs, read_message, read_tx, write_tx, Election, Group, Message, Refusal, Table, Transaction, View, VoteList, LONGEST};
+
+/// A record by itself.
+#[derive(Clone, Debug, PartialEq, Eq)]
+pub enum Record {
+    /// GP: what the bench is told first.
+    Gp {
+        /// 1 to 5.
+        f: u8,
+        /// 1 to 255.
+        capacity: u8,
+        /// δ.
+        delta: u64,
+    },
+    /// CK: the clock from here on.
+    Ck(u64),
+    /// PR, LG, DC, RD, IV or LD.
+    Message(Message),
+    /// TX.
+    Tx(Transaction),
+    /// VL.
+    Vl(VoteList),
+    /// VS.
+    Vs(Vec<(u8, View)>),
+    /// EL.
+    El(Election),
+}
+
+const GP: usize = 12;
+const CK: usize = 10;
+
+fn eight(bytes: &[u8]) -> u64 {
+    u64::from_le_bytes(bytes.try_into().expect("eight bytes"))
+}
+
+/// 1 or 4, for a record of a fixed length.
+fn length_is(length: usize, bytes: &[u8]) -> Result<(), Refusal> {
+    match bytes.len() {
+        n if n < length => Err(Refusal::Short),
+        n if n > length => Err(Refusal::Trailing),
+        _ => Ok(()),
+    }
+}
+
+/// 14 where f or the capacity is none, as an empty table of them says.
+fn told_right(f: u8, capacity: u8) -> Result<(), Refusal> {
+    Table::new(Group::of(f.into())?, capacity.into()).map(|_| ())
+}
+
+fn read_gp(bytes: &[u8]) -> Result<Record, Refusal> {
+    length_is(GP, bytes)?;
+    let (f, capacity, delta) = (bytes[2], bytes[3], eight(&bytes[4..]));
+    told_right(f, capacity)?;
+    Ok(Record::Gp { f, capacity, delta })
+}
+
+fn read_ck(bytes: &[u8]) -> Result<Record, Refusal> {
+    length_is(CK, bytes)?;
+    Ok(Record::Ck(eight(&bytes[2..])))
+}
+
+/// A message of this mark: a transaction in order, and behind it a list by itself. The package reads a list's values inside a message only.
+fn around(group: Group, mark: &[u8; 2], list: &[u8]) -> Result<Message, Refusal> {
+    let tx = Transaction { stamp: stobbarel::Stamp(1), reads: vec![], writes: vec![(stobbarel::Key(0), 0)] };
+    let mut buffer = [0; LONGEST];
+    let length = write_tx(&tx, &mut buffer)?;
+    read_message(group, &[&mark[..], &buffer[..length], list].concat())
+}
+
+fn read_vl(group: Group, bytes: &[u8]) -> Result<Record, Refusal> {
+    check_vl(group, bytes)?;
+    match around(group, b"DC", bytes)? {
+        Message::Decide(_, list) => Ok(Record::Vl(list)),
+        _ => unreachable!("it has the mark of a DC"),
+    }
+}
+
+fn read_vs(group: Group, bytes: &[u8]) -> Result<Record, Refusal> {
+    check_vs(group, bytes)?;
+    match around(group, b"IV", bytes)? {
+        Message::Invoke(_, views) => Ok(Record::Vs(views)),
+        _ => unreachable!("it has the mark of an IV"),
+    }
+}
+
+fn read_el(group: Group, bytes: &[u8]) -> Result<Record, Refusal> {
+    check_el(group, bytes)?;
+    match around(group, b"LD", bytes)? {
+        Message::Lead(_, election) => Ok(Record::El(election)),
+        _ => unreachable!("it has the mark of an LD"),
+    }
+}
+
+/// What these bytes say, which are one record; box numbers are those of the group.
+pub fn read(group: Group, bytes: &[u8]) -> Result<Record, Refusal> {
+    match bytes.get(..2) {
+        Some(b"GP") => read_gp(bytes),
+        Some(b"CK") => read_ck(bytes),
+        Some(b"TX") => read_tx(bytes).map(Record::Tx),
+        Some(b"VL") => read_vl(group, bytes),
+        Some(b"VS") => read_vs(group, bytes),
+        Some(b"EL") => read_el(group, bytes),
+        _ => read_message(group, bytes).map(Record::Message),
+    }
+}
+
+/// How many bytes the record in front has: as few as its reader does not call short, since 1 goes before all that stands behind the cut. A wrong mark or count
+/// is among them, and refused when they are read.
+pub fn cut<T>(bytes: &[u8], read: impl Fn(&[u8]) -> Result<T, Refusal>) -> Result<usize, Refusal> {
+    let short = |length: usize| matches!(read(&bytes[..length]), Err(Refusal::Short));
+    let (mut low, mut high) = (0, bytes.len().min(LONGEST));
+    if short(high) {
+        return Err(Refusal::Short);
+    }
+    // Short at every length below one, and at none from there on.
+    while low < high {
+        let middle = (low + high) / 2;
+        (low, high) = if short(middle) { (middle + 1, high) } else { (low, middle) };
+    }
+    Ok(low)
+}
+
+fn write_gp(f: u8, capacity: u8, delta: u64, out: &mut [u8]) -> Result<usize, Refusal> {
+    told_right(f, capacity)?;
+    out[..4].copy_from_slice(&[b'G', b'P', f, capacity]);
+    out[4..GP].copy_from_slice(&delta.to_le_bytes());
+    Ok(GP)
+}
+
+fn write_ck(clock: u64, out: &mut [u8]) -> Result<usize, Refusal> {
+    out[..2].copy_from_slice(b"CK");
+    out[2..CK].copy_from_slice(&clock.to_le_bytes());
+    Ok(CK)
+}
+
+fn write_message(group: Group, message: &Message, out: &mut [u8]) -> Result<usize, Refusal> {
+    match message {
+        Message::Prepare(tx) => stobbarel::write_pr(tx, out),
+        Message::Log(tx, list) => stobbarel::write_lg(group, tx, list, out),
+        Message::Decide(tx, list) => stobbarel::write_dc(group, tx, list, out),
+        Message::Read(key, stamp) => stobbarel::write_rd(*key, *stamp, out),
+        Message::Invoke(tx, views) => stobbarel::write_iv(group, tx, views, out),
+        Message::Lead(tx, election) => stobbarel::write_ld(group, tx, election, out),
+    }
+}
+
+/// The record's bytes, or the writer's refusal.
+pub fn write(group: Group, record: &Record) -> Result<Vec<u8>, Refusal> {
+    let mut buffer = [0; LONGEST];
+    let out = &mut buffer[..];
+    let length = match record {
+        Record::Gp { f, capacity, delta } => write_gp(*f, *capacity, *delta, out),
+        Record::Ck(clock) => write_ck(*clock, out),
+        Record::Message(message) => write_message(group, message, out),
+        Record::Tx(tx) => write_tx(tx, out),
+        Record::Vl(list) => stobbarel::write_vl(group, list, out),
+        Record::Vs(views) => stobbarel::write_vs(group, views, out),
+        Record::El(election) => stobbarel::write_el(group, election, out),
+    }?;
+    Ok(buffer[..length].to_vec())
+}
+
+/// The group of the records behind this one: a GP tells it.
+pub fn group_behind(group: Group, record: &Record) -> Group {
+    match record {
+        Record::Gp { f, .. } => Group::of((*f).into()).unwrap_or(group),
+        _ => group,
+    }
+}
