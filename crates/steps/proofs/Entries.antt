@@ -1,5 +1,5 @@
 -- The rules of an entry, one law for each outcome as the code has it.
-use Prim.Native.Nat.{ℕ}
+use Prim.Native.Nat.{ℕ, _+_}
 use mathlib.Core.Path.{_≡_, refl, sym}
 use mathlib.Core.List.{List, []}
 use mathlib.Core.Bool.{Bool, true, false}
@@ -15,14 +15,16 @@ use Rattle.rules.specs.declared.Reason.{Reason}
 use Rattle.rules.specs.declared.Log.the-variants.{None as unlogged, Is as logged}
 use Rattle.rules.specs.declared.Settled.the-variants.{None as unsettled, Is as settled}
 use Rattle.rules.specs.declared.Told.{Told}
+use Rattle.rules.specs.declared.Visited.the-variants.{None as unvisited}
 use Rattle.rules.specs.declared.Vote.{Vote}
 use Rattle.rules.specs.declared.Vote.the-variants.{None as unvoted, Commit as voteCommit, Abort as voteAbort, Waiting as waiting}
 use Rattle.rules.specs.Answers.{View, viewAs}
-use Rattle.rules.specs.Bodies.{Body}
+use Rattle.rules.specs.Bodies.{Body, stampOf}
 use Rattle.rules.specs.Lists.{decisionOf, forLogging}
 use Rattle.rules.specs.Table.{Entry, Box, boxWith}
 use Rattle.rules.specs.Tests.{firstVote, waitingRule, status}
 use Rattle.rules.specs.Calls.{refuse, isFull, roomFor, needing, sameDecision, castAct, prByVote, prByDecision, prByEntry, firstLog, lgByLog, lgByDecision, lgByEntry, decideAct, dcSame, dcByEntry}
+use Rattle.rules.specs.Visits.{lookUp, waitingVisits, testVisits, firstVisits, againVisits, newLast}
 use Rattle.table.specs.declared.State.{State}
 use Rattle.table.specs.Table.{entryWith, stateIn}
 use Rattle.steps.specs.declared.Held.the-variants.{Not, Same}
@@ -35,10 +37,10 @@ module _ (i : ℕ) (told : Told) (es : List Entry) (marks : List ℕ) (b : Body)
     unfolding prBy prByEntry roomFor isFull stepBy changeBy
     pr-full h = rw (l, h)
 
-    pub pr-room : leb (told .capacity) n ≡ false → (v : Vote) → v ≡ firstVote told (boxWith es marks) b
-        → castStep i unlogged (viewAs 0) v ≡ prBy i told (boxWith es marks) b Not
-    unfolding prBy prByEntry roomFor isFull castAct stepBy changeBy stateIn
-    pr-room h v w = rw (l, h, w)
+    pub pr-room : leb (told .capacity) n ≡ false → (v : Vote) (o k : ℕ) → v ≡ firstVote told (boxWith es marks) b → o ≡ lookUp (stampOf b) es
+        → k ≡ testVisits told (boxWith es marks) b (newLast b es) → castStep i unlogged (viewAs 0) v (o + k) ≡ prBy i told (boxWith es marks) b Not
+    unfolding prBy prByEntry roomFor isFull castAct stepBy changeBy stateIn firstVisits
+    pr-room h v o k w p q = rw (l, h, w, p, q)
 
   module _ (e : State) where
     pub pr-decided : (d : Decision) → e .decided ≡ settled d → kept (Decided d) ≡ prBy i told (boxWith es marks) b (Same e)
@@ -49,23 +51,24 @@ module _ (i : ℕ) (told : Told) (es : List Entry) (marks : List ℕ) (b : Body)
     unfolding prBy prByDecision entryWith
     pr-open h = rw h
 
-    pub pr-commit : e .vote ≡ voteCommit → kept (Voted (e .vote)) ≡ stepBy i (prByVote told (boxWith es marks) b (entryWith b e) (e .vote))
+    pub pr-commit : e .vote ≡ voteCommit → kept (Voted (e .vote) unvisited) ≡ stepBy i (prByVote told (boxWith es marks) b (entryWith b e) (e .vote))
     unfolding prByVote stepBy changeBy
     pr-commit h = rw h
 
-    pub pr-abort : (r : Reason) → e .vote ≡ voteAbort r → kept (Voted (e .vote)) ≡ stepBy i (prByVote told (boxWith es marks) b (entryWith b e) (e .vote))
+    pub pr-abort : (r : Reason) → e .vote ≡ voteAbort r → kept (Voted (e .vote) unvisited) ≡ stepBy i (prByVote told (boxWith es marks) b (entryWith b e) (e .vote))
     unfolding prByVote stepBy changeBy
     pr-abort r h = rw h
 
-    pub pr-waiting : (v : Vote) → e .vote ≡ waiting → v ≡ waitingRule (boxWith es []) b
-        → castStep i (e .log) (e .view) v ≡ stepBy i (prByVote told (boxWith es marks) b (entryWith b e) (e .vote))
-    unfolding prByVote castAct stepBy changeBy stateIn entryWith waitingRule status
-    pr-waiting v h w = rw (h, w)
+    pub pr-waiting : (v : Vote) (o k : ℕ) → e .vote ≡ waiting → v ≡ waitingRule (boxWith es []) b → o ≡ lookUp (stampOf b) es → k ≡ waitingVisits es b
+        → castStep i (e .log) (e .view) v (o + k) ≡ stepBy i (prByVote told (boxWith es marks) b (entryWith b e) (e .vote))
+    unfolding prByVote castAct stepBy changeBy stateIn entryWith waitingRule status againVisits
+    pr-waiting v o k h w p q = rw (h, w, p, q)
 
-    pub pr-unvoted : (v : Vote) → e .vote ≡ unvoted → v ≡ firstVote told (boxWith es marks) b
-        → castStep i (e .log) (e .view) v ≡ stepBy i (prByVote told (boxWith es marks) b (entryWith b e) (e .vote))
-    unfolding prByVote castAct stepBy changeBy stateIn entryWith
-    pr-unvoted v h w = rw (h, w)
+    pub pr-unvoted : (v : Vote) (o k : ℕ) → e .vote ≡ unvoted → v ≡ firstVote told (boxWith es marks) b → o ≡ lookUp (stampOf b) es
+        → k ≡ testVisits told (boxWith es marks) b es
+        → castStep i (e .log) (e .view) v (o + k) ≡ stepBy i (prByVote told (boxWith es marks) b (entryWith b e) (e .vote))
+    unfolding prByVote castAct stepBy changeBy stateIn entryWith firstVisits
+    pr-unvoted v o k h w p q = rw (h, w, p, q)
 
 -- ---- LG
 module _ (i : ℕ) (told : Told) (x : Box) (b : Body) (l : Vl) where

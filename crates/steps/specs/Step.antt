@@ -15,12 +15,14 @@ use Rattle.rules.specs.declared.Log.{Log}
 use Rattle.rules.specs.declared.Log.the-variants.{None as unlogged}
 use Rattle.rules.specs.declared.Settled.the-variants.{None as unsettled}
 use Rattle.rules.specs.declared.Told.{Told}
+use Rattle.rules.specs.declared.Visited.the-variants.{Is as visited}
 use Rattle.rules.specs.declared.Vote.{Vote}
 use Rattle.rules.specs.declared.Vote.the-variants.{None as unvoted}
 use Rattle.rules.specs.Answers.{viewAs}
 use Rattle.rules.specs.Bodies.{Body, sameBody, stampOf}
 use Rattle.rules.specs.Table.{Entry, Box, boxWith, find, logIn, viewIn, voteIn}
 use Rattle.rules.specs.Calls.{Act, Change, nothing, puts, raises, prByEntry, prByDecision, lgByEntry, lgByDecision, dcSame, dcOther, dcByEntry}
+use Rattle.rules.specs.Visits.{lookUp}
 use Rattle.rules.specs.Fallback.{ivByDecision, ldByDecision, ldByEntry}
 use Rattle.table.specs.declared.State.{State}
 use Rattle.table.specs.Table.{entryWith, stateIn, place}
@@ -47,17 +49,17 @@ kept a = record { answer = a; change = Nothing }
 abbrev pub put : ℕ → State → Answer → Step
 put i e a = record { answer = a; change = Put i e }
 
--- a vote is cast and stored, log and view stay
-abbrev pub castStep : ℕ → Log → View → Vote → Step
-castStep i log view v = put i (record { vote = v; log = log; view = view; decided = unsettled }) (Voted v)
+-- a vote is cast and stored, log and view stay; n entries were visited
+abbrev pub castStep : ℕ → Log → View → Vote → ℕ → Step
+castStep i log view v n = put i (record { vote = v; log = log; view = view; decided = unsettled }) (Voted v (visited n))
 
--- ---- look-up: what is held under the stamp of a body, and its place
+-- ---- look-up: what is held under the stamp of a body, its place, and the entries visited
 abbrev pub heldBy : Body → Option Entry → Held
 heldBy b none = Not
 heldBy b (some e) = pick (sameBody (e .body) b) (Same (stateIn e)) (Other (stateIn e))
 
 unfoldable pub lookOf : List Entry → Body → Look
-lookOf es b = record { place = place (stampOf b) es; held = heldBy b (find (stampOf b) es) }
+lookOf es b = record { place = place (stampOf b) es; held = heldBy b (find (stampOf b) es); visited = lookUp (stampOf b) es }
 
 -- ---- the rules by what is held
 unfoldable pub prBy : ℕ → Told → Box → Body → Held → Step

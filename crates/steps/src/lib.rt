@@ -20,6 +20,7 @@ ghost use Rattle.rules.specs.Bodies.{Body, stampOf};
 ghost use Rattle.rules.specs.Lists.{decisionOf, kindOf, forLogging, forProof, tally, lacking};
 ghost use Rattle.rules.specs.Table.{Box, Entry, boxWith, voteIn, viewIn};
 ghost use Rattle.rules.specs.Calls.{needing, refuse, sameDecision, prByVote, prRule, firstLog, lgByLog, lgRule, decideAct, dcSame, dcOther, dcByEntry, dcRule, rdRule};
+ghost use Rattle.rules.specs.Visits.{lookUp};
 ghost use Rattle.rules.specs.Fallback.{reach, reached, nextView, ivByLog, ivRule, oneView, leads, takeAct, ledAct, ldRule};
 ghost use Rattle.terms.specs.declared.Decision.the-variants.{Commit as commit};
 ghost use Rattle.table.specs.Table.{Wf, WfRow, entryOf, entryWith, entries, place};
@@ -31,6 +32,7 @@ use rules::Answer;
 use rules::Log;
 use rules::Settled;
 use rules::Told;
+use rules::Visited;
 use rules::Vote;
 use table::State;
 use terms::Decision;
@@ -192,10 +194,11 @@ pub enum Held {
     Other(State),
 }
 
-// That, and its place: behind the last where nothing is held.
+// That, its place, behind the last where nothing is held, and how many entries were gone through.
 pub struct Look {
     pub place: usize,
     pub held: Held,
+    pub visited: usize,
 }
 
 // A row of the message's stamp: whose body it holds.
@@ -217,11 +220,16 @@ fn look_up(t: &[u8], n: usize, b: &[u8]) -> Look
     let place = table::place(t, n, table::stamp_of(b));
     if place < n {
         let held = held_in(table::row(t, place), b);
-        return Look { place, held };
+        return Look {
+            place,
+            held,
+            visited: place + 1,
+        };
     }
     Look {
         place,
         held: Held::Not,
+        visited: n,
     }
 }
 
@@ -234,9 +242,9 @@ fn is_full(n: usize, told: Told) -> bool
 
 // ---- PR
 
-// The vote is stored and answered; log and view stay.
-fn cast(i: usize, log: Log, view: View, v: Vote) -> Step
-    ensures { λ r. ⌜ r ≡ castStep i log view v ⌝ }
+// The vote is stored and answered, with the entries visited; log and view stay.
+fn cast(i: usize, log: Log, view: View, v: Vote, visited: usize) -> Step
+    ensures { λ r. ⌜ r ≡ castStep i log view v visited ⌝ }
 {
     let state = State {
         vote: v,
@@ -244,50 +252,76 @@ fn cast(i: usize, log: Log, view: View, v: Vote) -> Step
         view,
         decided: Settled::None,
     };
-    Step::put(i, state, Answer::Voted(v))
+    Step::put(i, state, Answer::Voted(v, Visited::Is(visited)))
 }
 
-// Not held: 13, else the tests.
-fn pr_new(t: &[u8], n: usize, marks: &[u64], told: Told, b: &[u8], i: usize) -> Step
-    requires { ⌜ Wf (now t) n × TxThere (now b) ⌝ }
+// Not held: 13, else the tests. `own` entries were visited by the own look-up.
+fn pr_new(t: &[u8], n: usize, marks: &[u64], told: Told, b: &[u8], i: usize, own: usize) -> Step
+    requires { ⌜ Wf (now t) n × TxThere (now b) × (own ≡ lookUp (stampOf (now b)) (entries (now t) n)) ⌝ }
     ensures { λ r. ⌜ r ≡ prBy i told (boxWith (entries (now (t .entry)) n) (now (marks .entry))) (now (b .entry)) Not ⌝ }
 {
     if is_full(n, told) {
         return Step::refuse(Refusal::Full);
     }
-    cast(
-        i,
-        Log::None,
-        View(0),
-        scans::first_vote(t, n, marks, b, told),
-    )
+    let first = scans::first_vote(t, n, marks, b, told);
+    let vote = first.vote;
+    let visited = own + first.visited;
+    cast(i, Log::None, View(0), vote, visited)
 }
 
 // Vote cast: the same vote again. Waiting: the waiting rule. None: the tests as if new, in its place.
-fn pr_undecided(t: &[u8], n: usize, marks: &[u64], told: Told, b: &[u8], i: usize, e: State) -> Step
-    requires { ⌜ Wf (now t) n × TxThere (now b) ⌝ }
+fn pr_undecided(
+    t: &[u8],
+    n: usize,
+    marks: &[u64],
+    told: Told,
+    b: &[u8],
+    i: usize,
+    own: usize,
+    e: State,
+) -> Step
+    requires { ⌜ Wf (now t) n × TxThere (now b) × (own ≡ lookUp (stampOf (now b)) (entries (now t) n)) ⌝ }
     ensures { λ r. ⌜ r ≡ stepBy i (prByVote told (boxWith (entries (now (t .entry)) n) (now (marks .entry))) (now (b .entry)) (entryWith (now (b .entry)) e) (e .vote)) ⌝ }
 {
     let log = e.log;
     let view = e.view;
     let vote = e.vote;
     match vote {
-        Vote::Commit => Step::keep(Answer::Voted(vote)),
-        Vote::Abort(_) => Step::keep(Answer::Voted(vote)),
-        Vote::Waiting => cast(i, log, view, scans::waiting_rule(t, n, b)),
-        Vote::None => cast(i, log, view, scans::first_vote(t, n, marks, b, told)),
+        Vote::Commit => Step::keep(Answer::Voted(vote, Visited::None)),
+        Vote::Abort(_) => Step::keep(Answer::Voted(vote, Visited::None)),
+        Vote::Waiting => {
+            let again = scans::waiting_rule(t, n, b);
+            let v = again.vote;
+            let visited = own + again.visited;
+            cast(i, log, view, v, visited)
+        }
+        Vote::None => {
+            let first = scans::first_vote(t, n, marks, b, told);
+            let v = first.vote;
+            let visited = own + first.visited;
+            cast(i, log, view, v, visited)
+        }
     }
 }
 
 // Held with this body. Decided: Decided.
-fn pr_held(t: &[u8], n: usize, marks: &[u64], told: Told, b: &[u8], i: usize, e: State) -> Step
-    requires { ⌜ Wf (now t) n × TxThere (now b) ⌝ }
+fn pr_held(
+    t: &[u8],
+    n: usize,
+    marks: &[u64],
+    told: Told,
+    b: &[u8],
+    i: usize,
+    own: usize,
+    e: State,
+) -> Step
+    requires { ⌜ Wf (now t) n × TxThere (now b) × (own ≡ lookUp (stampOf (now b)) (entries (now t) n)) ⌝ }
     ensures { λ r. ⌜ r ≡ prBy i told (boxWith (entries (now (t .entry)) n) (now (marks .entry))) (now (b .entry)) (Same e) ⌝ }
 {
     let decided = e.decided;
     match decided {
         Settled::Is(d) => Step::keep(Answer::Decided(d)),
-        Settled::None => pr_undecided(t, n, marks, told, b, i, e),
+        Settled::None => pr_undecided(t, n, marks, told, b, i, own, e),
     }
 }
 
@@ -298,10 +332,11 @@ pub fn pr_step(t: &[u8], n: usize, marks: &[u64], told: Told, b: &[u8]) -> Step
 {
     let look = look_up(t, n, b);
     let i = look.place;
+    let own = look.visited;
     let held = look.held;
     match held {
-        Held::Not => pr_new(t, n, marks, told, b, i),
-        Held::Same(e) => pr_held(t, n, marks, told, b, i, e),
+        Held::Not => pr_new(t, n, marks, told, b, i, own),
+        Held::Same(e) => pr_held(t, n, marks, told, b, i, own, e),
         Held::Other(_) => Step::refuse(Refusal::OtherBody),
     }
 }

@@ -23,6 +23,9 @@ row-requires c κs = search needs
 held-in-requires : tie.Need-held-in-requires
 held-in-requires c κs = rw (c .row .ensures .0) (c .before .before .before .before .before .before .pre .0 .rows (c .before .before .place .result) (c .before .if1 .taken))
 
+add-t9 : tie.Need-add-t9
+add-t9 c = search needs
+
 returns : tie.Need-returns
 returns c = (look-held _ _ _ _ (rw (c .before .before .before .before .stamp-of .ensures) at (c .before .before .before .place .ensures .0)) (c .before .before .if1 .taken) _ (c .before .row .ensures .0) _ (c .held-in .ensures), c .before .before .before .place .ensures .1)
 
@@ -32,4 +35,4 @@ returns-2 c = (look-none _ _ _ _ (rw (c .before .before .stamp-of .ensures) at (
 pub look-up-spec : {M : Type 1} → statement M
 look-up-spec =
     tie.close
-    (tie.spec stamp-of-requires place-requires row-requires held-in-requires returns returns-2)
+    (tie.spec stamp-of-requires place-requires row-requires held-in-requires add-t9 returns returns-2)

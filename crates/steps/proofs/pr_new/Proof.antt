@@ -1,16 +1,12 @@
-use mathlib.Core.Path.{sym, _∙_, ap}
+use mathlib.Core.Path.{sym, _∙_}
 use Rattle.terms.proofs.Scans.{tab-length}
+use Rattle.rules.specs.Bodies.{stampOf}
 use Rattle.steps.proofs.Entries.{pr-full, pr-room}
+use Rattle.steps.proofs.Looking.{own-most}
 use native.Mathlib.Omega.{arith}
 use borrow.Author.Needs.{needs}
 use Rattle.steps.proofs.pr_new.Statement.{statement}
 use Rattle.steps.proofs.pr_new.Tie as tie
-use Rattle.steps.proofs.pr_new.Reads as reads
-use Rattle.steps.proofs.pr_new.Lts as lts
-use Rattle.scans.proofs.first_vote.Reads as first-vote-reads
-use Rattle.steps.proofs.Step.refuse.Reads as refuse-reads
-use Rattle.steps.proofs.cast.Reads as cast-reads
-use Rattle.steps.proofs.is_full.Reads as is-full-reads
 
 is-full-requires : tie.Need-is-full-requires
 is-full-requires c κs = search needs
@@ -24,13 +20,23 @@ returns c = c .refuse .ensures ∙ pr-full _ _ _ _ _ _ (tab-length _ _ _) (sym (
 first-vote-requires : tie.Need-first-vote-requires
 first-vote-requires c κs = search needs
 
+add-visited : tie.Need-add-visited
+add-visited c = let s = c .before .before .before .before .before .before .before in let r = s .pre .0 .room in let o = own-most (s .args .t .now) (s .args .n) (stampOf (s .args .b .now)) (s .args .own) (s .pre .2) in let k = c .before .first-vote .ensures .3 in omega arith
+
 cast-requires : tie.Need-cast-requires
 cast-requires c κs = search needs
 
 returns-2 : tie.Need-returns-2
-returns-2 c = c .cast .ensures ∙ pr-room _ _ _ _ _ _ (tab-length _ _ _) (sym (c .before .before .before .is-full .ensures) ∙ c .before .before .if1 .left) _ (c .before .first-vote .ensures)
+returns-2 c = c .cast .ensures ∙ pr-room _ _ _ _ _ _ (tab-length _ _ _) (sym (c .before .before .before .before .is-full .ensures) ∙ c .before .before .before .if1 .left) _ _ _ (c .before .before .first-vote .ensures .0) (c .before .before .before .before .before .before .before .before .pre .2) (c .before .before .first-vote .ensures .1)
 
 pub pr-new-spec : {M : Type 1} → statement M
 pr-new-spec =
     tie.close
-    (tie.spec is-full-requires refuse-requires returns first-vote-requires cast-requires returns-2)
+    (tie.spec
+    is-full-requires
+    refuse-requires
+    returns
+    first-vote-requires
+    add-visited
+    cast-requires
+    returns-2)

@@ -1,6 +1,7 @@
 use mathlib.Core.Path.{sym, _∙_, ap}
 use Rattle.steps.specs.Step.{prBy}
 use Rattle.steps.proofs.Rules.{pr-looked}
+use Rattle.steps.proofs.Looking.{own-visits}
 use native.Mathlib.Omega.{arith}
 use borrow.Author.Needs.{needs}
 use Rattle.steps.proofs.pr_step.Statement.{statement}
@@ -19,13 +20,13 @@ enum-told : tie.Need-enum-told
 enum-told c = search needs
 
 pr-new-requires : tie.Need-pr-new-requires
-pr-new-requires c κs = search needs
+pr-new-requires c κs = (c .before .before .before .before .before .before .pre .0, c .before .before .before .before .before .before .pre .1, own-visits _ _ _ (c .before .before .look-up .ensures .0))
 
 enum-known-held : tie.Need-enum-known-held
 enum-known-held c = search needs
 
 pr-held-requires : tie.Need-pr-held-requires
-pr-held-requires c κs = search needs
+pr-held-requires c κs = (c .before .before .before .before .before .before .before .pre .0, c .before .before .before .before .before .before .before .pre .1, own-visits _ _ _ (c .before .before .before .look-up .ensures .0))
 
 enum-told-2 : tie.Need-enum-told-2
 enum-told-2 c = search needs
