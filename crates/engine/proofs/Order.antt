@@ -24,7 +24,7 @@ use Rattle.rules.specs.Answers.{apartFromNumber}
 use Rattle.rules.specs.Order.{Call, IsDC, NeedsNew, Room, next, reply, same, stampIn}
 use Rattle.rules.proofs.Room.{FitsBy, FitsIn, Fit, act-fits, never-overfull}
 use Rattle.rules.proofs.Reordered.{length-same}
-use Rattle.rules.proofs.Twins.{Twins, act-twins, after-twins}
+use Rattle.rules.proofs.Twins.{Twins, after-twins, answer-twins}
 use Rattle.rules.proofs.Order.{act-after, grows, longer, one-refused, twins}
 use Rattle.table.specs.Table.{countOf, entriesOf, headLen, newRow, place, rowAt, rowBad, rowLen, stateIn, stored, tableLen, tableWrong}
 use Rattle.table.specs.declared.State.{State}
@@ -258,16 +258,17 @@ module _ {x y : Kept} (k : Kin x y) (c : Call) where
   unfolding lentWrong
   kin-lent = ap (orElse (toldWrong (c .told))) (wrong-by (c .told .capacity) (x .table) (y .table) (k .long) kin-count (k .bad))
 
-  kin-reply : replyBy x c ≡ replyBy y c
+  kin-reply : apartFromNumber (replyBy x c) ≡ apartFromNumber (replyBy y c)
   unfolding replyBy
   kin-reply = by (lentWrong (c .told) (x .table)) refl
     where
-      by : (n : ℕ) → lentWrong (c .told) (x .table) ≡ n → actBy x c .answer ≡ actBy y c .answer
+      by : (n : ℕ) → lentWrong (c .told) (x .table) ≡ n → apartFromNumber (actBy x c .answer) ≡ apartFromNumber (actBy y c .answer)
       by zero e =
-          ap (λ (a : Act). a .answer)
-          (as-rules x c e ∙ act-twins (k .twins) (c .entry) (c .told) (c .message) ∙ sym (as-rules y c (sym kin-lent ∙ e)))
+          ap (λ (a : Act). apartFromNumber (a .answer)) (as-rules x c e)
+          ∙ answer-twins (k .twins) (c .entry) (c .told) (c .message)
+          ∙ ap (λ (a : Act). apartFromNumber (a .answer)) (sym (as-rules y c (sym kin-lent ∙ e)))
       by (suc n) e =
-          ap (λ (a : Act). a .answer)
+          ap (λ (a : Act). apartFromNumber (a .answer))
           (is-refused (c .entry) (c .told) x (c .message) n e ∙ sym (is-refused (c .entry) (c .told) y (c .message) n (sym kin-lent ∙ e)))
 
   kin-next : Kin (nextBy x c) (nextBy y c)
@@ -287,7 +288,7 @@ module _ {x y : Kept} (k : Kin x y) (c : Call) where
 kin-replies : (x y : Kept) → Kin x y → (cs : List Call) → repliesBy x cs ≡ repliesBy y cs
 unfolding repliesBy
 kin-replies x y k [] = refl
-kin-replies x y k (c ∷ cs) = λ i. apartFromNumber (kin-reply k c i) ∷ kin-replies _ _ (kin-next k c) cs i
+kin-replies x y k (c ∷ cs) = λ i. kin-reply k c i ∷ kin-replies _ _ (kin-next k c) cs i
 
 -- ---- both, in either order
 crossed : (x : Kept) (p q : Call) → IsDC p → IsDC q → (stampIn p ≡ stampIn q → ⊥) → RoomBy x p q → RoomBy x q p
