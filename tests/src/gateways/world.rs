@@ -332,10 +332,8 @@ impl World {
 
     pub fn run_until(&mut self, until: u64, done: impl Fn(&World) -> bool) -> bool {
         let mut events = 0u64;
-        while let Some(((time, _), event)) = self.queue.pop_first() {
-            if time > until || self.wrong.is_some() {
-                break;
-            }
+        while self.queue.first_key_value().is_some_and(|((time, _), _)| *time <= until) && self.wrong.is_none() {
+            let Some(((time, _), event)) = self.queue.pop_first() else { break };
             self.now = time;
             match event {
                 Event::Mail { from, to: Party::Box(number), depth, mail } => self.at_box(number, from, depth, mail),
