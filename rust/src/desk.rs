@@ -256,7 +256,7 @@ impl Desk {
             }
         }
         if let Some(vote) = holding.vote {
-            out.extend(self.hear(from, &holding.body, Answer::Voted(vote), None, now));
+            out.extend(self.hear(from, &holding.body, Answer::Voted(vote, None), None, now));
         }
         if let Some((decision, view)) = holding.logged {
             out.extend(self.hear(from, &holding.body, Answer::Logged(decision, view), None, now));

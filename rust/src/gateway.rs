@@ -138,7 +138,7 @@ impl Gateway {
         }
         let (bit, mut out) = (1 << from, vec![]);
         match answer {
-            Answer::Voted(vote) => self.voted(from, vote),
+            Answer::Voted(vote, _) => self.voted(from, vote),
             Answer::Logged(decision, view) => out = self.logged(from, decision, view),
             Answer::Elected { view, .. } => self.elected(from, view),
             Answer::Decided(_) => {

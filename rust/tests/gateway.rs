@@ -210,9 +210,9 @@ fn what_is_handed_over_is_judged() {
         assert_eq!(gateway.outcome(), None);
     }
     // nor is a box that is none, nor a second vote of one
-    assert!(gateway.hear(6, Answer::Voted(Vote::Commit), None, 1).is_empty());
+    assert!(gateway.hear(6, Answer::Voted(Vote::Commit, Some(0)), None, 1).is_empty());
     for _ in 0..9 {
-        gateway.hear(0, Answer::Voted(Vote::Abort(Reason::ReadMark)), None, 1);
+        gateway.hear(0, Answer::Voted(Vote::Abort(Reason::ReadMark), Some(0)), None, 1);
     }
     assert_eq!(gateway.outcome(), None);
 }
@@ -227,7 +227,7 @@ fn a_body_is_taken_up_with_its_writers_signature_or_from_two_boxes() {
     desk.care(own.clone(), 0).unwrap();
     // nothing was asked yet
     assert!(desk.told(0, &way, &[Holding { signed: true, ..unsigned(&left) }], 1).is_empty());
-    desk.hear(0, &body(&own), Answer::Voted(Vote::Waiting), None, 1);
+    desk.hear(0, &body(&own), Answer::Voted(Vote::Waiting, Some(2)), None, 1);
     desk.tick(10);
     assert!(desk.told(0, &way, &[unsigned(&left)], 11).is_empty());
     assert!(desk.told(0, &way, &[unsigned(&left), unsigned(&left)], 11).is_empty());

@@ -2,7 +2,7 @@
 
 use crate::messages::{iv, ld, pr, rd, tx, with_list, with_view};
 use crate::mix;
-use crate::model::{self, Answer, Decision, Election, Kind, Settings, MARKS};
+use crate::model::{self, Answer, Decision, Election, Kind, Settings, Vote, MARKS};
 use crate::random::Random;
 use std::collections::BTreeMap;
 use std::io::Write;
@@ -29,13 +29,13 @@ pub fn eight(bytes: &[u8]) -> u64 {
     u64::from_le_bytes(bytes.try_into().expect("eight bytes"))
 }
 
-/// The bench's words for an answer.
+/// The bench's words for an answer; it does not print A6's number.
 pub fn words(answer: Answer) -> String {
     let decided = |decision| if decision == Decision::Commit { "commit" } else { "abort" };
     match answer {
-        Answer::Commit => "commit".into(),
-        Answer::Abort(reason) => format!("abort {reason}"),
-        Answer::Wait => "wait".into(),
+        Answer::Voted(Vote::Commit, _) => "commit".into(),
+        Answer::Voted(Vote::Abort(reason), _) => format!("abort {reason}"),
+        Answer::Voted(..) => "wait".into(),
         Answer::Decided(decision) => format!("decided {}", decided(decision)),
         Answer::Logged(decision, view) => format!("logged {} {view}", decided(decision)),
         Answer::Elected { decision, view, leader } => format!("elect {} {view} {leader}", decided(decision)),

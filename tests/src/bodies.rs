@@ -2,7 +2,7 @@
 //! alone; in their length, the longer one's end standing in the row behind the shorter. A comparison of a prefix, or of some fields, would take them for one.
 
 use crate::engine::{self, Entrance};
-use crate::model::{self, Answer, Decision, Settings};
+use crate::model::{self, Answer, Decision, Settings, Vote};
 use stobbarel::layout::{table_len, BODY_AT, HEAD};
 
 /// A TX's mark, counts and stamp.
@@ -59,9 +59,10 @@ impl Pair {
         by_engine.filter(|answer| *answer == by_model && self.engine == self.model)
     }
 
+    /// Apart from A6's number, in which engine and model agree.
     fn due(&mut self, what: &str, parts: &[&[u8]], due: Answer) {
         let given = self.call(parts);
-        if given != Some(due) {
+        if given.map(Answer::apart_from_number) != Some(due.apart_from_number()) {
             self.wrong += 1;
             println!("{what}: {due:?} is due, and engine and model give {given:?}; {parts:02x?}");
         }
@@ -78,7 +79,7 @@ impl Pair {
 /// How many answers are wrong where `held` is held and `other` comes.
 fn beside(held: &[u8], other: &[u8]) -> u64 {
     let mut pair = Pair::new();
-    let Some(vote @ (Answer::Commit | Answer::Abort(_))) = pair.call(&[b"PR", held]) else {
+    let Some(vote @ Answer::Voted(Vote::Commit | Vote::Abort(_), Some(_))) = pair.call(&[b"PR", held]) else {
         println!("no vote on {held:02x?}");
         return 1;
     };

@@ -5,7 +5,7 @@ use crate::cluster::{self, Counts, Plan};
 use crate::compare::{first_difference, first_difference_in_ballots, first_difference_in_tally};
 use crate::engine::Entrance;
 use crate::member::{Engine, Member, Model};
-use crate::model::{self, row_at, Answer, Decision, Election, ElectionReply, ElectionSheet, Holding, Reply, Rule, Rules, Settings, Sheet, ViewSheet, PAPER};
+use crate::model::{self, row_at, Answer, Decision, Election, ElectionReply, ElectionSheet, Holding, Reply, Rule, Rules, Settings, Sheet, ViewSheet, Vote, PAPER};
 use crate::order;
 use crate::records;
 use stobbarel::layout::{BODY_AT, HEAD, REASON_AT, ROW, VOTE_AT};
@@ -275,7 +275,7 @@ impl Member for Bad {
         match self {
             Bad::RefusesAll => Ok(Answer::Refused(13)),
             Bad::VotesCommit => Ok(match properly(table, marks)? {
-                Answer::Abort(_) | Answer::Wait => commit_instead(table, message),
+                Answer::Voted(Vote::Abort(_) | Vote::Waiting, visited) => commit_instead(table, message, visited),
                 other => other,
             }),
             Bad::StoresNothing => properly(&mut table.clone(), &mut marks.clone()),
@@ -406,11 +406,11 @@ impl Bad {
 }
 
 /// The vote on the message's transaction becomes commit, in the table too.
-fn commit_instead(table: &mut [u8], message: &[u8]) -> Answer {
+fn commit_instead(table: &mut [u8], message: &[u8], visited: Option<u64>) -> Answer {
     let stamp = BODY_AT + 4..BODY_AT + 12;
     let row = table[HEAD..].chunks_mut(ROW).find(|row| row[stamp.clone()] == message[6..14]).expect("a vote was stored");
     (row[VOTE_AT], row[REASON_AT]) = (1, 0);
-    Answer::Commit
+    Answer::Voted(Vote::Commit, visited)
 }
 
 /// A box, and whether the comparison must refuse it.
@@ -434,6 +434,28 @@ const ORDER: [(&str, Rule); 4] = [
 
 /// Boxes that are wrong, but whose answers do not go by the order of entries with different stamps.
 const ORDERLY: [(&str, Rule); 2] = [("RD takes the last among equals", Rule::FirstAmongEquals), ("a look-up takes the last of a stamp", Rule::FirstOfAStamp)];
+
+/// A6: boxes that vote as they should, and count otherwise.
+const COUNTING: [(&str, Rule); 7] = [
+    ("the entry found is not counted", Rule::FoundCounts),
+    ("the look-up of the own stamp is not counted", Rule::OwnCounts),
+    ("tests 3 and 4 do not count dead entries", Rule::DeadCount),
+    ("tests 3 and 4 go row by row", Rule::KeyByKey),
+    ("what stands behind a failing test is counted", Rule::EndsThere),
+    ("the waiting rule stops at the first that gives 6", Rule::EveryVersion),
+    ("a number beside the same vote again", Rule::NoNumberAgain),
+];
+
+/// The comparison has to notice each of them, and but for the number it is the paper's box, by which no order of decisions shows.
+fn counting(seed: u64) -> bool {
+    let mut passed = true;
+    for (what, rule) in &COUNTING {
+        let broken = std::slice::from_ref(rule);
+        passed &= compared(what, Model(Rules { broken }), seed, true);
+        passed &= ordered(what, &mut Model(Rules { broken }), seed, false);
+    }
+    passed
+}
 
 /// A box, and whether two decisions in both orders must show it.
 fn ordered(what: &str, one: &mut dyn Member, seed: u64, wrong: bool) -> bool {
@@ -503,6 +525,7 @@ pub fn check(most: u64, seed: u64) -> bool {
     passed &= compared("a box that tells the current view for the log's", Bad::HoldsOneView, seed, true);
     passed &= compared("the engine", Engine, seed, false);
     passed &= either_order(seed);
+    passed &= counting(seed);
     println!("{}", if passed { "each broken rule and each bad box was noticed" } else { "FAILED" });
     passed
 }

@@ -13,7 +13,7 @@ use crate::engine::Entrance;
 use crate::judge::{Judge, Word};
 use crate::member::Member;
 use crate::messages::{code, iv, ld, pr, rd, transaction, with_view};
-use crate::model::{Answer, Decision, Election, ElectionSheet, Kind, Reply, Rules, Settings, Sheet, Transaction, ViewSheet, PAPER};
+use crate::model::{Answer, Decision, Election, ElectionSheet, Kind, Reply, Rules, Settings, Sheet, Transaction, ViewSheet, Vote, PAPER};
 use crate::random::Random;
 use fallback::{Lie, Told};
 use std::collections::{BTreeMap, VecDeque};
@@ -1065,9 +1065,9 @@ impl Cluster<'_> {
         let body = self.gateways[letter.from].body;
         let stamp = self.judge.bodies[body].tx.stamp;
         match answer {
-            Answer::Commit => self.voted(letter, Decision::Commit, 0),
-            Answer::Abort(reason) => self.voted(letter, Decision::Abort, reason),
-            Answer::Wait => {
+            Answer::Voted(Vote::Commit, _) => self.voted(letter, Decision::Commit, 0),
+            Answer::Voted(Vote::Abort(reason), _) => self.voted(letter, Decision::Abort, reason),
+            Answer::Voted(_, _) => {
                 self.counts.count("wait");
                 self.seen[body].waiting |= 1 << letter.to;
                 self.boxes[letter.to].held.insert(stamp, body);

@@ -7,7 +7,7 @@ use crate::holdings::{Asked, HOLDINGS};
 use crate::member::Member;
 use crate::messages::{ld, tx, with_view};
 use crate::mix;
-use crate::model::{self, Answer, Decision, ElectionReply, ElectionSheet, Kind, Reply, Settings, Sheet, ViewSheet, MARKS};
+use crate::model::{self, Answer, Decision, ElectionReply, ElectionSheet, Kind, Reply, Settings, Sheet, ViewSheet, Vote, MARKS};
 use crate::random::Random;
 use std::collections::BTreeMap;
 use stobbarel::layout::{table_len, BODY_AT, HEAD, LOG_AT, LOG_VIEW_AT, ROW};
@@ -60,15 +60,15 @@ const NEVER: &str = "refused 10";
 pub fn name(answer: Answer) -> &'static str {
     let second = |decision| usize::from(decision == Decision::Abort);
     ANSWERS[match answer {
-        Answer::Commit => 0,
-        Answer::Wait => 1,
+        Answer::Voted(Vote::Commit, _) => 0,
+        Answer::Voted(Vote::Abort(reason), _) => 11 + reason as usize,
+        Answer::Voted(..) => 1,
         Answer::Done => 2,
         Answer::Found { .. } => 3,
         Answer::Decided(decision) => 4 + second(decision),
         Answer::Logged(decision, 0) => 6 + second(decision),
         Answer::Logged(decision, _) => 8 + second(decision),
         Answer::Elected { decision, .. } => 10 + second(decision),
-        Answer::Abort(reason) => 11 + reason as usize,
         Answer::TooFew(_) => 17 + 11,
         Answer::Refused(number @ 1..=16) => 17 + number as usize,
         Answer::Refused(number) => 34 + number as usize - 21,
@@ -196,7 +196,7 @@ fn passes(message: &[u8], answer: Answer) -> Option<&'static str> {
 
 /// The message's stamp is held in a row that has a view and no log, and the call stored something there.
 fn beside_no_log(before: &[u8], message: &[u8], answer: Answer) -> Option<&'static str> {
-    let stored = matches!(answer, Answer::Commit | Answer::Abort(_) | Answer::Wait | Answer::Logged(..) | Answer::Done);
+    let stored = matches!(answer, Answer::Voted(..) | Answer::Logged(..) | Answer::Done);
     let row = before.get(HEAD..)?.chunks_exact(ROW).take(before[0].into()).find(|row| message.get(6..14) == Some(&row[BODY_AT + 4..BODY_AT + 12]))?;
     (stored && row[LOG_AT] == 0 && row[LOG_VIEW_AT..LOG_VIEW_AT + 2] != [0, 0]).then_some(CIRCUMSTANCES[28])
 }
@@ -589,6 +589,11 @@ pub fn first_difference_in_ballots(one: &mut dyn Member, count: u64, seed: u64) 
 /// What becomes of a list made from a sheet.
 const SHEET_AND_BOX: [&str; 2] = ["the list of a sheet that has reached the threshold, taken", "the list of a sheet that has not, refused for what the sheet lacks"];
 
+/// What one PR may visit with so many entries held.
+fn bound(held: u64) -> u64 {
+    33 * (held + 1)
+}
+
 /// How often what occurred, and what went wrong.
 #[derive(Default)]
 struct Counts {
@@ -596,6 +601,8 @@ struct Counts {
     entrances: BTreeMap<&'static str, u64>,
     cases: BTreeMap<&'static str, u64>,
     replies: BTreeMap<String, u64>,
+    /// The largest number of entries visited, and how many were held then.
+    most: (u64, u64),
     disagreements: u64,
 }
 
@@ -607,6 +614,16 @@ impl Counts {
         }
     }
 
+    /// A6: "never above 33 x (H + 1)".
+    fn visited(&mut self, before: &[u8], due: Answer) {
+        let Answer::Voted(_, Some(number)) = due else { return };
+        let held = u64::from(before[0]);
+        if number > bound(held) {
+            self.disagreement(format!("{number} entries visited with {held} held, which is above {}", bound(held)));
+        }
+        self.most = self.most.max((number, held));
+    }
+
     fn messages(&mut self, one: &mut dyn Member, random: &mut Random, count: u64) -> u64 {
         let (mut copies, mut met, mut trail) = (Copies::default(), Vec::new(), Trail::default());
         for_each_message(random, count, |call| {
@@ -614,6 +631,7 @@ impl Counts {
             let (due, agreed) = copies.call(one, call, &mut met);
             let agreed = agreed.and_then(|()| Asked::after(&copies.got, how.settings.capacity, how.message).compare(one, &mut met));
             trail.follow(how, &copies.before, due, &mut met);
+            self.visited(&copies.before, due);
             *self.answers.entry(name(due)).or_default() += 1;
             *self.entrances.entry(how.entrance.name()).or_default() += 1;
             met.drain(..).for_each(|case| *self.cases.entry(case).or_default() += 1);
@@ -690,6 +708,9 @@ pub fn check(one: &mut dyn Member, count: u64, seed: u64) -> bool {
     missing += print(&counts.cases, &model::CASES);
     missing += print(&counts.cases, &CIRCUMSTANCES);
     missing += print(&counts.cases, &HOLDINGS);
+    missing += print(&counts.cases, &model::visits::NUMBERS);
+    let (number, held) = counts.most;
+    println!("{number:9}  the most entries that a PR visited, with {held} held; the bound there is {}", bound(held));
     counts.sheets(one, &mut random, count / 4);
     println!("{} answers for tally sheets", count / 4);
     for (reply, times) in &counts.replies {

@@ -79,12 +79,29 @@ fn decision(code: u64) -> Option<Decision> {
     }
 }
 
+/// A vote that was cast.
+fn vote_of(vote: u64, reason: u64) -> Option<Vote> {
+    match (vote, reason) {
+        (1, 0) => Some(Vote::Commit),
+        (2, reason @ 1..=6) => Some(Vote::Abort(reason as u8)),
+        (3, 0) => Some(Vote::Waiting),
+        _ => None,
+    }
+}
+
+/// A number that was told, be it 0, or no number, beside which there is 0.
+fn number_of(told: u64, number: u64) -> Option<Option<u64>> {
+    match (told, number) {
+        (0, 0) => Some(None),
+        (1, number) => Some(Some(number)),
+        _ => None,
+    }
+}
+
 /// The five numbers as an answer; none where they say no answer.
 pub fn answer_of(out: [u64; 5]) -> Option<Answer> {
     match out {
-        [1, 1, 0, 0, 0] => Some(Answer::Commit),
-        [1, 2, reason @ 1..=6, 0, 0] => Some(Answer::Abort(reason as u8)),
-        [1, 3, 0, 0, 0] => Some(Answer::Wait),
+        [1, vote, reason, told, number] => Some(Answer::Voted(vote_of(vote, reason)?, number_of(told, number)?)),
         [2, code, 0, 0, 0] => decision(code).map(Answer::Decided),
         [3, code, view @ 0..=65535, 0, 0] => decision(code).map(|decision| Answer::Logged(decision, view as u16)),
         [4, 0, 0, 0, 0] => Some(Answer::Done),
@@ -151,13 +168,7 @@ pub fn held(table: &[u8], capacity: u64, stamp: u64) -> Result<Option<Holding>, 
 
 /// The eight numbers as what is held; none where they say nothing that can be.
 fn holding_of(table: &[u8], [at, length, vote, reason, decided, logged, logged_in, view]: [u64; 8]) -> Option<Holding> {
-    let vote = match (vote, reason) {
-        (0, 0) => Vote::None,
-        (1, 0) => Vote::Commit,
-        (2, reason @ 1..=6) => Vote::Abort(reason as u8),
-        (3, 0) => Vote::Waiting,
-        _ => return None,
-    };
+    let vote = if (vote, reason) == (0, 0) { Vote::None } else { vote_of(vote, reason)? };
     let settled = |code| if code == 0 { Some(None) } else { decision(code).map(Some) };
     let log = match (settled(logged)?, u16::try_from(logged_in).ok()?) {
         (None, 0) => None,

@@ -27,11 +27,15 @@ use crate::engine::Entrance;
 use crate::judge::{Judge, Word};
 use crate::member::{Engine, Member, Model};
 use crate::messages::{iv, ld, pr, rd, transaction, with_list, with_view};
-use crate::model::{transaction_bytes, Answer, Decision, ElectionReply, ElectionSheet, Kind, Reply, Rule, Rules, Settings, Sheet, Transaction, PAPER};
+use crate::model::{transaction_bytes, Answer, Decision, ElectionReply, ElectionSheet, Kind, Reply, Rule, Rules, Settings, Sheet, Transaction, Vote, PAPER};
 use stobbarel::layout::table_len;
 use stobbarel::{Passage, Report, Seen, Stamp, Values, Version, LONGEST};
 use Decision::{Abort, Commit};
 use Kind::{Logs, Votes};
+
+fn voted(vote: Vote) -> Answer {
+    Answer::Voted(vote, None)
+}
 
 /// Passage 5 owns keys 20 to 23.
 const TRAIN: u16 = 20;
@@ -73,10 +77,11 @@ impl Line<'_> {
         Line { one, boxes: vec![empty; SOUND.len()] }
     }
 
+    /// What a box answers, apart from A6's number.
     fn send(&mut self, number: usize, message: &[u8]) -> Answer {
         let settings = Settings { f: 1, capacity: 8, clock: 100, delta: 10 };
         let (table, marks) = &mut self.boxes[number];
-        self.one.call(Entrance::Receive, table, marks, &settings, message).expect("an answer")
+        self.one.call(Entrance::Receive, table, marks, &settings, message).expect("an answer").apart_from_number()
     }
 
     /// To each sound box in turn.
@@ -96,7 +101,7 @@ impl Line<'_> {
     /// The passage is written and decided.
     fn train_passes(&mut self) {
         let written = transaction_bytes(&passage());
-        assert_eq!(self.send_all(&pr(&written)), [Answer::Commit; 5]);
+        assert_eq!(self.send_all(&pr(&written)), [voted(Vote::Commit); 5]);
         let proof = with_list(b"DC", &written, Votes, Commit, &all(&[0, 1, 2, 3, 4, LIAR], Commit));
         assert_eq!(self.send_all(&proof), [Answer::Done; 5]);
     }
@@ -109,7 +114,7 @@ impl Line<'_> {
             assert_eq!(read, Answer::Found { committed: (EVENING, 238), undecided: (0, 0) });
         }
         let votes = self.send_all(&pr(&transaction_bytes(&correction())));
-        assert_eq!(votes, [Answer::Commit, Answer::Commit, Answer::Commit, Answer::Abort(5), Answer::Abort(5)]);
+        assert_eq!(votes, [Vote::Commit, Vote::Commit, Vote::Commit, Vote::Abort(5), Vote::Abort(5)].map(voted));
     }
 }
 
@@ -209,7 +214,7 @@ fn had_it_been_quicker() -> [u32; 2] {
 fn after_the_dip(line: &mut Line) -> (Vec<Answer>, Vec<Answer>) {
     line.train_passes();
     let corrected = transaction_bytes(&correction());
-    assert_eq!([0, 1, 2, 3].map(|number| line.send(number, &pr(&corrected))), [Answer::Commit; 4]);
+    assert_eq!([0, 1, 2, 3].map(|number| line.send(number, &pr(&corrected))), [voted(Vote::Commit); 4]);
     let log = with_list(b"LG", &corrected, Votes, Commit, &all(&[0, 1, 2, 3], Commit));
     let logs = line.send_all(&log);
     let logged: Vec<u8> = (0..5).filter(|number| logs[usize::from(*number)] == Answer::Logged(Commit, 0)).collect();
@@ -236,7 +241,7 @@ fn asked_after_all() {
     let corrected = transaction_bytes(&correction());
     let log = with_list(b"LG", &corrected, Votes, Commit, &all(&[0, 1, 2, 3], Commit));
     assert_eq!(line.send(4, &log), Answer::Logged(Commit, 0));
-    assert_eq!(line.send(4, &pr(&corrected)), Answer::Abort(2), "it holds no passage to correct");
+    assert_eq!(line.send(4, &pr(&corrected)), voted(Vote::Abort(2)), "it holds no passage to correct");
     let abort = with_list(b"LG", &corrected, Votes, Abort, &all(&[4, LIAR], Abort));
     assert_eq!(line.send(4, &abort), Answer::Logged(Commit, 0), "the first log stays");
 }
@@ -298,7 +303,7 @@ fn bytes_of(tx: &stobbarel::Transaction) -> Vec<u8> {
 /// Decided with the liar beside it: it tells the gateway abort, twice, and it is one box of six.
 fn decided_beside_the_liar(line: &mut Line, tx: &stobbarel::Transaction) {
     let body = bytes_of(tx);
-    assert_eq!(line.send_all(&pr(&body)), [Answer::Commit; 5]);
+    assert_eq!(line.send_all(&pr(&body)), [voted(Vote::Commit); 5]);
     let twice = with_list(b"DC", &body, Votes, Abort, &all(&[LIAR, LIAR, LIAR, LIAR], Abort));
     assert_eq!(line.send_all(&twice), [Answer::Refused(6); 5], "a box is named twice");
     assert_eq!(line.send_all(&with_list(b"LG", &body, Votes, Commit, &all(&[0, 1, 2, 3, 4], Commit))), [Answer::Logged(Commit, 0); 5]);

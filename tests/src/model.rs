@@ -1,13 +1,16 @@
 //! A box as the paper describes it, in ordinary Rust: records read from bytes, a list of entries, and the six messages.
 //! It is written from the paper, with docs/DECISIONS.md where that leaves room, and shares no code with the engine that it is held against;
 //! how a lent table is laid out is the interface's, from include/stobbarel.h.
-//! What finishes a transaction that a dead gateway left is in model/fallback.rs, what a table holds under a stamp in model/held.rs.
+//! What finishes a transaction that a dead gateway left is in model/fallback.rs, what a table holds under a stamp in model/held.rs,
+//! how many entries a PR visits in model/visits.rs.
 //! `self.rules.hold(..)` marks the rules that broken.rs breaks, one at a time; in the paper's box all of them hold.
 
 #[path = "model/fallback.rs"]
 mod fallback;
 #[path = "model/held.rs"]
 mod held;
+#[path = "model/visits.rs"]
+pub mod visits;
 
 pub use fallback::*;
 pub use held::*;
@@ -166,6 +169,20 @@ pub enum Rule {
     CodeFirst,
     /// The contents of an EL: a leader n or more.
     LeaderIsABox,
+    /// A6: a look-up does not count the entry that it finds.
+    FoundCounts,
+    /// A6: the look-up of the own stamp does not count.
+    OwnCounts,
+    /// A6: tests 3 and 4 count live entries only.
+    DeadCount,
+    /// A6: tests 3 and 4 go row by row, through the keys at each.
+    KeyByKey,
+    /// A6: what stands behind a test that fails counts too.
+    EndsThere,
+    /// A6: the waiting rule stops at the first version that gives reason 6.
+    EveryVersion,
+    /// A6: there is a number beside the same vote again.
+    NoNumberAgain,
 }
 
 /// The rules of a box, less the broken ones.
@@ -311,9 +328,8 @@ pub struct Entry {
 
 #[derive(Clone, Copy, Debug, PartialEq, Eq)]
 pub enum Answer {
-    Commit,
-    Abort(u8),
-    Wait,
+    /// With how many entries were visited, or no number.
+    Voted(Vote, Option<u64>),
     Decided(Decision),
     /// With the view that it was logged in.
     Logged(Decision, u16),
@@ -902,15 +918,6 @@ impl Store {
         }
     }
 
-    fn told(vote: Vote) -> Answer {
-        match vote {
-            Vote::Commit => Answer::Commit,
-            Vote::Abort(reason) => Answer::Abort(reason),
-            Vote::Waiting => Answer::Wait,
-            Vote::None => unreachable!("a vote was cast"),
-        }
-    }
-
     fn full(&self, settings: &Settings) -> bool {
         self.entries.len() as u64 >= settings.capacity && self.rules.hold(Rule::EntriesStay)
     }
@@ -931,12 +938,14 @@ impl Store {
             if self.full(settings) {
                 return Answer::Refused(FULL);
             }
+            let visited = self.first_visits(&tx, settings, None);
             let vote = self.first_vote(&tx, settings);
+            self.meet_vote(&tx, Vote::None, vote);
             if matches!(vote, Vote::Commit | Vote::Waiting) {
                 self.met.push("PR new, no test fails");
             }
             self.store(Entry::new(tx, vote), settings);
-            return Self::told(vote);
+            return Answer::Voted(vote, visited);
         };
         let held = &self.entries[place];
         if held.body != tx && self.rules.hold(Rule::SameBody) {
@@ -953,11 +962,18 @@ impl Store {
             return Answer::Refused(FULL);
         }
         let again = log.is_some() && !self.rules.hold(Rule::TestedOnce);
-        let vote = match cast {
-            Vote::Commit | Vote::Abort(_) if self.rules.hold(Rule::VoteStays) && !again => cast,
-            Vote::Waiting if !again => self.waiting_rule(&tx),
-            _ => self.first_vote(&tx, settings),
+        let (vote, visited) = match cast {
+            Vote::Commit | Vote::Abort(_) if self.rules.hold(Rule::VoteStays) && !again => (cast, self.same_vote_visits(&tx)),
+            Vote::Waiting if !again => {
+                let visited = self.again_visits(&tx);
+                (self.waiting_rule(&tx), visited)
+            }
+            _ => {
+                let visited = self.first_visits(&tx, settings, Some(place));
+                (self.first_vote(&tx, settings), visited)
+            }
         };
+        self.meet_vote(&tx, cast, vote);
         if cast == Vote::None && log.is_some() {
             match vote {
                 Vote::Commit => self.met.push("PR in place of vote none, log kept: commit"),
@@ -987,7 +1003,7 @@ impl Store {
         if matches!(cast, Vote::None | Vote::Waiting) || cast != vote {
             self.touched = Some(place);
         }
-        Self::told(vote)
+        Answer::Voted(vote, visited)
     }
 
     /// 11, and which of two cases it is.

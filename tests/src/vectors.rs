@@ -1,14 +1,16 @@
 //! Records read and written, messages by each entrance, bodies that a box logs before it has their PR, lists, the fallback, and answers taken by sheets: each refusal at its smallest
 //! fault, two faults at once for neighbours in 01's order, and both sides of each threshold. The answers due are written down from 01 and 02; the engine, by its C interface,
 //! and the model have to give them.
-//! What the bench program can show of reading stands in tests/bench; here is the rest. Those of the fallback are in vectors/fallback.rs, those of what is held in vectors/held.rs.
+//! What the bench program can show of reading stands in tests/bench; here is the rest. Those of the fallback are in vectors/fallback.rs, those of what is held in vectors/held.rs,
+//! those of the entries that a PR visits in vectors/visits.rs.
 
 mod fallback;
 mod held;
+mod visits;
 
 use crate::engine::{self, Entrance, Fields, Views};
 use crate::member::Model;
-use crate::model::{self, Answer, Decision, Draft, ListDraft, Record, Reply, Settings, Sheet, ViewsDraft, DC, LG, PAPER, THRESHOLDS};
+use crate::model::{self, Answer, Decision, Draft, ListDraft, Record, Reply, Settings, Sheet, ViewsDraft, Vote, DC, LG, PAPER, THRESHOLDS};
 use crate::records::Clerk;
 use stobbarel::layout::{table_len, DECIDED_AT, HEAD, LOG_AT, REASON_AT, ROW, VOTE_AT};
 
@@ -284,7 +286,9 @@ fn listed((number, head, _, list): &Fields) -> Listed {
 // ---- entrances
 
 const RD: &[u8] = b"RD\x03\0\x3c\0\0\0\0\0\0\0";
-const COMMIT: Answer = Answer::Commit;
+/// Votes, apart from A6's number, which has vectors of its own.
+const COMMIT: Answer = Answer::Voted(Vote::Commit, None);
+const WAIT: Answer = Answer::Voted(Vote::Waiting, None);
 /// Boxes 0 to 4, each for commit.
 const COMMIT_LOGS: &[u8] = b"\0\x01\x01\x01\x02\x01\x03\x01\x04\x01";
 const NOTHING_FOUND: Answer = Answer::Found { committed: (0, 0), undecided: (0, 0) };
@@ -350,7 +354,7 @@ fn entering(tried: &mut Tried) {
         let left = (table, marks);
         let (mut table, mut marks) = (vec![0; table_len(8)], vec![0; 512]);
         let by_engine = engine::call(entrance, &mut table, &mut marks, &settings, &message).ok().and_then(engine::answer_of);
-        tried.one(what, Some(due), by_engine, Some(by_model));
+        tried.one(what, Some(due), by_engine.map(Answer::apart_from_number), Some(by_model.apart_from_number()));
         tried.one(&format!("{what}: table and read marks"), left.clone(), (table, marks), left);
     }
 }
@@ -377,7 +381,7 @@ const LOGGED_ABORT: Answer = Answer::Logged(Decision::Abort, 0);
 const DECIDED_ABORT: Answer = Answer::Decided(Decision::Abort);
 
 const fn abort(reason: u8) -> Answer {
-    Answer::Abort(reason)
+    Answer::Voted(Vote::Abort(reason), None)
 }
 
 /// Messages in turn to an empty box of f = 1 with room for so many entries: what each is answered, and for each entry in the end vote, reason, log and decision.
@@ -534,7 +538,7 @@ const SCENES: [Scene; 25] = [
         told: &[
             (&[b"PR", BODY], COMMIT),
             (&[b"LG", READER, COMMITS], LOGGED),
-            (&[b"PR", READER], Answer::Wait),
+            (&[b"PR", READER], WAIT),
             (&[b"DC", BODY, PROVES_COMMIT], Answer::Done),
             (&[b"PR", READER], COMMIT),
         ],
@@ -546,7 +550,7 @@ const SCENES: [Scene; 25] = [
         told: &[
             (&[b"PR", BODY], COMMIT),
             (&[b"LG", READER, COMMITS], LOGGED),
-            (&[b"PR", READER], Answer::Wait),
+            (&[b"PR", READER], WAIT),
             (&[b"DC", BODY, PROVES_ABORT], Answer::Done),
             (&[b"PR", READER], abort(6)),
         ],
@@ -569,7 +573,7 @@ const SCENES: [Scene; 25] = [
         told: &[
             (&[b"LG", BODY, COMMITS], LOGGED),
             (&[b"PR", BODY], COMMIT),
-            (&[b"PR", READER], Answer::Wait),
+            (&[b"PR", READER], WAIT),
         ],
         rows: &[[1, 0, 1, 0], [3, 0, 0, 0]],
     },
@@ -657,7 +661,7 @@ fn rows(table: &[u8]) -> Vec<[u8; 4]> {
 fn sent(tried: &mut Tried, what: &str, by_engine: &mut (Vec<u8>, Vec<u64>), by_model: &mut (Vec<u8>, Vec<u64>), settings: &Settings, message: &[u8], due: Answer) {
     let answer = engine::call(Entrance::Receive, &mut by_engine.0, &mut by_engine.1, settings, message).ok().and_then(engine::answer_of);
     let modelled = model::call(&mut by_model.0, &mut by_model.1, settings, message, Entrance::Receive.taken(), &mut Vec::new());
-    tried.one(what, Some(due), answer, Some(modelled));
+    tried.one(what, Some(due), answer.map(Answer::apart_from_number), Some(modelled.apart_from_number()));
 }
 
 fn missing_the_prepare(tried: &mut Tried) {
@@ -1034,11 +1038,14 @@ fn sheets(tried: &mut Tried) {
 /// False where an answer is not the one due, or where none was tried.
 pub fn check() -> bool {
     let mut tried = Tried::default();
-    let parts: [(&str, fn(&mut Tried)); 17] = [
+    let parts: [(&str, fn(&mut Tried)); 20] = [
         ("reading", reading),
         ("entrances", entering),
         ("LGs before the PR", missing_the_prepare),
         ("lists", lists),
+        ("entries visited", visits::numbers),
+        ("entries visited by messages in turn", visits::in_turn),
+        ("the most entries visited", visits::most),
         ("the fallback", fallback::rescues),
         ("moving on", fallback::moves),
         ("a leader's decisions", fallback::led),

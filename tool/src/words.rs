@@ -60,12 +60,12 @@ pub fn refusal(refusal: Refusal) -> String {
     }
 }
 
-/// The bench's words for an answer.
+/// The bench's words for an answer; it does not print how many entries were visited.
 pub fn answer(answer: Answer) -> String {
     match answer {
-        Answer::Voted(Vote::Commit) => "commit".into(),
-        Answer::Voted(Vote::Abort(reason)) => format!("abort {}", reason as u8),
-        Answer::Voted(Vote::Waiting) => "wait".into(),
+        Answer::Voted(Vote::Commit, _) => "commit".into(),
+        Answer::Voted(Vote::Abort(reason), _) => format!("abort {}", reason as u8),
+        Answer::Voted(Vote::Waiting, _) => "wait".into(),
         Answer::Decided(decided) => format!("decided {}", decision(decided)),
         Answer::Logged(logged, view) => format!("logged {} {}", decision(logged), view.0),
         Answer::Done => "done".into(),
@@ -81,7 +81,7 @@ pub fn answer(answer: Answer) -> String {
 /// Why a box voted abort or refused; nothing beside any other answer.
 pub(crate) fn why(answer: Answer) -> Option<String> {
     match answer {
-        Answer::Voted(Vote::Abort(given)) => Some(reason(given).into()),
+        Answer::Voted(Vote::Abort(given), _) => Some(reason(given).into()),
         Answer::Refused(given) => Some(refusal(given)),
         _ => None,
     }

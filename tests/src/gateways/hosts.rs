@@ -226,7 +226,7 @@ impl World {
     /// What a sound box is held to goes into the judge's book.
     fn note(&mut self, number: u8, body: &[u8], answer: Answer) {
         let word = match answer {
-            Answer::Voted(vote) => vote.decision().map(|decision| Word::Vote(model_decision(decision))),
+            Answer::Voted(vote, _) => vote.decision().map(|decision| Word::Vote(model_decision(decision))),
             Answer::Logged(decision, view) => Some(Word::Log(model_decision(decision), view.0)),
             Answer::Elected { decision, view, .. } => Some(Word::Elect(model_decision(decision), view.0)),
             _ => None,

@@ -56,8 +56,8 @@ impl World {
         let Ok(read) = read_message(self.group, message) else { return };
         let view = if self.style == Style::Climber { View(65535) } else { self.highest(&body) };
         let answer = match read {
-            Message::Prepare(_) if self.style == Style::Misleader => Answer::Voted(Vote::Commit),
-            Message::Prepare(_) => Answer::Voted(self.random.one_of(&VOTES)),
+            Message::Prepare(_) if self.style == Style::Misleader => Answer::Voted(Vote::Commit, None),
+            Message::Prepare(_) => Answer::Voted(self.random.one_of(&VOTES), None),
             Message::Log(_, list) if self.style == Style::Misleader => Answer::Logged(list.decision, View(0)),
             Message::Log(..) => Answer::Logged(self.either(), if self.random.chance(80) { View(0) } else { view }),
             Message::Invoke(tx, _) => Answer::Elected { decision: self.either(), view, leader: self.leader(tx.stamp, view) },

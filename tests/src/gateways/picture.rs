@@ -21,9 +21,9 @@ pub fn label(group: Group, mail: &Mail) -> String {
         Mail::Told(..) => "told".into(),
         Mail::Elect(_, decision, view) => format!("elect {} {}", word(*decision), view.0),
         Mail::Answer(_, answer, handed) => match answer {
-            Answer::Voted(Vote::Commit) => "commit".into(),
-            Answer::Voted(Vote::Abort(reason)) => format!("abort {}", *reason as u8),
-            Answer::Voted(Vote::Waiting) => "wait".into(),
+            Answer::Voted(Vote::Commit, _) => "commit".into(),
+            Answer::Voted(Vote::Abort(reason), _) => format!("abort {}", *reason as u8),
+            Answer::Voted(Vote::Waiting, _) => "wait".into(),
             Answer::Logged(decision, view) => format!("log {} {}", word(*decision), view.0),
             Answer::Elected { view, .. } => format!("view {}", view.0),
             Answer::Decided(_) if handed.is_some() => "DC".into(),

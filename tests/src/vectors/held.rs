@@ -2,7 +2,7 @@
 
 use super::*;
 use crate::messages::tx;
-use crate::model::{row_at, Holding, Vote};
+use crate::model::{row_at, Holding};
 use stobbarel::layout::{BODY_AT, LOG_VIEW_AT, VIEW_AT};
 
 const C: Decision = Decision::Commit;

@@ -1,6 +1,6 @@
 //! The paper's rules over the lent table itself, in ordinary Rust that copies and allocates nothing: what the engine does, unproved.
 
-use crate::model::{row_at, Answer, Decision, Settings, THRESHOLDS};
+use crate::model::{row_at, Answer, Decision, Settings, Vote, THRESHOLDS};
 use stobbarel::layout::{table_len, BODY_AT, DECIDED_AT, HEAD, LOG_AT, LOG_VIEW_AT, REASON_AT, ROW, VIEW_AT, VOTE_AT};
 
 fn u16_at(bytes: &[u8], at: usize) -> u16 {
@@ -296,9 +296,9 @@ fn decision(code: u8) -> Decision {
 
 fn told(vote: u8, reason: u8) -> Answer {
     match vote {
-        COMMIT => Answer::Commit,
-        ABORT => Answer::Abort(reason),
-        _ => Answer::Wait,
+        COMMIT => Answer::Voted(Vote::Commit, None),
+        ABORT => Answer::Voted(Vote::Abort(reason), None),
+        _ => Answer::Voted(Vote::Waiting, None),
     }
 }
 

@@ -1,8 +1,8 @@
 //! A busy junction, as a panel sees it: passages come until the table is full, each voted on and most decided, while panels poll all the time.
 
 use crate::boxes::{Lent, Timed, Undo};
-use crate::calls::{body, held, listed, prepared, reading, send, FIRST, SETTINGS, STEP};
-use crate::model::{self, Answer};
+use crate::calls::{body, held, listed, prepared, reading, said, send, FIRST, SETTINGS, STEP};
+use crate::model::{self, Answer, Vote};
 use crate::random::Random;
 use std::hint::black_box;
 use std::time::Instant;
@@ -42,7 +42,7 @@ impl Junction {
                 made.send(reading(random.below(512) as u16, stamp));
             }
         }
-        assert!(!made.due.iter().any(|answer| matches!(answer, Answer::Refused(_) | Answer::Abort(_))));
+        assert!(!made.due.iter().any(|answer| matches!(answer, Answer::Refused(_) | Answer::Voted(Vote::Abort(_), _))));
         made
     }
 
@@ -54,7 +54,7 @@ impl Junction {
     /// Every answer, and what is left at the end, are those of the model.
     pub fn check<B: Timed>(&self, mut timed: B) {
         for (message, due) in self.messages.iter().zip(&self.due) {
-            assert_eq!(B::answer(timed.call(&SETTINGS, message)), Some(*due));
+            assert_eq!(said(B::answer(timed.call(&SETTINGS, message))), Some(*due));
         }
         let (entries, marks) = timed.entries();
         assert_eq!((Some(entries), marks), (model::entries_of(&self.left.table, PASSAGES), &self.left.marks[..]));

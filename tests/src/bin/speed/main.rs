@@ -21,7 +21,7 @@ mod junction;
 mod plot;
 
 use boxes::{Engine, Flat, Own, Timed};
-use calls::{Call, NAMES, SETTINGS};
+use calls::{said, Call, NAMES, SETTINGS};
 use junction::{empty, Junction};
 use std::hint::black_box;
 use std::process::exit;
@@ -56,10 +56,10 @@ fn times<B: Timed>(timed: &mut B, call: &Call) -> u32 {
 fn check<B: Timed>(timed: &mut B, call: &Call) {
     let mut due = call.lent.clone();
     let answer = model::call(&mut due.table, &mut due.marks, &SETTINGS, &call.message, &model::MARKS, &mut Vec::new());
-    assert_eq!(answer, call.due);
+    assert_eq!(said(Some(answer)), Some(call.due));
     for _ in 0..2 {
-        let said = timed.call(&SETTINGS, &call.message);
-        assert_eq!(B::answer(said), Some(call.due));
+        let given = timed.call(&SETTINGS, &call.message);
+        assert_eq!(said(B::answer(given)), Some(call.due));
         let (entries, marks) = timed.entries();
         assert_eq!(Some(entries), model::entries_of(&due.table, 255));
         assert_eq!(marks, due.marks);
@@ -83,7 +83,7 @@ fn check_flat(count: u64) {
             let (mut got, mut got_marks, mut marks) = (table.clone(), run.marks.clone(), run.marks.clone());
             let answer = flat::receive(&mut got, &mut got_marks, &settings, &message);
             let due = model::call(&mut table, &mut marks, &settings, &message, &model::MARKS, &mut Vec::new());
-            assert_eq!((answer, &got, &got_marks), (due, &table, &marks), "flat box, {settings:?}, {message:?}");
+            assert_eq!((answer, &got, &got_marks), (due.apart_from_number(), &table, &marks), "flat box, {settings:?}, {message:?}");
             if !lent {
                 (run.table, run.marks) = (table, marks);
             }
