@@ -1,5 +1,5 @@
 //! Decisions may arrive in either order (A9). Two DCs are made in both orders on copies of one table from the mixture, and then a long run of later calls
-//! on the two tables that they left: each DC has its same answer, every later call is answered alike, and what is held differs in the order of
+//! on the two tables that they left: each DC has its same answer, every later call is answered alike apart from A6's number, and what is held differs in the order of
 //! entries with different stamps only. Where both need a new entry and there is room for one, the second is refused with 13. It prints how often
 //! each circumstance and each later answer occurred; any difference, and any that did not occur at all, makes it fail.
 
@@ -35,9 +35,8 @@ struct Kept {
 }
 
 impl Kept {
-    /// "every later call then answers alike, apart from A6's number"
     fn call(&mut self, one: &mut dyn Member, told: &Told) -> Result<Answer, String> {
-        one.call(told.entrance, &mut self.table, &mut self.marks, &told.settings, &told.message).map(Answer::apart_from_number)
+        one.call(told.entrance, &mut self.table, &mut self.marks, &told.settings, &told.message)
     }
 
     /// Whatever the capacity, all that the slice has room for.
@@ -83,10 +82,11 @@ const CIRCUMSTANCES: [&str; 17] = [
 ];
 
 /// What must be seen among later calls, beside each answer that the mixture gives to them.
-const LATER: [&str; 3] = [
+const LATER: [&str; 4] = [
     "a later call on tables that differ",
     "a later call refused with 16 on tables that differ",
     "a later call of a stamp that both orders decided, on tables that differ",
+    "a later PR that tells one number on one table and another on the other",
 ];
 
 #[derive(Default)]
@@ -227,13 +227,18 @@ fn later(one: &mut dyn Member, random: &mut Random, run: &mut mix::Run, pair: &P
         let message = run.message(random);
         let told = Told { entrance: entrance_for(random, &message), settings, message };
         let differ = left[0].table != left[1].table;
-        let answers = [left[0].call(one, &told)?, left[1].call(one, &told)?];
+        let numbered = [left[0].call(one, &told)?, left[1].call(one, &told)?];
+        // "every later call then answers alike, apart from A6's number"
+        let answers = numbered.map(Answer::apart_from_number);
         if answers[0] != answers[1] {
             return Err(format!("later call {at}, {told:?}: {:?} and {:?}", answers[0], answers[1]));
         }
         alike(&left).map_err(|how| format!("later call {at}, {told:?}: {how}"))?;
         counts.later += 1;
         *counts.answers.entry(name(answers[0])).or_default() += 1;
+        if numbered != answers && numbered[0] != numbered[1] {
+            counts.meet(LATER[3]);
+        }
         if differ {
             counts.meet(LATER[0]);
             if answers[0] == Answer::Refused(16) {
@@ -333,7 +338,7 @@ fn shown(one: &mut dyn Member) -> Result<(), String> {
     ];
     for (message, due) in later {
         let told = Told { entrance: Entrance::Receive, settings: Settings { f: 1, capacity: 8, clock: 100, delta: 10 }, message };
-        let answers = [this.call(one, &told)?, that.call(one, &told)?];
+        let answers = [this.call(one, &told)?, that.call(one, &told)?].map(Answer::apart_from_number);
         if answers != [due; 2] {
             return Err(format!("{told:?}: {answers:?}, not {due:?}"));
         }
