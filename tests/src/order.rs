@@ -1,6 +1,6 @@
 //! Decisions may arrive in either order (A9). Two DCs are made in both orders on copies of one table from the mixture, and then a long run of later calls
-//! on the two tables that they left: each DC has its same answer, every later call is answered alike apart from A6's number, and what is held differs in the order of
-//! entries with different stamps only. Where both need a new entry and there is room for one, the second is refused with 13. It prints how often
+//! on the two tables that they left: each DC has its same answer, every later call is answered alike apart from A6's number, and what is held differs in the
+//! order of entries with different stamps only. Where both need a new entry and there is room for one, the second is refused with 13. It prints how often
 //! each circumstance and each later answer occurred; any difference, and any that did not occur at all, makes it fail.
 
 use crate::compare::{entrance_for, hex, name, print};

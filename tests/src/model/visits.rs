@@ -114,18 +114,22 @@ impl Store {
         })
     }
 
+    /// A version found that gives reason 6.
+    fn gives_6(&self, key: u16, entry: &Entry) -> bool {
+        match entry.decision {
+            Some(Decision::Abort) => true,
+            Some(Decision::Commit) => !entry.body.writes_key(key),
+            None => false,
+        }
+    }
+
     /// "the waiting rule looks up every nonzero version", whatever it found before.
     fn go_through_waiting(&self, tx: &Transaction, new: Option<&Entry>) -> u64 {
         let mut visited = 0;
         for (key, version) in tx.reads.iter().filter(|(_, version)| *version != 0) {
             let (passed, found) = self.look_up(self.entries.iter().chain(new), *version);
             visited += passed;
-            let bad = found.map_or(true, |entry| match entry.decision {
-                Some(Decision::Abort) => true,
-                Some(Decision::Commit) => !entry.body.writes_key(*key),
-                None => false,
-            });
-            if bad && !self.rules.hold(Rule::EveryVersion) {
+            if !self.rules.hold(Rule::EveryVersion) && found.map_or(true, |entry| self.gives_6(*key, entry)) {
                 break;
             }
         }
@@ -189,8 +193,9 @@ impl Store {
             (Vote::None, Vote::Waiting) => self.met.push(NUMBERS[6]),
             (Vote::Waiting, Vote::Abort(_)) => {
                 self.met.push(NUMBERS[7]);
-                let stopping = Store { rules: Rules { broken: &[Rule::EveryVersion] }, entries: self.entries.clone(), marks: Vec::new(), touched: None, met: Vec::new() };
-                if stopping.go_through_waiting(tx, None) < self.go_through_waiting(tx, None) {
+                // the last version gives no 6 by itself, so one before it did
+                let last = tx.reads.iter().rev().find(|(_, version)| *version != 0).and_then(|(key, version)| Some((*key, self.place(*version)?)));
+                if last.is_some_and(|(key, place)| !self.gives_6(key, &self.entries[place])) {
                     self.met.push(NUMBERS[10]);
                 }
             }

@@ -1,5 +1,5 @@
-//! How many entries a PR visits (A6): each test failing at a first, a middle and a last key and row, the waiting rule, and where no number is told. The numbers due
-//! are added up from 02's sentence: own look-up + test 2 + test 3 + test 4 + waiting rule.
+//! How many entries a PR visits (A6): each test failing at a first, a middle and a last key and row, the waiting rule, and where no number is told. The
+//! numbers due are added up from 02's sentence: own look-up + test 2 + test 3 + test 4 + waiting rule.
 
 use super::*;
 use crate::messages::{pr, tx};
@@ -172,21 +172,23 @@ pub fn in_turn(tried: &mut Tried) {
     boxes.tell(tried, "no room", &pr(&tx(51, &[], &[(5, 7)])), refused(13));
 }
 
-/// 255 entries, the asked one the last and with no vote, its eight versions all in the row before: no PR visits more. The bound is 33 x 256 = 8448.
+/// The most that a PR visits. The bound with 255 entries is 33 x 256 = 8448. It is not met: a new one finds room at 254 at most, and one that is held does not
+/// stand where its versions do. All eight stand in the last row, and the asked one, logged with no vote, in the row before: the other way round is less.
 pub fn most(tried: &mut Tried) {
-    let mut boxes = Boxes::new(255, 1000);
-    for stamp in 1..=253 {
-        boxes.hold(tried, Commit, (stamp, &[], &[(20, stamp)]));
-    }
     let keys = |number| std::array::from_fn::<(u16, u64), 8, _>(|at| (at as u16 + 1, number));
-    boxes.hold(tried, Commit, (300, &[], &keys(7)));
-    let body = (400, keys(300), keys(8));
-    let ask = pr(&tx(body.0, &body.1, &body.2));
-    // as a new one, with 254 held
-    let mut new = Boxes { engine: boxes.engine.clone(), model: boxes.model.clone(), settings: boxes.settings };
-    new.tell(tried, "254 held, a new one", &ask, Answer::Voted(Vote::Commit, Some(33 * 254)));
-    boxes.hold(tried, Log, (body.0, &body.1, &body.2));
-    let number = 255 + 8 * 254 + 8 * 255 + 8 * 255 + 8 * 254;
-    assert_eq!((number, 33 * 256), (8399, 8448));
-    boxes.tell(tried, "255 held, nothing fails", &ask, Answer::Voted(Vote::Commit, Some(number)));
+    let (none, reads, writes) = (&[][..], keys(300), keys(8));
+    let (version, asked) = ((Commit, (300, none, &writes[..])), (Log, (400, &reads[..], &writes[..])));
+    for (what, last, number) in [
+        ("254 held, a new one", &[version][..], 33 * 254),
+        ("255 held, the asked one last", &[version, asked], 255 + 8 * 254 + 8 * 255 + 8 * 255 + 8 * 254),
+        ("255 held, the version last", &[asked, version], 254 + 8 * 255 + 8 * 255 + 8 * 255 + 8 * 255),
+    ] {
+        let mut boxes = Boxes::new(255, 1000);
+        for stamp in 1..=253 {
+            boxes.hold(tried, Commit, (stamp, none, &[(20, stamp)]));
+        }
+        last.iter().for_each(|(by, sent)| boxes.hold(tried, *by, *sent));
+        assert!(number <= 8414 && 8414 < 33 * 256);
+        boxes.tell(tried, what, &pr(&tx(400, &reads, &writes)), Answer::Voted(Vote::Commit, Some(number)));
+    }
 }
