@@ -18,7 +18,7 @@ pub use Rattle.rules.specs.declared.Version.{Version}
 pub use Rattle.rules.specs.declared.Visited.{Visited}
 pub use Rattle.rules.specs.declared.Visited.the-variants.{None as unvisited, Is as visited}
 pub use Rattle.rules.specs.declared.Answer.{Answer}
-pub use Rattle.rules.specs.declared.Answer.the-variants.{Voted, Decided, Logged, Done, Found, Refused, Elected}
+pub use Rattle.rules.specs.declared.Answer.the-variants.{Voted, Decided, Logged, Done, Found, Refused, Elected, Raised}
 pub use Rattle.terms.specs.declared.View.{View}
 pub use Rattle.rules.specs.declared.Log.{Log}
 pub use Rattle.rules.specs.declared.Log.the-variants.{None as unlogged, Is as logged}
@@ -83,6 +83,7 @@ answerValues Done = []
 answerValues (Found c u) = c .stamp .0 ∷ c .value ∷ u .stamp .0 ∷ u .value ∷ []
 answerValues (Refused r) = numberOf r ∷ lackingOf r ∷ []
 answerValues (Elected d v l) = decisionNumber d ∷ v .0 ∷ l ∷ []
+answerValues Raised = []
 
 -- "apart from A6's number": an answer without it
 unfoldable pub apartFromNumber : Answer → Answer
@@ -91,5 +92,6 @@ apartFromNumber (Decided d) = Decided d
 apartFromNumber (Logged d v) = Logged d v
 apartFromNumber (Elected d v l) = Elected d v l
 apartFromNumber Done = Done
+apartFromNumber Raised = Raised
 apartFromNumber (Found c u) = Found c u
 apartFromNumber (Refused r) = Refused r

@@ -1,4 +1,4 @@
--- PR, LG, DC and RD: what each answers and stores, once the message is read. Refusals 9 to 13 and 15 stand here.
+-- PR, LG, DC and RD: what each answers and stores, once the message is read. Refusals 9 to 13, 15 and 18 stand here.
 use Prim.Native.Nat.{ℕ, zero, suc}
 use mathlib.Core.Bool.{Bool, true, false, not, _&&_}
 use mathlib.Core.List.{List, [], _∷_}
@@ -6,7 +6,7 @@ use mathlib.Core.Option.{Option, some, none}
 use lib.Dec.{eqb, ltb, leb}
 use lib.ListN.{length}
 use Rattle.terms.specs.Choice.{pick}
-use Rattle.terms.specs.Checks.{ifLess, ahead}
+use Rattle.terms.specs.Checks.{ifLess, when, ahead, old}
 use Rattle.terms.specs.Refusals.{refusalOf}
 use Rattle.terms.specs.declared.Refusal.{Refusal}
 use Rattle.terms.specs.declared.Refusal.the-variants.{OtherBody, TooFew, Contradiction, Full}
@@ -18,15 +18,16 @@ use Rattle.rules.specs.Answers.{Log, View, logged, unlogged, viewAs}
 use Rattle.rules.specs.Answers.{Vote, unvisited, unvoted, visited, voteAbort, voteCommit, waiting}
 use Rattle.rules.specs.Bodies.{Body, sameBody, stampOf, writesKey, writesOf}
 use Rattle.rules.specs.Lists.{decisionOf, forLogging, forProof, kindOf, lacking, meets}
-use Rattle.rules.specs.Table.{Box, Told, Entry, find, limit, live, logIn, viewIn, voteIn}
+use Rattle.rules.specs.Table.{Box, Told, Entry, find, foldAt, limit, live, logIn, noVersion, viewIn, voteIn}
 use Rattle.rules.specs.Tests.{firstVote, waitingRule}
 use Rattle.rules.specs.Visits.{againVisits, firstVisits, newLast}
 
--- what a call changes: nothing, an entry that is put into the table, or a key's read mark that is raised to a stamp
+-- what a call changes: nothing, an entry that is put into the table, a key's read mark that is raised to a stamp, or A11's low mark
 pub data Change : Type 0 where
   nothing : Change
   puts : Entry → Change
   raises : ℕ → ℕ → Change
+  raisesLow : ℕ → Change
 
 -- what a call does: it answers, and makes one change
 pub record Act : Type 0 where
@@ -44,6 +45,10 @@ refuse r = keep (Refused r)
 unfoldable pub guarded : ℕ → Act → Act
 guarded zero a = a
 guarded (suc n) a = refuse (refusalOf (suc n))
+
+-- A11: "18 old, for .. a stamp at or below L and for an L not above the present one, the first state refusal"
+unfoldable pub oldWrong : ℕ → ℕ → ℕ
+oldWrong low s = when (leb s low) old
 
 -- 13: "a new entry is needed and the table is at capacity"; "Capacity counts every entry"
 unfoldable pub isFull : Told → Box → Bool
@@ -166,10 +171,14 @@ unfoldable pub valueAt : ℕ → List Write → ℕ
 valueAt k [] = 0
 valueAt k (w ∷ ws) = pick (eqb (writeKey w) k) (writeValue w) (valueAt k ws)
 
--- "version and value"; "0 0 where there is none"
+-- "version and value", or another where there is none
+unfoldable pub versionOr : ℕ → Version → Option Entry → Version
+versionOr k g none = g
+versionOr k g (some e) = record { stamp = record { 0 = stampOf (e .body) }; value = valueAt k (writesOf (e .body)) }
+
+-- "0 0 where there is none"
 unfoldable pub versionOf : ℕ → Option Entry → Version
-versionOf k none = record { stamp = record { 0 = 0 }; value = 0 }
-versionOf k (some e) = record { stamp = record { 0 = stampOf (e .body) }; value = valueAt k (writesOf (e .body)) }
+versionOf k o = versionOr k noVersion o
 
 -- "committed"; "undecided"
 unfoldable pub isCommitted : Settled → Bool
@@ -181,16 +190,17 @@ unfoldable pub isUndecided : Settled → Bool
 isUndecided unsettled = true
 isUndecided (settled d) = false
 
--- "Returns version and value of the committed writer with the highest stamp strictly below, and likewise of the live undecided one"
+-- "Returns version and value of the committed writer with the highest stamp strictly below, and likewise of the live undecided one"; A11: "RD falls
+-- back to the folded version"
 unfoldable pub rdAnswer : Box → ℕ → ℕ → Answer
 rdAnswer x k s =
-    Found (versionOf k (newest (λ e. isCommitted (e .decided)) k s (x .table)))
+    Found (versionOr k (foldAt (x .folds) k) (newest (λ e. isCommitted (e .decided)) k s (x .table)))
     (versionOf k (newest (λ e. isUndecided (e .decided) && live e) k s (x .table)))
 
 -- "Raises the key's read mark to the stamp if it is lower."
 unfoldable pub lookAct : Box → ℕ → ℕ → Act
 lookAct x k s = record { answer = rdAnswer x k s; change = raises k s }
 
--- 15: "RD stamp above clock + δ"; "RD has 5, then 15."
+-- 15: "RD stamp above clock + δ"; "RD has 5, then 15."; 15 is asked beside the contents, A11's 18 of the state
 unfoldable pub rdRule : Told → Box → ℕ → ℕ → Act
-rdRule told x k s = guarded (ifLess (limit told) s ahead) (lookAct x k s)
+rdRule told x k s = guarded (ifLess (limit told) s ahead) (guarded (oldWrong (x .low) s) (lookAct x k s))

@@ -9,7 +9,7 @@ use lib.ListN.{length}
 use Rattle.records.specs.declared.Mark.the-variants.{PR}
 use Rattle.records.specs.declared.Marked.the-variants.{Is}
 use Rattle.records.specs.Cutting.{txPart}
-use Rattle.rules.specs.Answers.{Answer, Decided, Done, Elected, Found, Logged, Refused, Settled, Visited, Vote, Voted}
+use Rattle.rules.specs.Answers.{Answer, Decided, Done, Elected, Found, Logged, Raised, Refused, Settled, Visited, Vote, Voted}
 use Rattle.rules.specs.Answers.{settled, unsettled, unvisited, unvoted, visited, voteAbort, voteCommit, waiting}
 use Rattle.rules.specs.Bodies.{stampOf}
 use Rattle.rules.specs.Table.{Box, Entry, Told, find}
@@ -22,6 +22,7 @@ numberIn (Decided d) = unvisited
 numberIn (Logged d v) = unvisited
 numberIn (Elected d v l) = unvisited
 numberIn Done = unvisited
+numberIn Raised = unvisited
 numberIn (Found c u) = unvisited
 numberIn (Refused r) = unvisited
 

@@ -7,6 +7,7 @@ pub mod Tests
 pub mod Visits
 pub mod Calls
 pub mod Fallback
+pub mod Low
 pub mod Act
 pub mod Figure
 pub mod Quorums

@@ -9,7 +9,7 @@ use Rattle.records.specs.declared.Mark.the-variants.{PR, LG, DC, RD, IV, LD}
 use Rattle.records.specs.declared.Marked.{Marked}
 use Rattle.records.specs.declared.Marked.the-variants.{Is, Refused as Unmarked}
 use Rattle.records.specs.Messages.{rdKey, rdStamp}
-use Rattle.rules.specs.Answers.{Answer, Decided, Done, Elected, Found, Logged, Refused, Voted, commit}
+use Rattle.rules.specs.Answers.{Answer, Decided, Done, Elected, Found, Logged, Raised, Refused, Voted, commit}
 use Rattle.rules.specs.Bodies.{Body, sameBody, stampOf, writesKey}
 use Rattle.rules.specs.Table.{Entry}
 use Rattle.rules.specs.Act.{markBy}
@@ -54,6 +54,7 @@ isFound (Decided d) = false
 isFound (Logged d v) = false
 isFound (Elected d v l) = false
 isFound Done = false
+isFound Raised = false
 isFound (Found committed undecided) = true
 isFound (Refused r) = false
 
@@ -95,6 +96,7 @@ showsBelow v (Decided d) = false
 showsBelow v (Logged d w) = false
 showsBelow v (Elected d w l) = false
 showsBelow v Done = false
+showsBelow v Raised = false
 showsBelow v (Found committed undecided) = ltb (committed .stamp .0) v && ltb (undecided .stamp .0) v
 showsBelow v (Refused r) = false
 

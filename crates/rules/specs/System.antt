@@ -20,7 +20,7 @@ use Rattle.records.specs.declared.Mark.the-variants.{PR, LG, DC, RD, IV, LD}
 use Rattle.records.specs.declared.Marked.the-variants.{Is}
 use Rattle.records.specs.Cutting.{txPart}
 use Rattle.records.specs.Messages.{dueRefusal, listBehind, viewsBehind}
-use Rattle.rules.specs.Answers.{Answer, Decided, Decision, Done, Elected, Found, Kind, Logged, Refused, Voted, abort, commit, logs, votes}
+use Rattle.rules.specs.Answers.{Answer, Decided, Decision, Done, Elected, Found, Kind, Logged, Raised, Refused, Voted, abort, commit, logs, votes}
 use Rattle.rules.specs.Answers.{Settled, Vote, settled, unsettled, unvoted, voteAbort, voteCommit, waiting}
 use Rattle.rules.specs.Bodies.{Body, readsOf, sameBody, stampOf, writesKey}
 use Rattle.rules.specs.Lists.{bit, decisionOf, forProof, kindOf, meets}
@@ -77,6 +77,7 @@ wordIn (Logged d v) = some (log d (v .0))
 wordIn (Elected d v l) = some (elect d (v .0))
 wordIn (Decided d) = none
 wordIn Done = none
+wordIn Raised = none
 wordIn (Found committed undecided) = none
 wordIn (Refused r) = none
 

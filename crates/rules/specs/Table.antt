@@ -4,10 +4,10 @@ use mathlib.Core.Bool.{Bool, true, false}
 use mathlib.Core.List.{List, [], _∷_}
 use mathlib.Core.Option.{Option, some, none}
 use lib.Dec.{eqb}
-use lib.ListN.{replicate}
+use lib.ListN.{getD, replicate}
 use Rattle.terms.specs.Choice.{pick}
 pub use Rattle.rules.specs.declared.Told.{Told}
-use Rattle.rules.specs.Answers.{Log, View, logged, unlogged, viewAs}
+use Rattle.rules.specs.Answers.{Log, Version, View, logged, unlogged, viewAs}
 use Rattle.rules.specs.Answers.{Settled, Vote, abort, commit, settled, unsettled, unvoted, voteAbort, voteCommit, waiting}
 use Rattle.rules.specs.Bodies.{Body, stampOf}
 
@@ -20,17 +20,30 @@ pub record Entry : Type 0 where
   pub view : View
   pub decided : Settled
 
--- a box: its entries in their places, and the read mark of each of the 512 keys
+-- a box: its entries in their places, and the read mark of each of the 512 keys; A11: its low mark, and "one version and value per key"
 pub record Box : Type 0 where
   pub table : List Entry
   pub marks : List ℕ
+  pub low : ℕ
+  pub folds : List Version
 
-abbrev pub boxWith : List Entry → List ℕ → Box
-boxWith es marks = record { table = es; marks = marks }
+abbrev pub boxWith : List Entry → List ℕ → ℕ → List Version → Box
+boxWith es marks low folds = record { table = es; marks = marks; low = low; folds = folds }
 
--- a box before its first message
+-- "0 0 where there is none"
+abbrev pub noVersion : Version
+noVersion = record { stamp = record { 0 = 0 }; value = 0 }
+
+-- the folded version of a key, and its stamp
+abbrev pub foldAt : List Version → ℕ → Version
+foldAt folds k = getD folds k noVersion
+
+abbrev pub foldedAt : Box → ℕ → ℕ
+foldedAt x k = foldAt (x .folds) k .stamp .0
+
+-- a box before its first message; A11: the low mark "starts at 0"
 unfoldable pub empty : Box
-empty = record { table = []; marks = replicate 512 0 }
+empty = record { table = []; marks = replicate 512 0; low = 0; folds = replicate 512 noVersion }
 
 -- A box is told f, capacity, clock and δ beside each message (`Told`), anew each time: "The clock may go back."
 -- "Clock + δ is a sum of whole numbers and never wraps"

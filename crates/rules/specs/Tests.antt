@@ -1,9 +1,9 @@
 -- The five tests of PR, and the waiting rule.
 use Prim.Native.Nat.{ℕ}
-use mathlib.Core.Bool.{Bool, true, false, not, _&&_}
+use mathlib.Core.Bool.{Bool, true, false, not, _&&_, _||_}
 use mathlib.Core.List.{List}
 use mathlib.Core.Option.{Option, some, none}
-use lib.Dec.{eqb, ltb}
+use lib.Dec.{eqb, ltb, leb}
 use lib.ListN.{getD}
 use Rattle.terms.specs.Choice.{any, pick}
 use Rattle.records.specs.declared.Read.{Read}
@@ -11,7 +11,7 @@ use Rattle.records.specs.Tx.{readKey, readVersion, writeKey}
 use Rattle.rules.specs.Answers.{Ahead, Dependency, NoVersion, Overwritten, ReadMark, Undercuts}
 use Rattle.rules.specs.Answers.{Settled, Vote, abort, commit, settled, unsettled, voteAbort, voteCommit, waiting}
 use Rattle.rules.specs.Bodies.{Body, readsOf, stampOf, writesKey, writesOf}
-use Rattle.rules.specs.Table.{Box, Told, Entry, find, limit, live}
+use Rattle.rules.specs.Table.{Box, Told, Entry, find, foldedAt, limit, live}
 
 -- "1. stamp above clock + δ."
 unfoldable pub test1 : Told → Body → Bool
@@ -22,9 +22,20 @@ unfoldable pub liveWriter : ℕ → Option Entry → Bool
 liveWriter k none = false
 liveWriter k (some e) = live e && writesKey (e .body) k
 
--- "2. a read names a nonzero version that is not a live entry writing that key"
+-- A11: "a version at or below L"; it "counts as committed if it is the folded one", of that key, and is never looked up
+unfoldable pub isLow : Box → Read → Bool
+isLow x r = leb (readVersion r) (x .low)
+
+unfoldable pub isFolded : Box → Read → Bool
+isFolded x r = eqb (foldedAt x (readKey r)) (readVersion r)
+
+-- a version that may be read: a live entry writing that key, or A11's folded one
+unfoldable pub names : Box → Read → Bool
+names x r = pick (isLow x r) (isFolded x r) (liveWriter (readKey r) (find (readVersion r) (x .table)))
+
+-- "2. a read names a nonzero version that is not a live entry writing that key"; A11: "otherwise a nonzero one gives reason 2 in a new PR"
 abbrev pub namesNone : Box → Read → Bool
-namesNone x r = not (eqb (readVersion r) 0) && not (liveWriter (readKey r) (find (readVersion r) (x .table)))
+namesNone x r = not (eqb (readVersion r) 0) && not (names x r)
 
 unfoldable pub test2 : Box → Body → Bool
 test2 x b = any (namesNone x) (readsOf b)
@@ -37,9 +48,13 @@ readUndercut s b r = writesKey b (readKey r) && (ltb (readVersion r) (stampOf b)
 unfoldable pub undercut : Body → Body → Bool
 undercut a b = any (readUndercut (stampOf a) b) (readsOf a)
 
--- "3. a live entry writes a key read here, its stamp above the version read and below this stamp."
+-- A11: "A folded version above the version read"
+unfoldable pub foldAbove : Box → Read → Bool
+foldAbove x r = ltb (readVersion r) (foldedAt x (readKey r))
+
+-- "3. a live entry writes a key read here, its stamp above the version read and below this stamp."; A11: a folded version above it "gives reason 3"
 unfoldable pub test3 : Box → Body → Bool
-test3 x b = any (λ e. live e && undercut b (e .body)) (x .table)
+test3 x b = any (foldAbove x) (readsOf b) || any (λ e. live e && undercut b (e .body)) (x .table)
 
 -- "4. a live entry with a higher stamp read a key written here at a version below this stamp."
 unfoldable pub test4 : Box → Body → Bool
@@ -64,9 +79,15 @@ unfoldable pub statusOf : ℕ → Option Entry → Status
 statusOf k none = bad
 statusOf k (some e) = statusBy (writesKey (e .body) k) (e .decided)
 
+-- A11: "counts as committed if it is the folded one; otherwise a nonzero one gives .. reason 6 in a waiting one"
+unfoldable pub statusFolded : Bool → Status
+statusFolded f = pick f fine bad
+
 -- "over the nonzero versions read"
 unfoldable pub status : Box → Read → Status
-status x r = pick (eqb (readVersion r) 0) fine (statusOf (readKey r) (find (readVersion r) (x .table)))
+status x r =
+    pick (eqb (readVersion r) 0) fine
+    (pick (isLow x r) (statusFolded (isFolded x r)) (statusOf (readKey r) (find (readVersion r) (x .table))))
 
 abbrev pub isBad : Status → Bool
 isBad bad = true

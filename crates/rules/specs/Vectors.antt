@@ -9,7 +9,7 @@ use Rattle.records.specs.Tx.{Tx, txBytes}
 use Rattle.rules.specs.Answers.{Answer, Decided, Decision, Done, Elected, Logged, Refused, Settled, Vote, abort, commit, logs, settled, unsettled, unvoted, votes, waiting}
 use Rattle.rules.specs.Answers.{Log, logged, unlogged, viewAs}
 use Rattle.rules.specs.Answers.{Ahead, Dependency, NoVersion, Overwritten, ReadMark, Undercuts, voteAbort, voteCommit}
-use Rattle.rules.specs.Table.{Box, Told, Entry, empty}
+use Rattle.rules.specs.Table.{Box, Told, Entry, empty, noVersion}
 use Rattle.rules.specs.Act.{after, receive}
 use Rattle.rules.specs.Cases.{Case, DC, LG, PR, RD, aborts, case, commits, dc, due, few, found, given, lg, line, list, logs0, pairs, read, reads, tx, waits, write, writes}
 use Rattle.rules.specs.Cases.{elections, iv, ld, logsAt, seen}
@@ -21,7 +21,7 @@ group f capacity sent due =
 
 -- entries, and the read mark of key 0
 unfoldable pub marked : List Entry → ℕ → Box
-marked table mark = record { table = table; marks = mark ∷ replicate 511 0 }
+marked table mark = record { table = table; marks = mark ∷ replicate 511 0; low = 0; folds = replicate 512 noVersion }
 
 unfoldable pub lent : List Entry → List (List ℕ) → List Answer → Case
 lent table sent due = record { told = line; start = marked table 0; sent = sent; due = due }

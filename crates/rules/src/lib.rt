@@ -157,7 +157,7 @@ impl Visited {
     }
 }
 
-// What a box answers. PR: Voted or Decided; LG and LD: Logged or Decided; DC: Done; RD: Found; IV: Elected or Decided; every call: Refused.
+// What a box answers. PR: Voted or Decided; LG and LD: Logged or Decided; DC: Done; RD: Found; IV: Elected or Decided; raising the low mark: Raised; every call: Refused.
 pub enum Answer {
     Voted(Vote, Visited),
     Decided(Decision),
@@ -168,6 +168,8 @@ pub enum Answer {
     Refused(Refusal),
     // The decision that is logged, the view that the box has moved on to, and that view's leader.
     Elected(Decision, View, u8),
+    // The low mark is raised.
+    Raised,
 }
 
 // The leader of a view, box (v + stamp) mod n; a stamp's rest stands in its place, since the sum may be too large.

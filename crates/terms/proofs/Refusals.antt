@@ -6,7 +6,7 @@ use lib.Dec.{eqb}
 use lib.ListN.{getD}
 use Rattle.terms.specs.Choice.{pick}
 use Rattle.terms.specs.declared.Refusal.{Refusal}
-use Rattle.terms.specs.declared.Refusal.the-variants.{Short, Mark, Count, Trailing, Range, Order, Misbehaviour, Code, OtherBody, Unknown, TooFew, Contradiction, Full, Group, Ahead, Table, Buffer, Passed, NotLogged, Election, LastView, Passage, Versions, Direction, AxleCount, HotAxle}
+use Rattle.terms.specs.declared.Refusal.the-variants.{Short, Mark, Count, Trailing, Range, Order, Misbehaviour, Code, OtherBody, Unknown, TooFew, Contradiction, Full, Group, Ahead, Table, Buffer, Old, Undecided, Passed, NotLogged, Election, LastView, Passage, Versions, Direction, AxleCount, HotAxle}
 use Rattle.terms.specs.Refusals.{refusalValues, numberOf, refusalOf}
 
 -- the refusal with these values
@@ -41,6 +41,8 @@ back Group = refl
 back Ahead = refl
 back Table = refl
 back Buffer = refl
+back Old = refl
+back Undecided = refl
 back Passed = refl
 back NotLogged = refl
 back Election = refl
@@ -55,6 +57,6 @@ pub values-tell : (a b : Refusal) → refusalValues a ≡ refusalValues b → a 
 values-tell a b e = sym (back a) ∙ (ap refusalIn e ∙ back b)
 
 -- a check's number is that of its refusal
-pub number-kept : map (λ n. numberOf (refusalOf n)) (1 ∷ 2 ∷ 3 ∷ 4 ∷ 5 ∷ 6 ∷ 7 ∷ 8 ∷ 14 ∷ 15 ∷ 16 ∷ 17 ∷ 26 ∷ 27 ∷ 28 ∷ 29 ∷ 30 ∷ []) ≡ 1 ∷ 2 ∷ 3 ∷ 4 ∷ 5 ∷ 6 ∷ 7 ∷ 8 ∷ 14 ∷ 15 ∷ 16 ∷ 17 ∷ 26 ∷ 27 ∷ 28 ∷ 29 ∷ 30 ∷ []
+pub number-kept : map (λ n. numberOf (refusalOf n)) (1 ∷ 2 ∷ 3 ∷ 4 ∷ 5 ∷ 6 ∷ 7 ∷ 8 ∷ 14 ∷ 15 ∷ 16 ∷ 17 ∷ 18 ∷ 19 ∷ 26 ∷ 27 ∷ 28 ∷ 29 ∷ 30 ∷ []) ≡ 1 ∷ 2 ∷ 3 ∷ 4 ∷ 5 ∷ 6 ∷ 7 ∷ 8 ∷ 14 ∷ 15 ∷ 16 ∷ 17 ∷ 18 ∷ 19 ∷ 26 ∷ 27 ∷ 28 ∷ 29 ∷ 30 ∷ []
 unfolding refusalOf
 number-kept = refl

@@ -59,6 +59,13 @@ table = 16
 abbrev pub buffer : ℕ
 buffer = 17
 
+-- those of A11
+abbrev pub old : ℕ
+old = 18
+
+abbrev pub undecided : ℕ
+undecided = 19
+
 -- those of A4
 abbrev pub passage : ℕ
 passage = 26

@@ -5,7 +5,7 @@ use lib.Dec.{eqb}
 use lib.ListN.{getD}
 use Rattle.terms.specs.Choice.{pick}
 use Rattle.terms.specs.declared.Refusal.{Refusal}
-use Rattle.terms.specs.declared.Refusal.the-variants.{Short, Mark, Count, Trailing, Range, Order, Misbehaviour, Code, OtherBody, Unknown, TooFew, Contradiction, Full, Group, Ahead, Table, Buffer, Passed, NotLogged, Election, LastView, Passage, Versions, Direction, AxleCount, HotAxle}
+use Rattle.terms.specs.declared.Refusal.the-variants.{Short, Mark, Count, Trailing, Range, Order, Misbehaviour, Code, OtherBody, Unknown, TooFew, Contradiction, Full, Group, Ahead, Table, Buffer, Old, Undecided, Passed, NotLogged, Election, LastView, Passage, Versions, Direction, AxleCount, HotAxle}
 
 -- its number, and then how many counted answers are lacking: A1, "Refusal 11 should carry how many counted answers are lacking"; 0 beside every other one
 abbrev pub refusalValues : Refusal → List ℕ
@@ -26,6 +26,8 @@ refusalValues Group = 14 ∷ 0 ∷ []
 refusalValues Ahead = 15 ∷ 0 ∷ []
 refusalValues Table = 16 ∷ 0 ∷ []
 refusalValues Buffer = 17 ∷ 0 ∷ []
+refusalValues Old = 18 ∷ 0 ∷ []
+refusalValues Undecided = 19 ∷ 0 ∷ []
 refusalValues Passed = 21 ∷ 0 ∷ []
 refusalValues NotLogged = 22 ∷ 0 ∷ []
 refusalValues Election = 23 ∷ 0 ∷ []
@@ -42,7 +44,7 @@ numberOf r = getD (refusalValues r) 0 0
 abbrev pub lackingOf : Refusal → ℕ
 lackingOf r = getD (refusalValues r) 1 0
 
--- the refusal that a check's number stands for; a check gives 1 to 8, 14 to 17 and 26 to 30, never 9 to 13 and 21 to 24, which are the rules', and 17 stands for all others
+-- the refusal that a check's number stands for; a check gives 1 to 8, 14 to 19 and 26 to 30, never 9 to 13 and 21 to 24, which are the rules', and 17 stands for all others
 unfoldable pub refusalOf : ℕ → Refusal
 refusalOf n =
     pick (eqb n 1) Short
@@ -56,8 +58,10 @@ refusalOf n =
     (pick (eqb n 14) Group
     (pick (eqb n 15) Ahead
     (pick (eqb n 16) Table
+    (pick (eqb n 18) Old
+    (pick (eqb n 19) Undecided
     (pick (eqb n 26) Passage
     (pick (eqb n 27) Versions
     (pick (eqb n 28) Direction
     (pick (eqb n 29) AxleCount
-    (pick (eqb n 30) HotAxle Buffer)))))))))))))))
+    (pick (eqb n 30) HotAxle Buffer)))))))))))))))))

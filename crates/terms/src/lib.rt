@@ -43,6 +43,11 @@ pub const TABLE: u8 = 16;
 
 pub const BUFFER: u8 = 17;
 
+// Those of the low mark.
+pub const OLD: u8 = 18;
+
+pub const UNDECIDED: u8 = 19;
+
 // Those of the passage register.
 pub const PASSAGE: u8 = 26;
 
@@ -116,6 +121,10 @@ pub enum Refusal {
     Ahead,
     Table,
     Buffer,
+    // At or below the low mark.
+    Old,
+    // An entry at or below the new low mark is undecided.
+    Undecided,
     // The box's view or logged view forbids it.
     Passed,
     NotLogged,
@@ -151,6 +160,8 @@ impl Refusal {
             Refusal::Ahead => [15, 0],
             Refusal::Table => [16, 0],
             Refusal::Buffer => [17, 0],
+            Refusal::Old => [18, 0],
+            Refusal::Undecided => [19, 0],
             Refusal::Passed => [21, 0],
             Refusal::NotLogged => [22, 0],
             Refusal::Election => [23, 0],
@@ -193,6 +204,8 @@ impl Refusal {
             14 => Refusal::Group,
             15 => Refusal::Ahead,
             16 => Refusal::Table,
+            18 => Refusal::Old,
+            19 => Refusal::Undecided,
             26 => Refusal::Passage,
             27 => Refusal::Versions,
             28 => Refusal::Direction,

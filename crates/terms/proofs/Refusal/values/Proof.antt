@@ -83,6 +83,12 @@ enum-told-24 c = search needs
 enum-told-25 : tie.Need-enum-told-25
 enum-told-25 c = search needs
 
+enum-told-26 : tie.Need-enum-told-26
+enum-told-26 c = search needs
+
+enum-told-27 : tie.Need-enum-told-27
+enum-told-27 c = search needs
+
 returns : tie.Need-returns
 returns c = rw (c .enum-told .given .1)
 
@@ -161,6 +167,12 @@ returns-25 c = rw (c .enum-told24 .given .1)
 returns-26 : tie.Need-returns-26
 returns-26 c = rw (c .enum-told25 .given .1)
 
+returns-27 : tie.Need-returns-27
+returns-27 c = rw (c .enum-told26 .given .1)
+
+returns-28 : tie.Need-returns-28
+returns-28 c = rw (c .enum-told27 .given .1)
+
 pub values-spec : {M : Type 1} → statement M
 values-spec =
     tie.close
@@ -191,6 +203,8 @@ values-spec =
     enum-told-23
     enum-told-24
     enum-told-25
+    enum-told-26
+    enum-told-27
     returns
     returns-2
     returns-3
@@ -216,4 +230,6 @@ values-spec =
     returns-23
     returns-24
     returns-25
-    returns-26)
+    returns-26
+    returns-27
+    returns-28)
