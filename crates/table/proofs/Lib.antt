@@ -5,4 +5,5 @@ pub mod Comparing
 pub mod Copying
 pub mod Coding
 pub mod Placing
+pub mod Head
 pub mod Storing

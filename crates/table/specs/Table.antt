@@ -1,5 +1,5 @@
--- The lent table: a byte that counts its entries, then a row for each: the codes of vote, reason, decision and log, the log's
--- view and the current one, then the TX record's bytes.
+-- The lent table: a byte that counts its entries, the low mark, for each key the folded version and value, then a row for each entry: the codes of
+-- vote, reason, decision and log, the log's view and the current one, then the TX record's bytes.
 use Prim.Native.Nat.{ℕ, _+_, _*_, _/_, _%_, _≤_, _<_}
 use mathlib.Core.List.{List, [], _∷_, _++_}
 use mathlib.Core.Path.{_≡_}
@@ -20,15 +20,41 @@ use Rattle.rules.specs.declared.Settled.{Settled}
 use Rattle.rules.specs.declared.Settled.the-variants.{None as unsettled, Is as settled}
 use Rattle.rules.specs.declared.Log.{Log}
 use Rattle.rules.specs.declared.Log.the-variants.{None as unlogged, Is as logged}
+use Rattle.rules.specs.declared.Version.{Version}
 use Rattle.rules.specs.Answers.{voteNumber, voteReason, settledNumber, logNumber, logView, viewAs}
 use Rattle.rules.specs.Bodies.{Body, stampOf}
-use Rattle.rules.specs.Table.{Entry}
+use Rattle.rules.specs.Table.{Box, Entry, boxWith}
 use Rattle.table.specs.declared.State.{State}
 
--- ---- rows
--- how many bytes stand in front of the rows
+-- ---- head
+-- A11: where the low mark stands, eight bytes, and the folded versions, eight bytes for the stamp and eight for the value of each of the 512 keys
+abbrev pub lowAt : ℕ
+lowAt = 1
+
+abbrev pub foldsAt : ℕ
+foldsAt = 9
+
+abbrev pub foldLen : ℕ
+foldLen = 16
+
+-- how many bytes stand in front of the rows: count, low mark and folds
 abbrev pub headLen : ℕ
-headLen = 1
+headLen = 8201
+
+unfoldable pub lowOf : List ℕ → ℕ
+lowOf t = numAt 8 lowAt t
+
+unfoldable pub foldIn : List ℕ → ℕ → Version
+foldIn t k = record { stamp = record { 0 = numAt 8 (foldsAt + k * foldLen) t }; value = numAt 8 (foldsAt + k * foldLen + 8) t }
+
+unfoldable pub foldsOf : List ℕ → List Version
+foldsOf t = tab (foldIn t) 0 512
+
+-- the box of a head's bytes, of entries and of read marks: any low mark and any folds are taken as they stand
+abbrev pub boxFrom : List ℕ → List Entry → List ℕ → Box
+boxFrom h es marks = boxWith es marks (lowOf h) (foldsOf h)
+
+-- ---- rows
 
 -- how many bytes a row has: a byte for each code, two for each view, then room for the longest TX
 abbrev pub rowLen : ℕ

@@ -1,4 +1,4 @@
-// The table that the caller lends: a byte that counts the entries, then a row for each; the check that gives 16, look-up, store.
+// The table that the caller lends: count, low mark and folds, then a row for each entry; the check that gives 16, look-up, store.
 ghost use mathlib.Core.Path.{_≡_};
 ghost use Prim.Native.Nat.{ℕ, _+_, _-_, _*_, _<_, _≤_};
 ghost use mathlib.Core.Bool.{_&&_};
@@ -8,8 +8,8 @@ ghost use lib.ListN.{length, drop};
 ghost use Rattle.terms.specs.Choice.{tab, any};
 ghost use Rattle.records.specs.Tx.{rCount, wCount, readAt, writeAt, writesFrom, TxThere};
 ghost use Rattle.rules.specs.Bodies.{stampOf, writesKey, sameBody};
-ghost use Rattle.rules.specs.Table.{live};
-ghost use Rattle.table.specs.Table.{headLen, rowLen, bodyAt, tableLen, countOf, rowAt, rowTx, entryOf, entryAt, entries, WfRow, Wf, place};
+ghost use Rattle.rules.specs.Table.{live, foldAt};
+ghost use Rattle.table.specs.Table.{headLen, lowOf, foldsOf, rowLen, bodyAt, tableLen, countOf, rowAt, rowTx, entryOf, entryAt, entries, WfRow, Wf, place};
 ghost use Rattle.table.specs.Table.{reasonWrong, voteWrong, settledWrong, rowWrong, rowBad, tableWrong, reasonOf, voteOf, settledOf, logOf, viewBytes, stateAt};
 ghost use Rattle.table.specs.Table.{logViewAt, codesOf, newRow, newCount, stored};
 use records::Read;
@@ -17,14 +17,22 @@ use records::Write;
 use rules::Log;
 use rules::Reason;
 use rules::Settled;
+use rules::Version;
 use rules::Vote;
 use terms::Decision;
 use terms::Key;
 use terms::Stamp;
 use terms::View;
 
-// How many bytes stand in front of the rows: the count of entries.
-pub const HEAD: usize = 1;
+// Where the low mark stands behind the count, and where the folds do, for each key a stamp and a value.
+pub const LOW_AT: usize = 1;
+
+pub const FOLDS_AT: usize = 9;
+
+pub const FOLD: usize = 16;
+
+// How many bytes stand in front of the rows.
+pub const HEAD: usize = 8201;
 
 // How many bytes a row has, and where in it the codes of vote, reason, decision and log stand, the log's view, the current view, and the body.
 pub const ROW: usize = 180;
@@ -73,6 +81,32 @@ pub fn count_of(t: &[u8]) -> usize
     ensures { λ r. ⌜ (r ≡ countOf (now (t .entry))) × (r < 256) ⌝ }
 {
     records::wide(t[0])
+}
+
+// The low mark.
+pub fn low_of(t: &[u8]) -> Stamp
+    requires { ⌜ headLen ≤ length (now t) ⌝ }
+    ensures { λ r. ⌜ r .0 ≡ lowOf (now (t .entry)) ⌝ }
+{
+    Stamp(records::u64_at(t, LOW_AT))
+}
+
+// The folded version and value of a key; none past the last key.
+pub fn fold_of(t: &[u8], k: Key) -> Version
+    requires { ⌜ headLen ≤ length (now t) ⌝ }
+    ensures { λ r. ⌜ r ≡ foldAt (foldsOf (now (t .entry))) (k .0) ⌝ }
+{
+    if terms::LARGEST_KEY < k.0 {
+        return Version {
+            stamp: Stamp(0),
+            value: 0,
+        };
+    }
+    let at = FOLDS_AT + k.0 as usize * FOLD;
+    Version {
+        stamp: Stamp(records::u64_at(t, at)),
+        value: records::u64_at(t, at + 8),
+    }
 }
 
 // Row `i` of the rows.
