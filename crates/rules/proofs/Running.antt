@@ -17,7 +17,8 @@ use Rattle.rules.specs.Bodies.{stampOf, readsOf, writesOf, sameBody, wri
 use Rattle.rules.specs.Lists.{kindOf, decisionOf, bit, tally, meets, lacking}
 use Rattle.rules.specs.Table.{empty, find, put, liveBy, live}
 use Rattle.rules.specs.Tests.{test1, liveWriter, test2, undercut, test3, test4, test5, statusBy, statusOf, status, waitingRule, firstVote}
-use Rattle.rules.specs.Visits.{through, lookUp, versionUp, keyByKey, visits2, visits3, visits4, waitingVisits, testVisits, firstVisits, againVisits}
+use Rattle.rules.specs.Visits.{through, lookUp, versionUp, keyByKey, visits2, fails3, fails4, visits3, visits4, waitingVisits, testVisits, firstVisits}
+use Rattle.rules.specs.Visits.{againVisits}
 use Rattle.rules.specs.Calls.{guarded, isFull, roomFor, needing, sameDecision, castAct, prByVote, prByDecision, prByEntry, prRule, logAct, lgByLog}
 use Rattle.rules.specs.Calls.{lgByDecision, lgByEntry, lgRule, decideAct, dcSame, dcOther, dcByEntry, dcRule, better, newest, valueAt}
 use Rattle.rules.specs.Calls.{versionOf, isCommitted, isUndecided, rdAnswer, lookAct, rdRule}
@@ -58,7 +59,7 @@ unfolding test1 liveWriter test2 undercut test3 test4 test5 statusBy statusOf st
 testing = 0
 
 unfoldable visiting : ℕ
-unfolding through lookUp versionUp keyByKey visits2 visits3 visits4 waitingVisits testVisits firstVisits againVisits
+unfolding through lookUp versionUp keyByKey visits2 fails3 fails4 visits3 visits4 waitingVisits testVisits firstVisits againVisits
 visiting = 0
 
 unfoldable calling : ℕ
