@@ -5,7 +5,8 @@ use mathlib.Core.Path.{_≡_, refl, sym, _∙_, ap}
 use mathlib.Core.Option.{Option, some, none}
 use mathlib.Core.List.{List, [], _∷_, _++_}
 use native.Mathlib.Omega.{arith}
-use lib.Dec.{eqb, ltb}
+use lib.Dec.{eqb, leb, ltb}
+use borrow.Author.Tests.{eqb-true, leb-false}
 use lib.ListN.{length}
 use Rattle.terms.specs.Choice.{any, pick}
 use Rattle.records.specs.declared.Read.{Read}
@@ -13,7 +14,7 @@ use Rattle.records.specs.declared.Write.{Write}
 use Rattle.records.specs.Tx.{readKey, readVersion, writeKey}
 use Rattle.rules.specs.Bodies.{Body, readsOf, stampOf, writesKey, writesOf}
 use Rattle.rules.specs.Table.{Box, Entry, find, live}
-use Rattle.rules.specs.Tests.{liveWriter, namesNone, readUndercut, test2, test3, test4, undercut}
+use Rattle.rules.specs.Tests.{foldAbove, isFolded, isLow, liveWriter, names, namesNone, readUndercut, test2, test3, test4, undercut}
 use Rattle.rules.specs.Visits.{fails3, fails4, keyByKey, lookUp, newLast, through, versionUp, visits2}
 use Rattle.rules.specs.Visits.{visits3, visits4, waitingVisits}
 use Rattle.rules.proofs.Laws.{pick-elim}
@@ -42,9 +43,9 @@ pub look-most : (s : ℕ) (t : List Entry) → lookUp s t ≤ length t
 unfolding lookUp
 look-most s t = through-most _ t
 
-pub version-most : (t : List Entry) (r : Read) → versionUp t r ≤ length t
+pub version-most : (low : ℕ) (t : List Entry) (r : Read) → versionUp low t r ≤ length t
 unfolding versionUp
-version-most t r = pick-elim (λ (n : ℕ). n ≤ length t) (eqb (readVersion r) 0) (λ _. omega arith) (λ _. look-most (readVersion r) t)
+version-most low t r = pick-elim (λ (n : ℕ). n ≤ length t) (leb (readVersion r) low) (λ _. omega arith) (λ _. look-most (readVersion r) t)
 
 pub look-all : (s : ℕ) (t : List Entry) → find s t ≡ none → lookUp s t ≡ length t
 unfolding lookUp through find
@@ -108,17 +109,19 @@ times-most (suc n) (suc k) h p = omega (arith, times-most n k h (omega arith))
 pub eight-most : {K : Type 0} (visits : K → ℕ) (fails : K → Bool) (ks : List K) (h : ℕ) → length ks ≤ 8 → ((k : K) → visits k ≤ h) → keyByKey visits fails ks ≤ 8 * h
 eight-most visits fails ks h n m = omega (arith, keys-most visits fails ks h m, times-most (length ks) 8 h n)
 
-pub waiting-most : (t : List Entry) (b : Body) → length (readsOf b) ≤ 8 → waitingVisits t b ≤ 8 * length t
+pub waiting-most : (low : ℕ) (t : List Entry) (b : Body) → length (readsOf b) ≤ 8 → waitingVisits low t b ≤ 8 * length t
 unfolding waitingVisits
-waiting-most t b r = eight-most (versionUp t) (λ _. false) (readsOf b) (length t) r (version-most t)
+waiting-most low t b r = eight-most (versionUp low t) (λ _. false) (readsOf b) (length t) r (version-most low t)
 
 pub two-most : (x : Box) (b : Body) → length (readsOf b) ≤ 8 → visits2 x b ≤ 8 * length (x .table)
 unfolding visits2
-two-most x b r = eight-most (versionUp (x .table)) _ (readsOf b) (length (x .table)) r (version-most (x .table))
+two-most x b r = eight-most (versionUp (x .low) (x .table)) _ (readsOf b) (length (x .table)) r (version-most (x .low) (x .table))
 
 pub three-most : (x : Box) (b : Body) → length (readsOf b) ≤ 8 → visits3 x b ≤ 8 * length (x .table)
 unfolding visits3
-three-most x b r = eight-most _ _ (readsOf b) (length (x .table)) r (λ k. through-most _ (x .table))
+three-most x b r =
+    eight-most _ _ (readsOf b) (length (x .table)) r
+    (λ k. pick-elim (λ (n : ℕ). n ≤ length (x .table)) (foldAbove x k) (λ _. omega arith) (λ _. through-most _ (x .table)))
 
 pub four-most : (x : Box) (b : Body) → length (writesOf b) ≤ 8 → visits4 x b ≤ 8 * length (x .table)
 unfolding visits4
@@ -160,11 +163,18 @@ module _ {B : Type 0} where
       go true false false h = h
       go false c u h = h
 
-pub test3-by-key : (x : Box) (b : Body) → test3 x b ≡ any (λ r. any (fails3 b r) (x .table)) (readsOf b)
-unfolding test3 undercut fails3
-test3-by-key x b =
+entries-by-key : (x : Box) (b : Body) → any (λ e. live e && undercut b (e .body)) (x .table) ≡ any (λ r. any (fails3 b r) (x .table)) (readsOf b)
+unfolding undercut fails3
+entries-by-key x b =
     (λ i. any (λ e. and-any (live e) (readUndercut (stampOf b) (e .body)) (readsOf b) i) (x .table))
     ∙ any-swap (λ (e : Entry) (r : Read). fails3 b r e) (x .table) (readsOf b)
+
+-- at each key first the folded version, then the entries
+pub test3-by-key : (x : Box) (b : Body) → test3 x b ≡ any (λ r. foldAbove x r || any (fails3 b r) (x .table)) (readsOf b)
+unfolding test3
+test3-by-key x b =
+    ap (λ (q : Bool). any (foldAbove x) (readsOf b) || q) (entries-by-key x b)
+    ∙ any-or (foldAbove x) (λ r. any (fails3 b r) (x .table)) (readsOf b)
 
 -- of one entry: it undercuts at one of the keys written here
 over-by-key : (a b : Body)
@@ -185,8 +195,11 @@ test4-by-key x b =
 -- ---- where tests 3 and 4 pass, each key goes through all entries
 pub visits3-all : (x : Box) (b : Body) → test3 x b ≡ false → visits3 x b ≡ length (readsOf b) * length (x .table)
 unfolding visits3
-visits3-all x b h =
-    keys-all _ _ (readsOf b) (length (x .table)) (sym (test3-by-key x b) ∙ h) (λ r n. through-all (fails3 b r) (x .table) n)
+visits3-all x b h = keys-all _ _ (readsOf b) (length (x .table)) (sym (test3-by-key x b) ∙ h) (λ r n. go r (foldAbove x r) n)
+  where
+    go : (r : Read) (c : Bool) → c || any (fails3 b r) (x .table) ≡ false → pick c 0 (through (fails3 b r) (x .table)) ≡ length (x .table)
+    go r true n = true-false n
+    go r false n = through-all (fails3 b r) (x .table) n
 
 pub visits4-all : (x : Box) (b : Body) → test4 x b ≡ false → visits4 x b ≡ length (writesOf b) * length (x .table)
 unfolding visits4
@@ -194,21 +207,23 @@ visits4-all x b h =
     keys-all _ _ (writesOf b) (length (x .table)) (sym (test4-by-key x b) ∙ h) (λ w n. through-all (fails4 b (writeKey w)) (x .table) n)
 
 -- ---- where test 2 passes, the waiting rule looks up what test 2 looked up, a new entry behind or not
-named-up : (x : Box) (u : List Entry) (r : Read) → namesNone x r ≡ false → versionUp (x .table ++ u) r ≡ versionUp (x .table) r
-unfolding versionUp liveWriter
-named-up x u r h = go (eqb (readVersion r) 0) (find (readVersion r) (x .table)) refl h
+named-up : (x : Box) (u : List Entry) (r : Read) → namesNone x r ≡ false → versionUp (x .low) (x .table ++ u) r ≡ versionUp (x .low) (x .table) r
+unfolding versionUp names isLow liveWriter
+named-up x u r h = go (leb (readVersion r) (x .low)) refl (eqb (readVersion r) 0) refl (find (readVersion r) (x .table)) refl h
   where
-    go : (z : Bool) (o : Option Entry) → find (readVersion r) (x .table) ≡ o → not z && not (liveWriter (readKey r) o) ≡ false
-        → pick z 0 (lookUp (readVersion r) (x .table ++ u)) ≡ pick z 0 (lookUp (readVersion r) (x .table))
-    go true o p q = refl
-    go false (some e) p q = look-more (readVersion r) (x .table) u e p
-    go false none p q = true-false q
+    go : (l : Bool) → leb (readVersion r) (x .low) ≡ l → (z : Bool) → eqb (readVersion r) 0 ≡ z
+        → (o : Option Entry) → find (readVersion r) (x .table) ≡ o → not z && not (pick l (isFolded x r) (liveWriter (readKey r) o)) ≡ false
+        → pick l 0 (lookUp (readVersion r) (x .table ++ u)) ≡ pick l 0 (lookUp (readVersion r) (x .table))
+    go true _ z _ o p q = refl
+    go false a true e o p q = absurd (omega (arith, leb-false (readVersion r) (x .low) a, eqb-true (readVersion r) 0 e))
+    go false a false e (some y) p q = look-more (readVersion r) (x .table) u y p
+    go false a false e none p q = true-false q
 
-pub waiting-as-test2 : (x : Box) (b : Body) → test2 x b ≡ false → waitingVisits (x .table) b ≡ visits2 x b
+pub waiting-as-test2 : (x : Box) (b : Body) → test2 x b ≡ false → waitingVisits (x .low) (x .table) b ≡ visits2 x b
 unfolding waitingVisits visits2 test2
-waiting-as-test2 x b h = sym (keys-sum (versionUp (x .table)) (versionUp (x .table)) (namesNone x) (readsOf b) h (λ r n. refl))
+waiting-as-test2 x b h = sym (keys-sum (versionUp (x .low) (x .table)) (versionUp (x .low) (x .table)) (namesNone x) (readsOf b) h (λ r n. refl))
 
-pub waiting-new-last : (x : Box) (b : Body) → test2 x b ≡ false → waitingVisits (newLast b (x .table)) b ≡ visits2 x b
+pub waiting-new-last : (x : Box) (b : Body) → test2 x b ≡ false → waitingVisits (x .low) (newLast b (x .table)) b ≡ visits2 x b
 unfolding waitingVisits visits2 test2
 waiting-new-last x b h =
-    sym (keys-sum (versionUp (x .table)) (versionUp (newLast b (x .table))) (namesNone x) (readsOf b) h (λ r n. sym (named-up x _ r n)))
+    sym (keys-sum (versionUp (x .low) (x .table)) (versionUp (x .low) (newLast b (x .table))) (namesNone x) (readsOf b) h (λ r n. sym (named-up x _ r n)))
