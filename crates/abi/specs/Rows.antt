@@ -5,7 +5,7 @@ use mathlib.Core.List.{List, [], _∷_}
 use Rattle.terms.specs.Group.{boxes, commitList, abortList, commitProof, abortProof, logProof}
 use Rattle.rules.specs.Answers.{answerValues}
 use Rattle.rules.specs.declared.Answer.{Answer}
-use Rattle.rules.specs.declared.Answer.the-variants.{Voted, Decided, Logged, Done, Found, Refused, Elected}
+use Rattle.rules.specs.declared.Answer.the-variants.{Voted, Decided, Logged, Done, Found, Refused, Elected, Raised}
 use Rattle.rules.specs.Calls.{Act}
 use Rattle.rules.specs.Act.{marksAfter}
 use Rattle.rules.specs.declared.Told.{Told}
@@ -20,6 +20,7 @@ answerNumber Done = 4
 answerNumber (Found c u) = 5
 answerNumber (Refused r) = 6
 answerNumber (Elected d v l) = 7
+answerNumber Raised = 8
 
 -- at most four values, zeros behind them
 abbrev pub four : List ℕ → List ℕ

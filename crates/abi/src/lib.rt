@@ -7,7 +7,7 @@ ghost use Rattle.terms.specs.Group.{groupWrong};
 ghost use Rattle.records.specs.declared.ViewMark.the-variants.{VS, EL};
 ghost use Rattle.records.specs.Messages.{readTX, readVL, readViews, readMessage, handedBack};
 ghost use Rattle.rules.specs.Act.{receive, due};
-ghost use Rattle.engine.specs.Outcome.{kept, called};
+ghost use Rattle.engine.specs.Outcome.{kept, called, lowered, tableBy};
 ghost use Rattle.sheet.specs.Sheets.{replyTo, replyValues, sheetAfter};
 ghost use Rattle.arrays.specs.Arrays.{lentTx, lentList, lentViews, markedBy, foundNumber, markNumber, fields, fieldsOf, viewRow, viewFields, viewFieldsOf, ballotNumbers, ballotAnswers, ballotViews};
 ghost use Rattle.election.specs.Elections.{heardValues, said, sheetHeard, gathered};
@@ -32,7 +32,7 @@ use terms::Group;
 use terms::Key;
 use terms::Stamp;
 
-// An answer as five numbers: 1 voted, 2 decided, 3 logged, 4 done, 5 found, 6 refused or 7 elected, and then its values.
+// An answer as five numbers: 1 voted, 2 decided, 3 logged, 4 done, 5 found, 6 refused, 7 elected or 8 raised, and then its values.
 pub fn values(a: Answer) -> [u64; 5]
     ensures { λ r. ⌜ r ≡ answerRow a ⌝ }
 {
@@ -62,6 +62,7 @@ pub fn values(a: Answer) -> [u64; 5]
             records::widened(leader),
             0,
         ],
+        Answer::Raised => [8, 0, 0, 0, 0],
     }
 }
 
@@ -118,6 +119,27 @@ pub extern "C" fn stobbarel_due(
         delta,
     };
     let answer = engine::due(arrays::marked_of(mark), table, marks, told, message);
+    put(out, values(answer));
+}
+
+// The low mark raised. It is told f and capacity only: no clock matters.
+#[no_mangle]
+pub extern "C" fn stobbarel_raise(
+    table: &mut [u8],
+    f: u64,
+    capacity: u64,
+    low: u64,
+    out: &mut [u64; 5],
+)
+    ensures { λ r. ⌜ (now (out .exit) ≡ answerRow (lowered low (toldOf f capacity 0 0) (now (table .entry)) .answer)) × (now (table .exit) ≡ tableBy (now (table .entry)) (lowered low (toldOf f capacity 0 0) (now (table .entry)) .change)) ⌝ }
+{
+    let told = Told {
+        f,
+        capacity,
+        clock: 0,
+        delta: 0,
+    };
+    let answer = engine::raise_low(table, told, Stamp(low));
     put(out, values(answer));
 }
 

@@ -13,7 +13,8 @@ use Rattle.rules.specs.declared.Told.{Told}
 use Rattle.rules.specs.Bodies.{Body, sameBody}
 use Rattle.rules.specs.Act.{EntryPoint, marksAfter}
 use Rattle.rules.specs.System.{Event, Given, HonestBy, SafeBy, Sound, Word, answerTo, boxAt, givenIn, howMany, isWord, toldAt, wordIn}
-use Rattle.table.specs.Table.{countOf}
+use Rattle.rules.specs.Table.{noVersion}
+use Rattle.table.specs.Table.{countOf, foldsOf, lowOf}
 use Rattle.engine.specs.Outcome.{Kept, boxIn, called, lentWrong, tableBy}
 
 -- what an entry point leaves of what is kept: the two equations of its contract
@@ -37,10 +38,12 @@ gaveBy f start (e ∷ es) i b w =
     (eqb (e .box) i && (sameBody (txPart (e .message)) b && isWord w (wordIn (answered f start e es)))) || gaveBy f start es i b w
 
 -- ---- the premises
--- "starting empty": no entry is counted, and no key was read. Any slice will do: a call whose capacity needs a longer one is refused with 16
+-- "starting empty": no entry is counted, no key was read, and nothing was let go. Any slice will do: a call whose capacity needs a longer one is refused with 16
 pub record Empty (x : Kept) : Type 0 where
   pub none : countOf (x .table) ≡ 0
   pub unread : x .marks ≡ replicate 512 0
+  pub low : lowOf (x .table) ≡ 0
+  pub folds : foldsOf (x .table) ≡ replicate 512 noVersion
 
 -- the lists that sound boxes read are backed by what the entry points answered before
 unfoldable pub FairCalls : ℕ → (ℕ → Bool) → (ℕ → Kept) → List Event → Type 0

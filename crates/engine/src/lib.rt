@@ -1,10 +1,10 @@
-// The entry points of a box: one for any message, one where a certain mark is due. Each is 14, 16, a reading, then one act of the rules.
+// The entry points of a box: one for any message, one where a certain mark is due, one that raises its low mark. Each is 14, 16, the message's refusal, then one act of the rules.
 ghost use mathlib.Core.Path.{_≡_};
 ghost use Prim.Native.Nat.{_≤_};
 ghost use Rattle.records.specs.Cutting.{txPart};
 ghost use Rattle.records.specs.Messages.{dueRefusal};
 ghost use Rattle.rules.specs.Act.{receive, due, dueAct, dueMark, toldWrong, rule, raise};
-ghost use Rattle.engine.specs.Outcome.{kept, boxIn, lentWrong, calledBy, called, tableOf, marksOf, Leaves, Ready, Does};
+ghost use Rattle.engine.specs.Outcome.{kept, boxIn, lentWrong, calledBy, called, lowered, oldNow, tableBy, tableOf, marksOf, Leaves, Ready, Does};
 use records::Mark;
 use records::Marked;
 use records::ViewMark;
@@ -40,15 +40,26 @@ fn lent_wrong(t: &[u8], told: Told) -> u8
     table::table_wrong(t, told.capacity as usize)
 }
 
-// A message that is in order, on a table that is taken: by its mark, one step of the rules.
+// Whether a message that is in order is old: its transaction's stamp is at or below the low mark. RD asks for itself.
+fn is_old(mark: Mark, t: &[u8], m: &[u8]) -> bool
+    requires { ⌜ (headLen ≤ length (now t)) × ((f : ℕ) × (dueRefusal mark f (now m) ≡ 0)) ⌝ }
+    ensures { λ r. ⌜ r ≡ oldNow mark (lowOf (now (t .entry))) (now (m .entry)) ⌝ }
+{
+    match mark {
+        Mark::RD => false,
+        _ => table::stamp_of(reading::tx_part_of(m)).0 <= table::low_of(t).0,
+    }
+}
+
+// A message that is in order and not old, on a table that is taken: by its mark, one step of the rules.
 fn step_of(mark: Mark, t: &[u8], marks: &[u64], told: Told, m: &[u8]) -> Step
-    requires { ⌜ (lentWrong told (now t) ≡ 0) × (dueRefusal mark (told .f) (now m) ≡ 0) ⌝ }
+    requires { ⌜ (lentWrong told (now t) ≡ 0) × (dueRefusal mark (told .f) (now m) ≡ 0) × (oldNow mark (lowOf (now t)) (now m) ≡ false) ⌝ }
     ensures { λ r. ⌜ Does (rule mark told (boxIn (kept (now (t .entry)) (now (marks .entry)))) (now (m .entry))) (now (t .entry)) (now (m .entry)) r ⌝ }
 {
     let n = table::count_of(t);
     let rows = table::rows(t);
     match mark {
-        Mark::PR => steps::pr_step(rows, n, marks, told, reading::tx_part_of(m)),
+        Mark::PR => steps::pr_step(t, rows, n, marks, told, reading::tx_part_of(m)),
         Mark::LG => {
             let list = reading::list_behind(m);
             steps::lg_step(rows, n, told, reading::tx_part_of(m), list)
@@ -57,7 +68,7 @@ fn step_of(mark: Mark, t: &[u8], marks: &[u64], told: Told, m: &[u8]) -> Step
             let list = reading::list_behind(m);
             steps::dc_step(rows, n, told, reading::tx_part_of(m), list)
         }
-        Mark::RD => steps::rd_step(rows, n, told, reading::rd_key(m), reading::rd_stamp(m)),
+        Mark::RD => steps::rd_step(t, rows, n, told, reading::rd_key(m), reading::rd_stamp(m)),
         Mark::IV => {
             let views = reading::views_behind(ViewMark::VS, m);
             steps::iv_step(rows, n, told, reading::tx_part_of(m), views)
@@ -77,6 +88,9 @@ fn due_step(mark: Mark, t: &[u8], marks: &[u64], told: Told, m: &[u8]) -> Step
     let wrong = reading::due_wrong(mark, told.f, m);
     if wrong != 0 {
         return Step::refuse(Refusal::of(wrong));
+    }
+    if is_old(mark, t, m) {
+        return Step::refuse(Refusal::Old);
     }
     step_of(mark, t, marks, told, m)
 }
@@ -169,4 +183,20 @@ pub fn receive(table: &mut [u8], marks: &mut [u64; 512], told: Told, message: &[
     ensures { λ r. ⌜ Leaves (called receive told (kept (now (table .entry)) (now (marks .entry))) (now (message .entry))) (kept (now (table .entry)) (now (marks .entry))) r (kept (now (table .exit)) (now (marks .exit))) ⌝ }
 {
     run(reading::mark_of(message), table, marks, told, message)
+}
+
+// The low mark raised to `low`: committed entries at or below it fold, they and the aborted ones leave. No message: no peer may ask for it.
+pub fn raise_low(table: &mut [u8], told: Told, low: Stamp) -> Answer
+    ensures { λ r. ⌜ (r ≡ lowered (low .0) told (now (table .entry)) .answer) × (now (table .exit) ≡ tableBy (now (table .entry)) (lowered (low .0) told (now (table .entry)) .change)) ⌝ }
+{
+    let wrong = lent_wrong(table, told);
+    if wrong != 0 {
+        return Answer::Refused(Refusal::of(wrong));
+    }
+    let wrong = low::low_wrong(table, low);
+    if wrong != 0 {
+        return Answer::Refused(Refusal::of(wrong));
+    }
+    low::raise(table, low);
+    Answer::Raised
 }

@@ -1,5 +1,5 @@
 -- 01, 'Bench program': "Each record prints number from 0, its mark (`??` if the mark is cut or not GP, CK, PR, LG, DC, RD), the answer."
--- A5 adds IV and LD.
+-- A5 adds IV and LD, A11 LM.
 use Prim.Native.Nat.{ℕ, zero, suc, _+_, _-_, _*_, _/_, _%_, _≤_}
 use mathlib.Core.Path.{_≡_}
 use mathlib.Core.Bool.{Bool, true, false, _||_}
@@ -19,7 +19,7 @@ use Rattle.rules.specs.declared.Vote.{Vote}
 use Rattle.rules.specs.declared.Vote.the-variants.{None as unvoted, Commit as voteCommit, Abort as voteAbort, Waiting as waiting}
 use Rattle.rules.specs.declared.Version.{Version}
 use Rattle.rules.specs.declared.Answer.{Answer}
-use Rattle.rules.specs.declared.Answer.the-variants.{Voted, Decided, Logged, Done, Found, Refused, Elected}
+use Rattle.rules.specs.declared.Answer.the-variants.{Voted, Decided, Logged, Done, Found, Refused, Elected, Raised}
 use Rattle.lines.specs.declared.Said.{Said}
 use Rattle.lines.specs.declared.Said.the-variants.{Taken, Answered}
 
@@ -131,6 +131,7 @@ answerText Done = doneText
 answerText (Found c u) = foundText c u
 answerText (Refused r) = refusalText r
 answerText (Elected d v l) = electedText d (v .0) l
+answerText Raised = okText
 
 -- "`ok`": a GP or a CK that was taken
 unfoldable pub saidText : Said → List ℕ
@@ -144,6 +145,9 @@ markGP = 71 ∷ 80 ∷ []
 abbrev pub markCK : List ℕ
 markCK = 67 ∷ 75 ∷ []
 
+abbrev pub markLM : List ℕ
+markLM = 76 ∷ 77 ∷ []
+
 -- "??"
 abbrev pub noMark : List ℕ
 noMark = 63 ∷ 63 ∷ []
@@ -155,7 +159,7 @@ isMessage (Unmarked n) = false
 
 -- "its mark (`??` if the mark is cut or not GP, CK, PR, LG, DC, RD)"
 unfoldable pub known : List ℕ → Bool
-known s = pick (ltb (length s) 2) false (isMark markGP s || (isMark markCK s || isMessage (markOf s)))
+known s = pick (ltb (length s) 2) false (isMark markGP s || (isMark markCK s || (isMark markLM s || isMessage (markOf s))))
 
 unfoldable pub markText : List ℕ → List ℕ
 markText s = pick (known s) (take 2 s) noMark

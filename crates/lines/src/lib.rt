@@ -57,7 +57,7 @@ fn is_message(found: Marked) -> bool
     }
 }
 
-// Whether a record begins with one of the six marks; one that is cut does not.
+// Whether a record begins with a mark that the bench knows; one that is cut does not.
 fn is_known(s: &[u8]) -> bool
     ensures { λ r. ⌜ r ≡ known (now (s .entry)) ⌝ }
 {
@@ -68,6 +68,9 @@ fn is_known(s: &[u8]) -> bool
         return true;
     }
     if reading::is_mark(s, b"CK") {
+        return true;
+    }
+    if reading::is_mark(s, b"LM") {
         return true;
     }
     is_message(reading::mark_of(s))
@@ -185,6 +188,7 @@ fn put_answer(out: &mut [u8], at: usize, answer: Answer) -> usize
         Answer::Found(committed, undecided) => put_found(out, at, committed, undecided),
         Answer::Refused(why) => put_refusal(out, at, why),
         Answer::Elected(d, v, leader) => put_elected(out, at, d, v, leader),
+        Answer::Raised => put_text(out, at, b"ok"),
     }
 }
 

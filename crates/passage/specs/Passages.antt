@@ -6,8 +6,9 @@ use Rattle.terms.specs.Checks.{orElse, ifLess, ifSame, ifOther, mark, range, pa
 use Rattle.terms.specs.declared.Key.{Key}
 use Rattle.terms.specs.Refusals.{numberOf, refusalOf}
 use Rattle.rules.specs.declared.Version.{Version}
+use Rattle.rules.specs.Table.{noVersion}
 use Rattle.rules.specs.declared.Answer.{Answer}
-use Rattle.rules.specs.declared.Answer.the-variants.{Voted, Decided, Logged, Done, Found, Refused as Unanswered, Elected}
+use Rattle.rules.specs.declared.Answer.the-variants.{Voted, Decided, Logged, Done, Found, Refused as Unanswered, Elected, Raised}
 use Rattle.passage.specs.declared.Values.{Values}
 use Rattle.passage.specs.declared.Seen.{Seen}
 use Rattle.passage.specs.declared.Sight.{Sight}
@@ -98,25 +99,24 @@ unfoldable pub asksOf : ℕ → ℕ → Asked
 asksOf p s = asksBy (asksWrong p s) p s
 
 -- the committed half of an answer
-abbrev pub noVersion : Version
-noVersion = record { stamp = record { 0 = 0 }; value = 0 }
-
 abbrev pub half : Answer → Version
 half (Voted v n) = noVersion
 half (Decided d) = noVersion
 half (Logged d v) = noVersion
 half (Elected d v l) = noVersion
 half Done = noVersion
+half Raised = noVersion
 half (Found committed undecided) = committed
 half (Unanswered r) = noVersion
 
--- why there is none: the box's refusal (14, 16, 1 to 5, 15), or the answer to another message
+-- why there is none: the box's refusal (14, 16, 1 to 5, 15, 18), or the answer to another message
 abbrev pub unfound : Answer → ℕ
 unfound (Voted v n) = mark
 unfound (Decided d) = mark
 unfound (Logged d v) = mark
 unfound (Elected d v l) = mark
 unfound Done = mark
+unfound Raised = mark
 unfound (Found committed undecided) = 0
 unfound (Unanswered r) = numberOf r
 

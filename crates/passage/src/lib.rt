@@ -239,6 +239,7 @@ fn half(a: Answer) -> Version
         Answer::Found(committed, _) => committed,
         Answer::Refused(_) => NO_VERSION,
         Answer::Elected(_, _, _) => NO_VERSION,
+        Answer::Raised => NO_VERSION,
     }
 }
 
@@ -254,6 +255,7 @@ fn unfound(a: Answer) -> u8
         Answer::Found(_, _) => 0,
         Answer::Refused(r) => r.number(),
         Answer::Elected(_, _, _) => terms::MARK,
+        Answer::Raised => terms::MARK,
     }
 }
 

@@ -15,13 +15,13 @@ use Rattle.records.specs.declared.Marked.the-variants.{Is, Refused as Unmarked}
 use Rattle.records.specs.Cutting.{markWrong, messageCut, messageLen}
 use Rattle.records.specs.Messages.{isMark, markOf}
 use Rattle.rules.specs.declared.Answer.{Answer}
-use Rattle.rules.specs.declared.Answer.the-variants.{Voted, Decided, Logged, Done, Found, Refused, Elected}
+use Rattle.rules.specs.declared.Answer.the-variants.{Voted, Decided, Logged, Done, Found, Refused, Elected, Raised}
 use Rattle.rules.specs.declared.Told.{Told}
 use Rattle.rules.specs.Table.{Box, empty}
-use Rattle.rules.specs.Act.{receive, toldWrong, act, after}
+use Rattle.rules.specs.Act.{EntryPoint, receive, raising, toldWrong, act, after}
 use Rattle.lines.specs.declared.Said.{Said}
 use Rattle.lines.specs.declared.Said.the-variants.{Taken, Answered}
-use Rattle.lines.specs.Lines.{lineOf, markGP, markCK}
+use Rattle.lines.specs.Lines.{lineOf, markGP, markCK, markLM}
 
 -- "Reads standard input, at most 65,536 bytes (more: the one line `too long` ..)"
 abbrev pub longest : ℕ
@@ -46,6 +46,10 @@ gpRefusal s = orElse (markWrong markGP s) (orElse (ifLess (length s) gpLen short
 abbrev pub ckLen : ℕ
 ckLen = 10
 
+-- A11: LM, "LM" and the low mark in 8 bytes
+abbrev pub lmLen : ℕ
+lmLen = 10
+
 -- a message at the front, by its mark, and its length
 unfoldable pub markedCut : Marked → List ℕ → ℕ
 markedCut (Is k) s = messageCut k s
@@ -60,20 +64,24 @@ markedLen (Unmarked n) s = 0
 unfoldable pub recordCut : List ℕ → ℕ
 recordCut s =
     orElse (ifLess (length s) 2 short)
-    (pick (isMark markCK s) (ifLess (length s) ckLen short) (markedCut (markOf s) s))
+    (pick (isMark markCK s) (ifLess (length s) ckLen short) (pick (isMark markLM s) (ifLess (length s) lmLen short) (markedCut (markOf s) s)))
 
 unfoldable pub recordLen : List ℕ → ℕ
-recordLen s = pick (isMark markCK s) ckLen (markedLen (markOf s) s)
+recordLen s = pick (isMark markCK s) ckLen (pick (isMark markLM s) lmLen (markedLen (markOf s) s))
 
 unfoldable pub front : List ℕ → List ℕ
 front s = take (recordLen s) s
 
--- what a record says, and what stands afterwards: a CK moves the clock, a message reaches the box
+-- an LM raises the low mark, a message reaches the box
+unfoldable pub entryPoint : List ℕ → EntryPoint
+entryPoint m = pick (isMark markLM m) (raising (numAt 8 2 m)) receive
+
+-- what a record says, and what stands afterwards: a CK moves the clock, every other one is a call
 unfoldable pub said : Told → Box → List ℕ → Said
-said told x m = pick (isMark markCK m) Taken (Answered (act receive told x m .answer))
+said told x m = pick (isMark markCK m) Taken (Answered (act (entryPoint m) told x m .answer))
 
 unfoldable pub boxNext : Told → Box → List ℕ → Box
-boxNext told x m = pick (isMark markCK m) x (after receive told x m)
+boxNext told x m = pick (isMark markCK m) x (after (entryPoint m) told x m)
 
 unfoldable pub clockNext : ℕ → List ℕ → ℕ
 clockNext clock m = pick (isMark markCK m) (numAt 8 2 m) clock
@@ -88,6 +96,7 @@ answerStops (Decided d) = false
 answerStops (Logged d v) = false
 answerStops (Elected d v l) = false
 answerStops Done = false
+answerStops Raised = false
 answerStops (Found committed undecided) = false
 answerStops (Refused r) = stopsAt (numberOf r)
 

@@ -6,20 +6,19 @@ use lib.ListN.{length}
 use Rattle.terms.specs.Choice.{pick}
 use Rattle.records.specs.Messages.{isMark}
 use Rattle.rules.specs.declared.Told.{Told}
-use Rattle.rules.specs.Act.{receive}
 use Rattle.engine.specs.Outcome.{Kept, called}
 use Rattle.engine.specs.Safety.{leaves}
 use Rattle.lines.specs.declared.Said.{Said}
 use Rattle.lines.specs.declared.Said.the-variants.{Taken, Answered}
 use Rattle.lines.specs.Lines.{markCK}
-use Rattle.replay.specs.Bench.{front, recordLen}
+use Rattle.replay.specs.Bench.{entryPoint, front, recordLen}
 
 -- m is the record at the front of s
 abbrev pub Fronted : List ℕ → List ℕ → Type 0
 Fronted s m = (m ≡ front s) × (length m ≡ recordLen s) × (10 ≤ length m) × (length m ≤ length s)
 
 unfoldable pub saidTo : Told → Kept → List ℕ → Said
-saidTo told x m = pick (isMark markCK m) Taken (Answered (called receive told x m .answer))
+saidTo told x m = pick (isMark markCK m) Taken (Answered (called (entryPoint m) told x m .answer))
 
 unfoldable pub keptNext : Told → Kept → List ℕ → Kept
-keptNext told x m = pick (isMark markCK m) x (leaves receive told x m)
+keptNext told x m = pick (isMark markCK m) x (leaves (entryPoint m) told x m)

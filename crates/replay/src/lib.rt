@@ -19,11 +19,12 @@ use records::Written;
 use rules::Answer;
 use rules::Told;
 use terms::Refusal;
+use terms::Stamp;
 
 // Room for the lines of every input: a line is at most 112 bytes, and all records but the last have at least ten.
 pub const ROOM: usize = 786_544;
 
-// A table with room for every capacity: a count and 255 rows of 180.
+// A table with room for every capacity.
 const TABLE: usize = table::HEAD + 255 * table::ROW;
 
 // What a GP tells a box, at a clock.
@@ -56,7 +57,7 @@ fn gp_wrong(s: &[u8]) -> u8
     engine::told_wrong(told_of(s, 0))
 }
 
-// A CK at the front, by its mark.
+// A CK or an LM at the front, by its mark.
 fn ck_cut(s: &[u8]) -> u8
     ensures { λ r. ⌜ r ≡ ifLess (length (now (s .entry))) ckLen short ⌝ }
 {
@@ -76,6 +77,9 @@ fn record_cut(s: &[u8]) -> u8
     if reading::is_mark(s, b"CK") {
         return ck_cut(s);
     }
+    if reading::is_mark(s, b"LM") {
+        return ck_cut(s);
+    }
     let marked = reading::mark_of(s);
     match marked {
         Marked::Is(mark) => reading::message_cut(mark, s),
@@ -91,6 +95,9 @@ fn record_len(s: &[u8]) -> usize
     if reading::is_mark(s, b"CK") {
         return 10;
     }
+    if reading::is_mark(s, b"LM") {
+        return 10;
+    }
     let marked = reading::mark_of(s);
     match marked {
         Marked::Is(mark) => reading::message_len(mark, s),
@@ -98,13 +105,17 @@ fn record_len(s: &[u8]) -> usize
     }
 }
 
-// A CK is taken; a message reaches the box.
+// A CK is taken; an LM raises the low mark, a message reaches the box.
 fn turn(table: &mut [u8], marks: &mut [u64; 512], told: Told, m: &[u8]) -> Said
-    requires { ⌜ 2 ≤ length (now m) ⌝ }
+    requires { ⌜ 10 ≤ length (now m) ⌝ }
     ensures { λ r. ⌜ (r ≡ saidTo told (kept (now (table .entry)) (now (marks .entry))) (now (m .entry))) × (now (table .exit) ≡ keptNext told (kept (now (table .entry)) (now (marks .entry))) (now (m .entry)) .table) × (now (marks .exit) ≡ keptNext told (kept (now (table .entry)) (now (marks .entry))) (now (m .entry)) .marks) ⌝ }
 {
     if reading::is_mark(m, b"CK") {
         return Said::Taken;
+    }
+    if reading::is_mark(m, b"LM") {
+        let raised = engine::raise_low(table, told, Stamp(records::u64_at(m, 2)));
+        return Said::Answered(raised);
     }
     let answer = engine::receive(table, marks, told, m);
     Said::Answered(answer)
@@ -146,6 +157,7 @@ fn answer_stops(a: Answer) -> bool
         Answer::Found(_, _) => false,
         Answer::Refused(r) => stops_at(r.number()),
         Answer::Elected(_, _, _) => false,
+        Answer::Raised => false,
     }
 }
 
