@@ -5,7 +5,9 @@
 //!
 //! What is printed stands in dispatcher.stdout, and the tests compare it.
 
-use stobbarel::{write_dc, write_lg, write_pr, Answer, Decision, Group, Passage, Refusal, Seen, Sheet, Stamp, Table, Transaction, Values, View, VoteList, LONGEST};
+use stobbarel::{
+    write_dc, write_lg, write_pr, Answer, Decision, Group, Passage, Refusal, Seen, Sheet, Stamp, Table, Transaction, Values, View, VoteList, LONGEST,
+};
 use Decision::{Abort, Commit};
 
 const PASSAGE: Passage = Passage(5);

@@ -276,7 +276,8 @@ impl Desk {
 
     /// What stood in the way and is finished is put away.
     fn tidy(&mut self) {
-        let needed: Vec<Vec<u8>> = self.works.values().filter(|work| work.own || work.gateway.outcome().is_none()).flat_map(|work| work.below.clone()).collect();
+        let needed: Vec<Vec<u8>> =
+            self.works.values().filter(|work| work.own || work.gateway.outcome().is_none()).flat_map(|work| work.below.clone()).collect();
         self.works.retain(|body, work| work.own || !work.gateway.finished() || needed.contains(body));
     }
 }

@@ -84,7 +84,15 @@ impl ElectionSheet {
         // Each pointer is to as many numbers as the function takes, and they do not overlap.
         Refusal::or_done(unsafe {
             c::stobbarel_election(
-                self.view.0, self.commits, self.aborts, self.group.f(), stamp.0, head.as_mut_ptr(), numbers.as_mut_ptr(), answers.as_mut_ptr(), views.as_mut_ptr(),
+                self.view.0,
+                self.commits,
+                self.aborts,
+                self.group.f(),
+                stamp.0,
+                head.as_mut_ptr(),
+                numbers.as_mut_ptr(),
+                answers.as_mut_ptr(),
+                views.as_mut_ptr(),
             )
         })?;
         let [leader, decision, view, count] = head;

@@ -119,9 +119,31 @@ impl Gateway {
             abort_proof: group.abort_proof() as u8,
         };
         Ok(Gateway {
-            group, timing, tx, body, step: Step::Vote, due: 0, tries: 0, late: false, votes: Sheet::votes(group), lacks, waiting: 0, barred: 0, clashed: 0,
-            lg: vec![], logs: BTreeMap::new(), logged: 0, views, view: View(0), iv: vec![], spoken: BTreeMap::new(), unlogged: 0, levelled: 0, falls: 0,
-            proof: None, settled: 0,
+            group,
+            timing,
+            tx,
+            body,
+            step: Step::Vote,
+            due: 0,
+            tries: 0,
+            late: false,
+            votes: Sheet::votes(group),
+            lacks,
+            waiting: 0,
+            barred: 0,
+            clashed: 0,
+            lg: vec![],
+            logs: BTreeMap::new(),
+            logged: 0,
+            views,
+            view: View(0),
+            iv: vec![],
+            spoken: BTreeMap::new(),
+            unlogged: 0,
+            levelled: 0,
+            falls: 0,
+            proof: None,
+            settled: 0,
         })
     }
 
@@ -190,7 +212,11 @@ impl Gateway {
     /// A PR again to a box that has not voted: what it waits for is decided there.
     pub fn prompt(&mut self, to: u8) -> Vec<Letter> {
         let unheard = self.all() & 1u32.checked_shl(to.into()).unwrap_or(0) & !self.voters();
-        if self.step == Step::Vote { self.letters(unheard, &self.pr()) } else { vec![] }
+        if self.step == Step::Vote {
+            self.letters(unheard, &self.pr())
+        } else {
+            vec![]
+        }
     }
 
     /// The transaction.

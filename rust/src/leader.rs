@@ -30,7 +30,14 @@ impl Leader {
         if self.highest.get(&from).is_some_and(|(known, _)| *known > view) || u64::from(from) >= self.group.boxes() {
             return vec![];
         }
-        self.highest.entry(from).and_modify(|known| if known.0 < view { *known = (view, decision) }).or_insert((view, decision));
+        self.highest
+            .entry(from)
+            .and_modify(|known| {
+                if known.0 < view {
+                    *known = (view, decision)
+                }
+            })
+            .or_insert((view, decision));
         if let Some(ld) = self.fixed.get(&view) {
             return vec![Letter { to: from, load: Load::Message(ld.clone()) }];
         }

@@ -148,7 +148,16 @@ impl Seen {
         let mut made = Made::default();
         // The pointers are to four numbers, and to eight.
         let number = unsafe {
-            c::stobbarel_correct_direction(self.passage.0, stamp.0, self.versions.as_ptr(), self.values.as_ptr(), made.reads.as_mut_ptr(), made.versions.as_mut_ptr(), made.writes.as_mut_ptr(), made.values.as_mut_ptr())
+            c::stobbarel_correct_direction(
+                self.passage.0,
+                stamp.0,
+                self.versions.as_ptr(),
+                self.values.as_ptr(),
+                made.reads.as_mut_ptr(),
+                made.versions.as_mut_ptr(),
+                made.writes.as_mut_ptr(),
+                made.values.as_mut_ptr(),
+            )
         };
         made.transaction(stamp, number)
     }
@@ -158,7 +167,17 @@ impl Seen {
         let mut made = Made::default();
         // The pointers are to four numbers, and to eight.
         let number = unsafe {
-            c::stobbarel_correct(self.passage.0, stamp.0, self.versions.as_ptr(), self.values.as_ptr(), new.lent().as_ptr(), made.reads.as_mut_ptr(), made.versions.as_mut_ptr(), made.writes.as_mut_ptr(), made.values.as_mut_ptr())
+            c::stobbarel_correct(
+                self.passage.0,
+                stamp.0,
+                self.versions.as_ptr(),
+                self.values.as_ptr(),
+                new.lent().as_ptr(),
+                made.reads.as_mut_ptr(),
+                made.versions.as_mut_ptr(),
+                made.writes.as_mut_ptr(),
+                made.values.as_mut_ptr(),
+            )
         };
         made.transaction(stamp, number)
     }
@@ -168,7 +187,17 @@ impl Seen {
         let mut made = Made::default();
         // The pointers are to four numbers, and to eight.
         let number = unsafe {
-            c::stobbarel_enter(self.passage.0, stamp.0, self.versions.as_ptr(), self.values.as_ptr(), new.lent().as_ptr(), made.reads.as_mut_ptr(), made.versions.as_mut_ptr(), made.writes.as_mut_ptr(), made.values.as_mut_ptr())
+            c::stobbarel_enter(
+                self.passage.0,
+                stamp.0,
+                self.versions.as_ptr(),
+                self.values.as_ptr(),
+                new.lent().as_ptr(),
+                made.reads.as_mut_ptr(),
+                made.versions.as_mut_ptr(),
+                made.writes.as_mut_ptr(),
+                made.values.as_mut_ptr(),
+            )
         };
         made.transaction(stamp, number)
     }

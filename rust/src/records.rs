@@ -153,7 +153,18 @@ fn told(write: impl FnOnce(&mut usize) -> u8) -> Result<usize, Refusal> {
 pub fn write_tx(tx: &Transaction, out: &mut [u8]) -> Result<usize, Refusal> {
     let x = LentTx::of(tx);
     told(|length| unsafe {
-        c::stobbarel_write_tx(x.stamp, x.r, x.w, x.reads.as_ptr(), x.versions.as_ptr(), x.writes.as_ptr(), x.values.as_ptr(), out.as_mut_ptr(), out.len(), length)
+        c::stobbarel_write_tx(
+            x.stamp,
+            x.r,
+            x.w,
+            x.reads.as_ptr(),
+            x.versions.as_ptr(),
+            x.writes.as_ptr(),
+            x.values.as_ptr(),
+            out.as_mut_ptr(),
+            out.len(),
+            length,
+        )
     })
 }
 
@@ -169,7 +180,18 @@ pub fn write_vl(group: Group, list: &VoteList, out: &mut [u8]) -> Result<usize, 
 pub fn write_pr(tx: &Transaction, out: &mut [u8]) -> Result<usize, Refusal> {
     let x = LentTx::of(tx);
     told(|length| unsafe {
-        c::stobbarel_write_pr(x.stamp, x.r, x.w, x.reads.as_ptr(), x.versions.as_ptr(), x.writes.as_ptr(), x.values.as_ptr(), out.as_mut_ptr(), out.len(), length)
+        c::stobbarel_write_pr(
+            x.stamp,
+            x.r,
+            x.w,
+            x.reads.as_ptr(),
+            x.versions.as_ptr(),
+            x.writes.as_ptr(),
+            x.values.as_ptr(),
+            out.as_mut_ptr(),
+            out.len(),
+            length,
+        )
     })
 }
 
@@ -177,8 +199,24 @@ fn write_listed(mark: Mark, group: Group, tx: &Transaction, list: &VoteList, out
     let (x, l) = (LentTx::of(tx), LentList::of(list));
     told(|length| unsafe {
         c::stobbarel_write_listed(
-            mark as u64, group.f(), x.stamp, x.r, x.w, x.reads.as_ptr(), x.versions.as_ptr(), x.writes.as_ptr(), x.values.as_ptr(),
-            l.kind, l.decision, l.view, l.count, l.numbers.as_ptr(), l.answers.as_ptr(), out.as_mut_ptr(), out.len(), length,
+            mark as u64,
+            group.f(),
+            x.stamp,
+            x.r,
+            x.w,
+            x.reads.as_ptr(),
+            x.versions.as_ptr(),
+            x.writes.as_ptr(),
+            x.values.as_ptr(),
+            l.kind,
+            l.decision,
+            l.view,
+            l.count,
+            l.numbers.as_ptr(),
+            l.answers.as_ptr(),
+            out.as_mut_ptr(),
+            out.len(),
+            length,
         )
     })
 }
@@ -204,8 +242,17 @@ pub fn write_el(group: Group, election: &Election, out: &mut [u8]) -> Result<usi
     let l = LentViews::elected(election);
     told(|length| unsafe {
         c::stobbarel_write_el(
-            group.f(), election.leader, election.decision as u8, election.view.0, l.count, l.numbers.as_ptr(), l.answers.as_ptr(), l.views.as_ptr(),
-            out.as_mut_ptr(), out.len(), length,
+            group.f(),
+            election.leader,
+            election.decision as u8,
+            election.view.0,
+            l.count,
+            l.numbers.as_ptr(),
+            l.answers.as_ptr(),
+            l.views.as_ptr(),
+            out.as_mut_ptr(),
+            out.len(),
+            length,
         )
     })
 }
@@ -215,8 +262,20 @@ pub fn write_iv(group: Group, tx: &Transaction, views: &[(u8, View)], out: &mut 
     let (x, l) = (LentTx::of(tx), LentViews::told(views));
     told(|length| unsafe {
         c::stobbarel_write_iv(
-            group.f(), x.stamp, x.r, x.w, x.reads.as_ptr(), x.versions.as_ptr(), x.writes.as_ptr(), x.values.as_ptr(),
-            l.count, l.numbers.as_ptr(), l.views.as_ptr(), out.as_mut_ptr(), out.len(), length,
+            group.f(),
+            x.stamp,
+            x.r,
+            x.w,
+            x.reads.as_ptr(),
+            x.versions.as_ptr(),
+            x.writes.as_ptr(),
+            x.values.as_ptr(),
+            l.count,
+            l.numbers.as_ptr(),
+            l.views.as_ptr(),
+            out.as_mut_ptr(),
+            out.len(),
+            length,
         )
     })
 }
@@ -226,8 +285,24 @@ pub fn write_ld(group: Group, tx: &Transaction, election: &Election, out: &mut [
     let (x, l) = (LentTx::of(tx), LentViews::elected(election));
     told(|length| unsafe {
         c::stobbarel_write_ld(
-            group.f(), x.stamp, x.r, x.w, x.reads.as_ptr(), x.versions.as_ptr(), x.writes.as_ptr(), x.values.as_ptr(), election.leader,
-            election.decision as u8, election.view.0, l.count, l.numbers.as_ptr(), l.answers.as_ptr(), l.views.as_ptr(), out.as_mut_ptr(), out.len(), length,
+            group.f(),
+            x.stamp,
+            x.r,
+            x.w,
+            x.reads.as_ptr(),
+            x.versions.as_ptr(),
+            x.writes.as_ptr(),
+            x.values.as_ptr(),
+            election.leader,
+            election.decision as u8,
+            election.view.0,
+            l.count,
+            l.numbers.as_ptr(),
+            l.answers.as_ptr(),
+            l.views.as_ptr(),
+            out.as_mut_ptr(),
+            out.len(),
+            length,
         )
     })
 }
@@ -266,7 +341,9 @@ fn answered(code: u8) -> Decision {
 fn read_views(group: Group, message: &[u8]) -> (u8, u8, View, Vec<(u8, u8, View)>) {
     let (mut head, mut numbers, mut answers, mut views) = ([0; 5], [0; 26], [0; 26], [0; 26]);
     // Each pointer is to as many numbers as the function takes, and they do not overlap.
-    unsafe { c::stobbarel_views(group.f(), message.as_ptr(), message.len(), head.as_mut_ptr(), numbers.as_mut_ptr(), answers.as_mut_ptr(), views.as_mut_ptr()) };
+    unsafe {
+        c::stobbarel_views(group.f(), message.as_ptr(), message.len(), head.as_mut_ptr(), numbers.as_mut_ptr(), answers.as_mut_ptr(), views.as_mut_ptr())
+    };
     let [_, leader, decision, view, count] = head;
     let listed = (0..count as usize).map(|i| (numbers[i], answers[i], View(views[i]))).collect();
     (leader as u8, decision as u8, View(view as u16), listed)
@@ -293,8 +370,16 @@ pub fn read_message(group: Group, message: &[u8]) -> Result<Message, Refusal> {
     // Each pointer is to as many numbers as the function takes, and they do not overlap.
     Refusal::or_done(unsafe {
         c::stobbarel_fields(
-            group.f(), message.as_ptr(), message.len(), head.as_mut_ptr(), reads.as_mut_ptr(), versions.as_mut_ptr(), writes.as_mut_ptr(),
-            values.as_mut_ptr(), numbers.as_mut_ptr(), answers.as_mut_ptr(),
+            group.f(),
+            message.as_ptr(),
+            message.len(),
+            head.as_mut_ptr(),
+            reads.as_mut_ptr(),
+            versions.as_mut_ptr(),
+            writes.as_mut_ptr(),
+            values.as_mut_ptr(),
+            numbers.as_mut_ptr(),
+            answers.as_mut_ptr(),
         )
     })?;
     let [mark, stamp, r, w, key, kind, decision, view, count] = head;

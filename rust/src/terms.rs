@@ -188,7 +188,8 @@ impl Refusal {
     /// The refusal of a number that tells no more; 11 does.
     pub(crate) fn of(number: u64) -> Option<Refusal> {
         use Refusal::*;
-        let box_and_gateway = [Short, Mark, Count, Trailing, Range, Order, Misbehaviour, Code, OtherBody, Unknown, Contradiction, Full, Group, Ahead, Table, Buffer];
+        let box_and_gateway =
+            [Short, Mark, Count, Trailing, Range, Order, Misbehaviour, Code, OtherBody, Unknown, Contradiction, Full, Group, Ahead, Table, Buffer];
         let all = box_and_gateway.into_iter().chain([Passed, NotLogged, Election, LastView]).chain([Passage, Versions, Direction, AxleCount, HotAxle]);
         all.into_iter().find(|one| u64::from(one.number()) == number)
     }

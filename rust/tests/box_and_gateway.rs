@@ -187,7 +187,10 @@ fn a_vote_goes_to_the_tally_as_it_stands() {
     assert_eq!(sheet.take_number(2, 0), Reply::Refused(Refusal::Code));
     assert_eq!(sheet, before);
     assert_eq!((sheet.boxes(Decision::Commit), sheet.boxes(Decision::Abort)), (vec![0], vec![1]));
-    assert_eq!((Vote::Commit.decision(), Vote::Abort(Reason::Ahead).decision(), Vote::Waiting.decision()), (Some(Decision::Commit), Some(Decision::Abort), None));
+    assert_eq!(
+        (Vote::Commit.decision(), Vote::Abort(Reason::Ahead).decision(), Vote::Waiting.decision()),
+        (Some(Decision::Commit), Some(Decision::Abort), None)
+    );
 }
 
 #[test]

@@ -1,8 +1,8 @@
 //! The passage register against a model of its own: reports, corrections and entries of random looks, most of them nearly in order.
 
 use crate::random::Random;
-use stobbarel::{Answer, Key, Passage, Refusal, Report, Stamp, Transaction, Values, Version};
 use std::collections::BTreeMap;
+use stobbarel::{Answer, Key, Passage, Refusal, Report, Stamp, Transaction, Values, Version};
 
 /// What a dispatcher's program would do with four versions and four values, in the paper's words.
 struct Look {
@@ -109,7 +109,10 @@ pub fn check(count: u64, seed: u64) -> bool {
         for number in [report.as_ref().err(), turned.as_ref().err(), corrected.as_ref().err(), entered.as_ref().err()].into_iter().flatten() {
             *seen_numbers.entry(*number).or_default() += 1;
         }
-        let same = report == model.report() && turned == model.correct_direction(stamp) && corrected == model.correct(stamp, new) && entered == model.enter(stamp, new);
+        let same = report == model.report()
+            && turned == model.correct_direction(stamp)
+            && corrected == model.correct(stamp, new)
+            && entered == model.enter(stamp, new);
         disagreements += u64::from(!same);
     }
     let above = (128..140).chain([1 << 14, 1 << 62, u64::MAX]).all(|passage| Passage(passage).asks(Stamp(1)) == Err(Refusal::Passage));

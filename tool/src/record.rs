@@ -1,6 +1,8 @@
 //! The twelve records: read from any bytes, written in their one form. The bench's own two, GP and CK, are read and written here, all others by the package.
 
-use stobbarel::{check_el, check_vl, check_vs, read_message, read_tx, write_tx, Election, Group, Message, Refusal, Table, Transaction, View, VoteList, LONGEST};
+use stobbarel::{
+    check_el, check_vl, check_vs, read_message, read_tx, write_tx, Election, Group, Message, Refusal, Table, Transaction, View, VoteList, LONGEST,
+};
 
 /// A record by itself.
 #[derive(Clone, Debug, PartialEq, Eq)]

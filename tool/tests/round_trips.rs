@@ -75,7 +75,11 @@ fn votes(random: &mut Random, group: Group) -> VoteList {
 
 fn list(random: &mut Random, group: Group) -> VoteList {
     let VoteList { decision, pairs, .. } = votes(random, group);
-    if random.chance(50) { VoteList::votes(decision, pairs) } else { VoteList::logs(view(random), decision, pairs) }
+    if random.chance(50) {
+        VoteList::votes(decision, pairs)
+    } else {
+        VoteList::logs(view(random), decision, pairs)
+    }
 }
 
 fn views(random: &mut Random, group: Group) -> Vec<(u8, View)> {

@@ -4,7 +4,9 @@ use super::world::{model_decision, Habit, Mail, Party, World, DELTA, FIRST_MOMEN
 use crate::judge::Word;
 use crate::model::Kind as ModelKind;
 use std::collections::{BTreeMap, BTreeSet};
-use stobbarel::{in_the_way, question, read_message, tx_part, write_rd, Answer, Decision, Election, Group, Held, Holding, Key, Kind, Leader, Letter, Load, Message};
+use stobbarel::{
+    in_the_way, question, read_message, tx_part, write_rd, Answer, Decision, Election, Group, Held, Holding, Key, Kind, Leader, Letter, Load, Message,
+};
 use stobbarel::{Pace, Question, Stamp, Table, View, VoteList, LONGEST, MOST_HOLDINGS};
 
 /// Room in a table; a box that is full is a world of its own.

@@ -68,7 +68,11 @@ fn full_box() -> Result<(), &'static str> {
     let mut bytes = world.hosts[5].table.bytes().to_vec();
     bytes.resize(table_len(8), 0);
     world.hosts[5].table = Table::kept(group, 8, bytes, *world.hosts[5].table.marks());
-    if world.run(2 * LONG) { Ok(()) } else { Err("room does not mend a full box") }
+    if world.run(2 * LONG) {
+        Ok(())
+    } else {
+        Err("room does not mend a full box")
+    }
 }
 
 /// One body is aborted by a proof, and a single box holds the other: it keeps that one undecided.
@@ -84,7 +88,11 @@ fn orphan() -> Result<(), &'static str> {
     world.run_until(LONG, |_| false);
     let aborted = (0..5).all(|number| world.hosts[number].decided(&forked(1)) == Some(Decision::Abort));
     let left = world.hosts[5].holding(stamp).is_some_and(|(holding, decided)| holding.body == forked(2) && decided.is_none());
-    if aborted && left { Ok(()) } else { Err("the body that one box holds does not stay behind") }
+    if aborted && left {
+        Ok(())
+    } else {
+        Err("the body that one box holds does not stay behind")
+    }
 }
 
 /// All of them, each with what it is.

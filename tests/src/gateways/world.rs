@@ -71,7 +71,12 @@ pub enum Mail {
 
 enum Event {
     /// It was sent so many ways after the first of its kind.
-    Mail { from: Party, to: Party, depth: u64, mail: Mail },
+    Mail {
+        from: Party,
+        to: Party,
+        depth: u64,
+        mail: Mail,
+    },
     Wake(usize),
     Start(usize),
     Strike(usize),
@@ -186,8 +191,26 @@ impl World {
         let hosts = (0..n).map(|_| Host::new(group, random.below(20))).collect();
         let judge = Judge::new(PAPER, f, liars.count_ones() as usize);
         World {
-            group, n, liars, style: Style::Silent, random, now: 0, net, without, queue: BTreeMap::new(), count: 0, hosts, stations: vec![], attacks: vec![], judge,
-            signed: BTreeSet::new(), led: BTreeSet::new(), messages: 0, met: BTreeMap::new(), wrong: None, arrows: None,
+            group,
+            n,
+            liars,
+            style: Style::Silent,
+            random,
+            now: 0,
+            net,
+            without,
+            queue: BTreeMap::new(),
+            count: 0,
+            hosts,
+            stations: vec![],
+            attacks: vec![],
+            judge,
+            signed: BTreeSet::new(),
+            led: BTreeSet::new(),
+            messages: 0,
+            met: BTreeMap::new(),
+            wrong: None,
+            arrows: None,
         }
     }
 
@@ -357,11 +380,12 @@ impl World {
     /// any more.
     pub fn done(&self) -> bool {
         let starts = self.queue.values().any(|event| matches!(event, Event::Start(_)));
-        !starts && self.stations.iter().filter(|station| station.alive).all(|station| {
-            let mut on_desk = station.desk.gateways();
-            let own = |care: &Care| !care.again && care.decided.is_some_and(|(_, _, decision)| self.everywhere(&care.body, decision));
-            station.cares.iter().all(own) && on_desk.all(|gateway| gateway.outcome().is_some_and(|decision| self.everywhere(gateway.body(), decision)))
-        })
+        !starts
+            && self.stations.iter().filter(|station| station.alive).all(|station| {
+                let mut on_desk = station.desk.gateways();
+                let own = |care: &Care| !care.again && care.decided.is_some_and(|(_, _, decision)| self.everywhere(&care.body, decision));
+                station.cares.iter().all(own) && on_desk.all(|gateway| gateway.outcome().is_some_and(|decision| self.everywhere(gateway.body(), decision)))
+            })
     }
 
     fn everywhere(&self, body: &[u8], decision: Decision) -> bool {
