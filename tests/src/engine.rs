@@ -13,6 +13,7 @@ extern "C" {
         mark: u64, table: *mut u8, table_len: usize, marks: *mut u64, f: u64, capacity: u64, clock: u64, delta: u64, message: *const u8, message_len: usize,
         out: *mut u64,
     );
+    fn stobbarel_raise(table: *mut u8, table_len: usize, f: u64, capacity: u64, low: u64, out: *mut u64);
     fn stobbarel_held(table: *const u8, table_len: usize, capacity: u64, stamp: u64, out: *mut u64) -> u8;
     fn stobbarel_reading(f: u64, message: *const u8, message_len: usize) -> u8;
     fn stobbarel_part(f: u64, message: *const u8, message_len: usize) -> usize;
@@ -69,6 +70,8 @@ pub enum Entrance {
     Receive,
     /// `stobbarel_due` with this number for the mark.
     Due(u64),
+    /// `stobbarel_raise` with this low mark: it takes no message, and neither clock nor read marks.
+    Raise(u64),
 }
 
 impl Entrance {
@@ -80,14 +83,15 @@ impl Entrance {
         MARKS.iter().position(|one| *one == mark).map(|place| Entrance::Due(place as u64 + 1))
     }
 
-    pub const NAMES: [&'static str; 8] =
-        ["by receive", "by due, PR", "by due, LG", "by due, DC", "by due, RD", "by due, IV", "by due, LD", "by due, a number that is no mark"];
+    pub const NAMES: [&'static str; 9] =
+        ["by receive", "by due, PR", "by due, LG", "by due, DC", "by due, RD", "by due, IV", "by due, LD", "by due, a number that is no mark", "by raise"];
 
     pub fn name(self) -> &'static str {
         match self {
             Entrance::Receive => Self::NAMES[0],
             Entrance::Due(number @ 1..=6) => Self::NAMES[number as usize],
             Entrance::Due(_) => Self::NAMES[7],
+            Entrance::Raise(_) => Self::NAMES[8],
         }
     }
 
@@ -96,7 +100,7 @@ impl Entrance {
         match self {
             Entrance::Receive => &MARKS,
             Entrance::Due(number @ 1..=6) => &MARKS[number as usize - 1..number as usize],
-            Entrance::Due(_) => &[],
+            Entrance::Due(_) | Entrance::Raise(_) => &[],
         }
     }
 }
@@ -137,8 +141,9 @@ pub fn answer_of(out: [u64; 5]) -> Option<Answer> {
         [4, 0, 0, 0, 0] => Some(Answer::Done),
         [5, a, b, c, d] => Some(Answer::Found { committed: (a, b), undecided: (c, d) }),
         [6, 11, lacking @ 1..=26, 0, 0] => Some(Answer::TooFew(lacking as u8)),
-        [6, number @ (1..=10 | 12..=17 | 21..=24), 0, 0, 0] => Some(Answer::Refused(number as u8)),
+        [6, number @ (1..=10 | 12..=19 | 21..=24), 0, 0, 0] => Some(Answer::Refused(number as u8)),
         [7, code, view @ 0..=65535, leader @ 0..=25, 0] => decision(code).map(|decision| Answer::Elected { decision, view: view as u16, leader: leader as u8 }),
+        [8, 0, 0, 0, 0] => Some(Answer::Raised),
         _ => None,
     }
 }
@@ -162,6 +167,7 @@ pub fn call(entrance: Entrance, table: &mut Vec<u8>, marks: &mut Vec<u64>, s: &S
         match entrance {
             Entrance::Receive => stobbarel_receive(t, n, k, s.f, s.capacity, s.clock, s.delta, m, l, o),
             Entrance::Due(mark) => stobbarel_due(mark, t, n, k, s.f, s.capacity, s.clock, s.delta, m, l, o),
+            Entrance::Raise(low) => stobbarel_raise(t, n, s.f, s.capacity, low, o),
         }
     }
     if room[..GUARD].iter().chain(&room[GUARD + table.len()..]).any(|byte| *byte != 0xa5) {
