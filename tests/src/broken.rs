@@ -414,8 +414,8 @@ impl Member for Bad {
         match self {
             Bad::HoldsTheLast => {
                 let held = own()?;
-                let places = (0..table[0].into()).filter(|place| table[row_at(*place) + BODY_AT + 4..][..8] == stamp.to_le_bytes());
-                let Some(last) = places.last() else { return Ok(held) };
+                let mut places = (0..table[0].into()).filter(|place| table[row_at(*place) + BODY_AT + 4..][..8] == stamp.to_le_bytes());
+                let Some(last) = places.next_back() else { return Ok(held) };
                 let alone = [&[1], &[0; HEAD - 1][..], &table[row_at(last)..row_at(last + 1)]].concat();
                 Ok(model::held(&alone, 1, stamp)?.map(|held| Holding { at: row_at(last) + BODY_AT, ..held }))
             }

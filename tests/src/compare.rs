@@ -158,7 +158,7 @@ fn told(message: &[u8], refused: u8) -> Option<&'static str> {
         (b"LD", b"EL") => (true, 7, 4),
         _ => return None,
     };
-    let short = refused == 1 && listed.get(head - 1).map_or(true, |count| listed.len() < head + each * usize::from(*count));
+    let short = refused == 1 && listed.get(head - 1).is_none_or(|count| listed.len() < head + each * usize::from(*count));
     match refused {
         1 if short => Some(CIRCUMSTANCES[15 + usize::from(election)]),
         3 | 4 => Some(CIRCUMSTANCES[17]),

@@ -1264,7 +1264,7 @@ impl Store<'_> {
                     Ordering::Equal => !self.rules.hold(Rule::FirstAmongEquals),
                     Ordering::Greater => true,
                 };
-                if best.map_or(true, higher) {
+                if best.is_none_or(higher) {
                     best = Some((entry.body.stamp, *value));
                 }
             }

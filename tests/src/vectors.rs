@@ -699,7 +699,7 @@ const fn of_view(kind: u8, view: u16, decision: u8, count: usize, number: u8, an
 /// A record for a group of f and a buffer of so many bytes: the refusal's number, or the bytes that are written.
 type Written = (&'static str, u64, Record, usize, Result<&'static [&'static [u8]], u8>);
 
-const WRITTEN: [Written; 98] = [
+static WRITTEN: [Written; 98] = [
     ("a TX", 1, Record::Tx(both(50, 3, 40)), 40, Ok(&[BOTH])),
     ("a TX into its own length", 1, Record::Tx(both(50, 3, 40)), 32, Ok(&[BOTH])),
     ("a TX, one byte short", 1, Record::Tx(both(50, 3, 40)), 31, Err(17)),

@@ -15,4 +15,4 @@ pub use line::{pack_line, Wrong};
 pub use record::{cut, group_behind, read, write, Record};
 pub use run::{run, Line};
 pub use table::{capacity_by_length, read_marks, readable};
-pub use words::{answer, reason, refusal};
+pub use words::{answer, refusal};

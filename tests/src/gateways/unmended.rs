@@ -12,7 +12,7 @@ const LONG: u64 = 20_000;
 
 fn forked(value: u64) -> Vec<u8> {
     let stamp = Stamp((FIRST_MOMENT + 5) * MOMENT + EVIL_WRITER);
-    transaction_bytes(&model_tx(&Transaction { stamp, reads: vec![], writes: vec![(Key(0), value)] }))
+    transaction_bytes(&model_tx(&Transaction::new(stamp, [], [(Key(0), value)])))
 }
 
 /// A writer signs two bodies under one stamp: one goes to these boxes, the other to the rest.
@@ -57,7 +57,7 @@ fn full_box() -> Result<(), &'static str> {
     let mut world = World::new(1, 1, 1, FLOWS, None);
     world.style = Style::Silent;
     world.hosts[5].table = Table::new(group, 1).map_err(|_| "no table")?;
-    let filler = transaction_bytes(&model_tx(&Transaction { stamp: Stamp(FIRST_MOMENT * MOMENT + 1), reads: vec![], writes: vec![(Key(9), 1)] }));
+    let filler = transaction_bytes(&model_tx(&Transaction::new(Stamp(FIRST_MOMENT * MOMENT + 1), [], [(Key(9), 1)])));
     world.signed.insert(filler.clone());
     world.at_box(5, EVIL, 0, Mail::Message(pr(&filler)));
     world.add_station(None, vec![(START, Operation { reads: vec![], writes: vec![0], again: 0 })]);
@@ -67,7 +67,7 @@ fn full_box() -> Result<(), &'static str> {
     // its owner gives it room
     let mut bytes = world.hosts[5].table.bytes().to_vec();
     bytes.resize(table_len(8), 0);
-    world.hosts[5].table = Table::kept(group, 8, bytes, *world.hosts[5].table.marks());
+    world.hosts[5].table = Table::kept(group, 8, bytes, Box::new(*world.hosts[5].table.marks()));
     if world.run(2 * LONG) {
         Ok(())
     } else {

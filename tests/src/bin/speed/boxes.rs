@@ -3,13 +3,7 @@
 use crate::flat;
 use crate::model::{self, row_at, Answer, Settings, Store, MARKS};
 use stobbarel::layout::{DECIDED_AT, HEAD, LOG_AT};
-
-#[allow(improper_ctypes, clashing_extern_declarations)]
-extern "C" {
-    fn stobbarel_receive(
-        table: *mut u8, table_len: usize, marks: *mut u64, f: u64, capacity: u64, clock: u64, delta: u64, message: *const u8, message_len: usize, out: *mut u64,
-    );
-}
+use stobbarel_sys::stobbarel_receive;
 
 /// What makes a call repeatable: what it changed is put back.
 #[derive(Clone, Copy)]
