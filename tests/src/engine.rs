@@ -5,10 +5,10 @@ use crate::model::{
 };
 
 use stobbarel_sys::{
-    stobbarel_due, stobbarel_elect, stobbarel_election, stobbarel_fields, stobbarel_held, stobbarel_part, stobbarel_raise, stobbarel_reading, stobbarel_reading_el,
-    stobbarel_reading_tx, stobbarel_reading_vl, stobbarel_reading_vs, stobbarel_receive, stobbarel_take, stobbarel_tell, stobbarel_thresholds, stobbarel_told,
-    stobbarel_views, stobbarel_write_el, stobbarel_write_iv, stobbarel_write_ld, stobbarel_write_listed, stobbarel_write_pr, stobbarel_write_rd,
-    stobbarel_write_tx, stobbarel_write_vl, stobbarel_write_vs,
+    stobbarel_due, stobbarel_elect, stobbarel_election, stobbarel_fields, stobbarel_held, stobbarel_part, stobbarel_raise, stobbarel_reading,
+    stobbarel_reading_el, stobbarel_reading_tx, stobbarel_reading_vl, stobbarel_reading_vs, stobbarel_receive, stobbarel_take, stobbarel_tell,
+    stobbarel_thresholds, stobbarel_told, stobbarel_views, stobbarel_write_el, stobbarel_write_iv, stobbarel_write_ld, stobbarel_write_listed,
+    stobbarel_write_pr, stobbarel_write_rd, stobbarel_write_tx, stobbarel_write_vl, stobbarel_write_vs,
 };
 
 /// By which function a message comes.
