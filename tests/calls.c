@@ -103,7 +103,7 @@ static uint64_t eight(const uint8_t *at) {
     return number;
 }
 
-/* 50 is committed, 60 waits for it no longer but is undecided: the low mark cannot be raised to 60. Raised to 50, what 50 wrote is folded and its room is free;
+/* 50 is committed, 60 is undecided: the low mark cannot be raised to 60. Raised to 50, what 50 wrote is folded and its room is free;
  * its PR is old, and so is an RD at its stamp. The same mark again is not above the present one. */
 static int forget(void) {
     const struct stobbarel_tx tx = {50, 0, 1, {0}, {0}, {3}, {7}};
