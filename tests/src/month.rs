@@ -34,6 +34,14 @@ fn reported([train, direction, axles, hot]: [u64; 4]) -> Report {
     Report { train, direction, axles, hot: from_the_front }
 }
 
+fn expect(due: Vote, given: Vote) -> Result<(), String> {
+    if given == due {
+        Ok(())
+    } else {
+        Err(format!("{due:?} is due, and the box votes {given:?}"))
+    }
+}
+
 fn body(made: Transaction) -> Vec<u8> {
     let reads: Vec<(u16, u64)> = made.reads.into_iter().map(|(Key(key), Stamp(version))| (key, version)).collect();
     let writes: Vec<(u16, u64)> = made.writes.into_iter().map(|(Key(key), value)| (key, value)).collect();
@@ -69,7 +77,7 @@ impl Month {
     }
 
     /// A PR; where the box is full, the low mark is raised first to the newest that is decided.
-    fn prepare(&mut self, body: &[u8], due: Vote) -> Result<(), String> {
+    fn prepare(&mut self, body: &[u8]) -> Result<Vote, String> {
         let mut answer = self.call(Entrance::Receive, &pr(body))?;
         if answer == Answer::Refused(13) {
             let answered = self.call(Entrance::Raise(self.decided), &[])?;
@@ -80,8 +88,8 @@ impl Month {
             answer = self.call(Entrance::Receive, &pr(body))?;
         }
         match answer {
-            Answer::Voted(vote, Some(_)) if vote == due => Ok(()),
-            other => Err(format!("{due:?} is due, and the box answers {other:?}")),
+            Answer::Voted(vote, Some(_)) => Ok(vote),
+            other => Err(format!("a PR is answered {other:?}")),
         }
     }
 
@@ -106,13 +114,16 @@ impl Month {
         self.settings.clock = stamp;
         let seen = self.look(passage, stamp - 1)?;
         let made = body(seen.enter(Stamp(stamp), new).map_err(|refusal| refusal.to_string())?);
-        self.prepare(&made, Vote::Commit)?;
+        expect(Vote::Commit, self.prepare(&made)?)?;
         self.decide(&made, stamp, Decision::Commit, 6)?;
         self.written[passage as usize] = Some(values);
         // one that was made from the same look comes too late
         if number % 7 == 3 {
             let late = body(seen.enter(Stamp(stamp + 1), new).map_err(|refusal| refusal.to_string())?);
-            self.prepare(&late, Vote::Abort(3))?;
+            let vote = self.prepare(&late)?;
+            // what it read is overwritten; or, where the box was just raised, old and not the folded one
+            let version = seen.versions()[0].0;
+            expect(Vote::Abort(if version != 0 && version <= low_of(&self.table) && self.decided == low_of(&self.table) { 2 } else { 3 }), vote)?;
             self.decide(&late, stamp + 1, Decision::Abort, 4)?;
             self.aborted += 1;
         }
