@@ -1,5 +1,5 @@
-//! Six boxes in one process, one of which lies; the example of docs/TUTORIAL.md. A detector's passage is entered, its gateway dies, another one finishes what it
-//! began, a dispatcher reads it from four boxes, and a desk has it corrected.
+//! Six boxes in one process, one of which lies; the example of docs/TUTORIAL.md. A detector's passage is entered, its gateway dies, another one finishes what
+//! it began, a dispatcher reads it from four boxes, and a desk has it corrected.
 //!
 //! What is printed stands in six_boxes.stdout, and the tests compare it.
 
