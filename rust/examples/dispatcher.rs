@@ -1,7 +1,7 @@
 //! The incident, as the dispatchers read it.
 //!
-//! Train 7402, 240 axles, has passed a detector, and axle 3 of its order runs hot. The direction that was entered is wrong: the train ran the other way, and the fitter
-//! has to walk to the other end. One dispatcher corrects the direction. Box 5 answers whatever it likes, and answers twice.
+//! Train 7402, 240 axles, has passed a detector, and axle 3 of its order runs hot. The direction that was entered is wrong: the train ran the other way, and
+//! the fitter has to walk to the other end. One dispatcher corrects the direction. Box 5 answers whatever it likes, and answers twice.
 //!
 //! What is printed stands in dispatcher.stdout, and the tests compare it.
 

@@ -92,8 +92,8 @@ impl fmt::Debug for Holding {
 /// ```
 pub const MOST_HOLDINGS: usize = 16;
 
-/// Whether one transaction, while it is undecided, can keep another from being voted on for commit: it is a version read there; it writes a key read there, between the
-/// version and that stamp; or it has a higher stamp and read a key written there, at a version below.
+/// Whether one transaction, while it is undecided, can keep another from being voted on for commit: it is a version read there; it writes a key read there,
+/// between the version and that stamp; or it has a higher stamp and read a key written there, at a version below.
 ///
 /// ```
 /// use stobbarel::{Key, Stamp, Transaction, in_the_way};

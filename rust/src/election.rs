@@ -173,7 +173,8 @@ impl ElectionSheet {
         }
     }
 
-    /// What the leader decides of the transaction with this stamp, by 4f + 1 of the answers, those of the lowest boxes; [`Refusal::Election`] where there are fewer.
+    /// What the leader decides of the transaction with this stamp, by 4f + 1 of the answers, those of the lowest boxes; [`Refusal::Election`] where there are
+    /// fewer.
     ///
     /// ```
     /// use stobbarel::{Decision, ElectionSheet, Group, Stamp, View};

@@ -677,8 +677,8 @@ impl Gateway {
         told
     }
 
-    /// An IV to all. Where boxes are more than a step behind f + 1 others it lists these, which brings the rest up to them; else it lists all, which brings everybody one
-    /// view above that of 3f + 1.
+    /// An IV to all. Where boxes are more than a step behind f + 1 others it lists these, which brings the rest up to them; else it lists all, which brings
+    /// everybody one view above that of 3f + 1.
     fn invoke(&mut self, now: u64) -> Vec<Letter> {
         let mut told = self.told();
         let (high, common) = (Gateway::nth_view(&told, self.group.abort_list()), Gateway::nth_view(&told, self.group.commit_list()));
@@ -695,8 +695,8 @@ impl Gateway {
         self.letters(self.all(), &self.iv.clone())
     }
 
-    /// Others went on above the view of this try: it becomes this gateway's, and its leader gets the time. Where boxes can no longer meet in one view they are brought
-    /// to one at once, at most twice in a try.
+    /// Others went on above the view of this try: it becomes this gateway's, and its leader gets the time. Where boxes can no longer meet in one view they are
+    /// brought to one at once, at most twice in a try.
     fn follow(&mut self, now: u64) -> Vec<Letter> {
         let high = Gateway::nth_view(&self.told(), self.group.abort_list());
         if high > self.view {

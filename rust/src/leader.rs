@@ -9,8 +9,8 @@ use alloc::collections::BTreeMap;
 use alloc::{vec, vec::Vec};
 use core::fmt;
 
-/// What a box does as a leader, for one transaction: election answers in, LDs out. A leader need not hold the transaction, so they come with the body. Whoever calls has
-/// checked that an answer is signed by the box that it is heard from.
+/// What a box does as a leader, for one transaction: election answers in, LDs out. A leader need not hold the transaction, so they come with the body. Whoever
+/// calls has checked that an answer is signed by the box that it is heard from.
 ///
 /// ```
 /// use stobbarel::{Decision, Group, Key, LONGEST, Leader, Stamp, Transaction, View, write_tx};
@@ -64,14 +64,10 @@ impl Leader {
         if self.highest.get(&from).is_some_and(|(known, _)| *known > view) || from >= self.group.boxes() {
             return vec![];
         }
-        self.highest
-            .entry(from)
-            .and_modify(|known| {
-                if known.0 < view {
-                    *known = (view, decision)
-                }
-            })
-            .or_insert((view, decision));
+        let known = self.highest.entry(from).or_insert((view, decision));
+        if known.0 < view {
+            *known = (view, decision);
+        }
         if let Some(ld) = self.fixed.get(&view) {
             return vec![Letter { to: from, load: Load::Message(ld.clone()) }];
         }
@@ -97,8 +93,9 @@ impl fmt::Debug for Leader {
     }
 }
 
-/// How fast a host lets the views of one transaction be raised. An IV that steps on from a view is held back until a pause after this host was first shown that 3f + 1
-/// boxes stand in it: else whoever never stops raising views outruns every leader. Bringing a box up to others, and the step from view 0, are never held back.
+/// How fast a host lets the views of one transaction be raised. An IV that steps on from a view is held back until a pause after this host was first shown that
+/// 3f + 1 boxes stand in it: else whoever never stops raising views outruns every leader. Bringing a box up to others, and the step from view 0, are never held
+/// back.
 ///
 /// ```
 /// use stobbarel::{Group, Pace, View};

@@ -95,8 +95,8 @@ impl VoteList {
     }
 }
 
-/// What a view's leader decides, and the election answers that it rests on; a box takes it with exactly 4f + 1 of them, all of its view, by the majority of these. A
-/// leader's sheet makes one ([`ElectionSheet::election`](crate::ElectionSheet::election)).
+/// What a view's leader decides, and the election answers that it rests on; a box takes it with exactly 4f + 1 of them, all of its view, by the majority of
+/// these. A leader's sheet makes one ([`ElectionSheet::election`](crate::ElectionSheet::election)).
 ///
 /// ```
 /// use stobbarel::{Decision, Election, Group, LONGEST, View, check_el, write_el};

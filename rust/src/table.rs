@@ -16,7 +16,8 @@ macro_rules! table {
     ($($parameters:tt)*) => {
         /// A box's table and read marks.
         ///
-        /// With the feature `alloc`, [`Table::new`] makes one that owns both. Without it, [`Table::kept`] takes them from wherever they are: as arrays, or lent.
+        /// With the feature `alloc`, [`Table::new`] makes one that owns both. Without it, [`Table::kept`] takes them from wherever they are: as arrays, or
+        /// lent.
         ///
         /// ```
         /// use stobbarel::layout::{KEYS, table_len};
@@ -157,8 +158,8 @@ impl<B: BorrowMut<[u8]>, M: BorrowMut<[u64; KEYS]>> Table<B, M> {
 
     // SAFETY of the two calls below: a pointer is to as many numbers as the function takes, and what is lent for writing is this table's own.
 
-    /// Any of the six messages, by its mark. Call on a copy, make table and read marks durable together, and only then send the answer; after a refusal there is
-    /// nothing to be written.
+    /// Any of the six messages, by its mark. Call on a copy, make table and read marks durable together, and only then send the answer; after a refusal there
+    /// is nothing to be written.
     ///
     /// ```
     /// use stobbarel::{Group, Refusal, Table};

@@ -23,8 +23,8 @@ pub struct Stamp(pub u64);
 #[derive(Clone, Copy, Debug, Default, PartialEq, Eq, PartialOrd, Ord, Hash)]
 pub struct Key(pub u16);
 
-/// A round of the fallback: the one that a decision was logged in, 0 for what an LG had logged, or the one that a box is in for a transaction. A proof from logs is
-/// of one view.
+/// A round of the fallback: the one that a decision was logged in, 0 for what an LG had logged, or the one that a box is in for a transaction. A proof from
+/// logs is of one view.
 ///
 /// ```
 /// assert!(stobbarel::View::default() < stobbarel::View(1));

@@ -35,8 +35,8 @@ impl Item for (u8, Decision, View) {
     const BLANK: Self = (0, Decision::Abort, View(0));
 }
 
-/// A list of up to so many items, in place: it is read and changed as a slice. A ninth read, or the 27th box, is refused with [`Refusal::Count`], as a record with
-/// so many would be.
+/// A list of up to so many items, in place: it is read and changed as a slice. A ninth read, or the 27th box, is refused with [`Refusal::Count`], as a record
+/// with so many would be.
 ///
 /// ```
 /// use stobbarel::{Refusal, UpTo, View};
@@ -65,6 +65,7 @@ impl<T: Item, const N: usize> UpTo<T, N> {
     /// ```
     /// assert!(stobbarel::UpTo::<u8, 26>::new().is_empty());
     /// ```
+    #[must_use]
     pub const fn new() -> Self {
         UpTo { count: 0, places: [T::BLANK; N] }
     }

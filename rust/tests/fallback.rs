@@ -18,8 +18,8 @@ struct Line {
 }
 
 impl Line {
-    /// Boxes 0 to 3 vote commit; boxes 4 and 5 have shown key 3 to a later reader, and vote abort. Either can be logged, and the gateway has one logged here and the
-    /// other there. Then it dies.
+    /// Boxes 0 to 3 vote commit; boxes 4 and 5 have shown key 3 to a later reader, and vote abort. Either can be logged, and the gateway has one logged here
+    /// and the other there. Then it dies.
     fn split(to_commit: &[usize], to_abort: &[usize]) -> Line {
         let group = Group::of(1).unwrap();
         let tx = Transaction::new(Stamp(50), [], [(Key(3), 7)]);
