@@ -2,20 +2,25 @@
 
 use std::fs;
 use stobbarel::layout::{table_len, BODY_AT, DECIDED_AT, HEAD, LOG_AT, REASON_AT, ROW, VOTE_AT};
-use stobbarel::{Group, Table};
+use stobbarel::{Group, Stamp, Table};
 use stobbarel_tool::{capacity_by_length, pack_line, read_marks, readable, told, Outcome, Record};
 
 const DOCUMENT: &str = include_str!("../../docs/TOOL.md");
 
 /// The table of the stored example, behind its last record.
 fn example() -> Table {
-    let text = fs::read_to_string(concat!(env!("CARGO_MANIFEST_DIR"), "/examples/box.txt")).expect("the example");
+    made_by(&fs::read_to_string(concat!(env!("CARGO_MANIFEST_DIR"), "/examples/box.txt")).expect("the example"))
+}
+
+/// The table behind the last record of a text.
+fn made_by(text: &str) -> Table {
     let group = Group::of(1).expect("an f");
     let (mut table, mut clock, mut delta) = (None, 0, 0);
     for (record, bytes) in text.lines().filter_map(|line| pack_line(group, line).expect("a line in order")) {
         match record {
             Record::Gp { capacity, delta: told, .. } => (table, delta) = (Table::new(group, capacity.into()).ok(), told),
             Record::Ck(told) => clock = told,
+            Record::Lm(low) => _ = table.as_mut().expect("a GP comes first").raise(Stamp(low)),
             // some are refused, as the example shows
             _ => _ = table.as_mut().expect("a GP comes first").receive(clock, delta, &bytes),
         }
@@ -42,6 +47,20 @@ fn the_example() {
 fn an_empty_table() {
     let table = Table::new(Group::of(5).expect("an f"), 255).expect("a capacity");
     assert_eq!(readable(table.bytes(), 255, Some(table.marks())).as_deref(), Ok("0 of 255 entries\n\nno read mark above 0\n"));
+}
+
+#[test]
+fn low_mark_and_folds() {
+    let example = fs::read_to_string(concat!(env!("CARGO_MANIFEST_DIR"), "/examples/box.txt")).expect("the example");
+    let table = made_by(&(example + "LM 50\n"));
+    let shown = readable(table.bytes(), 4, Some(table.marks())).expect("a table in order");
+    assert!(shown.starts_with("2 of 4 entries, low mark 50\nrow  stamp  vote "), "{shown}");
+    assert!(shown.ends_with("  3=9\n\nkey  folded version  value\n3    50              7\n\nkey  read mark\n3    60\n"), "{shown}");
+    let (first, _) = shown.split_once('\n').expect("lines");
+    let folds: String = shown.split("\n\n").nth(1).expect("folds").lines().map(|line| format!("    {line}\n")).collect();
+    assert!(DOCUMENT.contains(&format!("    {first}\n")) && DOCUMENT.contains(&folds));
+    let alone = made_by("GP f 1 capacity 1 delta 0\nLM 7\n");
+    assert_eq!(readable(alone.bytes(), 1, None).as_deref(), Ok("0 of 1 entries, low mark 7\n"));
 }
 
 #[test]
