@@ -113,7 +113,7 @@ fn a_wrong_count_or_length_is_told() {
     let bytes = example().bytes().to_vec();
     let why = |bytes: &[u8], capacity: u64| readable(bytes, capacity, None).expect_err("a wrong table").lines().nth(1).map(String::from);
     assert_eq!(why(&bytes, 2).as_deref(), Some("3 entries, and the capacity is 2"));
-    assert_eq!(why(&bytes, 5).as_deref(), Some("721 bytes, and capacity 5 has 901"));
+    assert_eq!(why(&bytes, 5).as_deref(), Some("8921 bytes, and capacity 5 has 9101"));
     assert_eq!(why(&[], 1).as_deref(), Some("0 bytes, and capacity 1 has 181"));
     for capacity in [0, 256, u64::MAX] {
         assert_eq!(readable(&bytes, capacity, None), Err("refused 14, group: f not 1 to 5, or capacity not 1 to 255".into()));
@@ -166,7 +166,7 @@ fn from_files() {
     assert_eq!((refused.out.len(), refused.code), (0, 1));
     assert!(refused.wrong.starts_with(&format!("{kept}: refused 16, table: ")));
     let no_length = command(&["table", &longer]);
-    assert_eq!(no_length.wrong, format!("{longer}: 722 bytes are the length of no capacity; --capacity N names it\n"));
+    assert_eq!(no_length.wrong, format!("{longer}: 8922 bytes are the length of no capacity; --capacity N names it\n"));
     assert_eq!(command(&["table", &kept, "--marks", &kept]).wrong, format!("{kept}: read marks are 512 numbers of eight bytes, 4096 in all\n"));
     assert_eq!(command(&["table", &path("none")]).code, 1);
     assert_eq!(command(&["table"]).code, 2);
