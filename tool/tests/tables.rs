@@ -114,7 +114,7 @@ fn a_wrong_count_or_length_is_told() {
     let why = |bytes: &[u8], capacity: u64| readable(bytes, capacity, None).expect_err("a wrong table").lines().nth(1).map(String::from);
     assert_eq!(why(&bytes, 2).as_deref(), Some("3 entries, and the capacity is 2"));
     assert_eq!(why(&bytes, 5).as_deref(), Some("8921 bytes, and capacity 5 has 9101"));
-    assert_eq!(why(&[], 1).as_deref(), Some("0 bytes, and capacity 1 has 181"));
+    assert_eq!(why(&[], 1).as_deref(), Some("0 bytes, and capacity 1 has 8381"));
     for capacity in [0, 256, u64::MAX] {
         assert_eq!(readable(&bytes, capacity, None), Err("refused 14, group: f not 1 to 5, or capacity not 1 to 255".into()));
     }
