@@ -254,7 +254,12 @@ impl Gateway {
             }
             Ok(Answer::Done) => self.settled |= bit,
             Err(Refusal::OtherBody | Refusal::Contradiction | Refusal::Old) if self.step == Step::Done => self.settled |= bit,
-            Err(Refusal::OtherBody | Refusal::Full | Refusal::Old) => self.barred |= bit,
+            Err(Refusal::OtherBody | Refusal::Full) => self.barred |= bit,
+            // it has let the transaction go, and its host may have kept the proof
+            Err(Refusal::Old) => {
+                self.barred |= bit;
+                handed.into_iter().for_each(|dc| self.handed(dc));
+            }
             Err(Refusal::NotLogged) if self.step == Step::Fall => {
                 self.unlogged |= bit;
                 out = self.letters(bit, &self.lg.clone());

@@ -736,6 +736,8 @@ pub fn check(one: &mut dyn Member, count: u64, seed: u64) -> bool {
     missing += print(&counts.cases, &HOLDINGS);
     missing += print(&counts.cases, &model::visits::NUMBERS);
     missing += print(&counts.cases, &model::low::LOWS);
+    let times = |answer| counts.answers.get(answer).copied().unwrap_or(0);
+    println!("{} low marks were raised, {} calls were refused with 18 and {} with 19", times("raised"), times("refused 18"), times("refused 19"));
     let (number, held) = counts.most;
     println!("{number:9}  the most entries that a PR visited, with {held} held; the bound there is {}", bound(held));
     counts.sheets(one, &mut random, count / 4);
