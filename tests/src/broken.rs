@@ -174,8 +174,9 @@ const LOW_SAFE: [Broken; 14] = [
     holds("the rest does not stay in order", &[Rule::InOrder], "order is for equal stamps"),
     holds("a folded version above the own stamp gives no reason 3", &[Rule::AnyFoldAbove], "it is below what is not old"),
     holds("an old version is looked up in the table", &[Rule::OldNotLookedUp], "a box only aborts more"),
-    holds("an RD does not fall back to the folded version", &[Rule::ReadFallsBack], "what is shown is for readers"),
-    holds("an RD takes the folded version before the table", &[Rule::TableBeforeFold], "what is shown is for readers"),
+    // nothing slips under the read, but something comes between it and what it showed
+    slips("an RD does not fall back to the folded version", &[Rule::ReadFallsBack], "what is shown is for readers"),
+    slips("an RD takes the folded version before the table", &[Rule::TableBeforeFold], "what is shown is for readers"),
     holds("what was folded before gives way, be it newer", &[Rule::NewerFoldStays], "what is not old is newer"),
 ];
 

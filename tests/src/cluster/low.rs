@@ -84,7 +84,7 @@ impl Cluster<'_> {
     /// Something is decided everywhere, all boxes let it go, and then comes what would have met it there: a write under a read, a read of what it wrote or of what stood
     /// there before or of another key, or the other decision of itself.
     pub(super) fn let_go(&mut self) -> Result<(), String> {
-        let (stamp, key) = (self.unused_stamp(4), self.some_key());
+        let (stamp, key) = (self.unused_stamp(3), self.some_key());
         let all = (1u32 << self.boxes.len()) - 1;
         match self.random.below(5) {
             0 => self.write_under_what_is_gone(stamp, key, all),
@@ -129,6 +129,9 @@ impl Cluster<'_> {
             self.script.extend([(writer, Act::Ask), (writer, Act::Ask)]);
         }
         self.script.push_back((writer, Act::ForgetAt(all, stamp)));
+        if self.random.chance(40) {
+            self.script.push_back((writer, Act::ReadAt(all, key, stamp + 1)));
+        }
         self.see_through(reader);
         self.script.push_back((writer, Act::Prove));
     }
@@ -141,7 +144,12 @@ impl Cluster<'_> {
         let reader = self.committer(transaction(stamp + 2, &[(key, version)], &[]));
         self.see_through(later);
         self.see_through(earlier);
-        self.script.push_back((later, Act::ForgetAt(all, stamp + 1)));
+        // both go, or the later one stays
+        let low = self.random.one_of(&[stamp, stamp + 1, stamp + 1]);
+        self.script.push_back((later, Act::ForgetAt(all, low)));
+        if self.random.chance(50) {
+            self.script.push_back((later, Act::ReadAt(all, key, stamp + 2)));
+        }
         self.see_through(reader);
     }
 
