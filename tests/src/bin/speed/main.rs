@@ -76,7 +76,11 @@ fn check_flat(count: u64) {
         for _ in 0..run.left {
             done += 1;
             run.disturb(&mut random);
-            let (settings, message) = (run.next_settings(&mut random), run.message(&mut random));
+            let settings = run.next_settings(&mut random);
+            if let Some(low) = run.next_low(&mut random) {
+                model::low::raise(&mut run.table, settings.f, settings.capacity, low, &mut Vec::new());
+            }
+            let message = run.message(&mut random);
             let broken = run.broken_table(&mut random);
             let lent = broken.is_some();
             let mut table = broken.unwrap_or_else(|| run.table.clone());
