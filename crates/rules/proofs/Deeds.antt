@@ -2,7 +2,7 @@
 -- and nowhere else.
 use Prim.Native.Nat.{ℕ, zero, suc, _≤_, _<_}
 use mathlib.Core.Bool.{Bool, true, false, not}
-use mathlib.Core.Path.{_≡_, refl}
+use mathlib.Core.Path.{_≡_, refl, ap}
 use mathlib.Core.Logic.{_⊎_, inl, inr}
 use mathlib.Core.Option.{none}
 use mathlib.Core.List.{List, List·Memᴰ as In}
@@ -114,6 +114,13 @@ module _ (told : Told) (x : Box) (way : EntryPoint) (m : List ℕ) where
   unfolding markedAct dueAct wordIn
   deed-marked (Is k) q = guard (dueRefusal k told.f m) _ (deed-by k q)
   deed-marked (Unmarked n) q = idles refl
+
+-- what is taken for a message with a mark is judged as one
+pub act-marked : (told : Told) (x : Box) (way : EntryPoint) (m : List ℕ) (k : Mark) → markBy way m ≡ Is k → actBy way told x m ≡ dueAct k told x m
+unfolding actBy markedAct markBy
+act-marked told x receive m k e = ap (λ (q : Marked). markedAct q told x m) e
+act-marked told x (due q) m k e = ap (λ (q : Marked). markedAct q told x m) e
+act-marked told x (raising l) m k e = let z : _≡_ {A = ℕ} 0 1 = cc in absurd (omega arith)
 
 -- 18 and 19: the low mark rises, over decided entries
 decided-below : (x : Box) (l : ℕ) → lowWrong x l ≡ 0 → (e : Entry) → In e x.table → stampOf e.body ≤ l → e.decided ≡ unsettled → ⊥

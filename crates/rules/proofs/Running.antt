@@ -18,8 +18,10 @@ use Rattle.rules.specs.Lists.{kindOf, decisionOf, bit, tally, meets, lac
 use Rattle.rules.specs.Table.{empty, find, put, liveBy, live}
 use Rattle.rules.specs.Tests.{test1, liveWriter, isLow, isFolded, names, test2, undercut, foldAbove, test3, test4, test5, statusBy, statusOf}
 use Rattle.rules.specs.Tests.{statusFolded, status, waitingRule, firstVote}
-use Rattle.rules.specs.Visits.{through, lookUp, versionUp, keyByKey, visits2, visits3, visits4, waitingVisits, testVisits, firstVisits, againVisits}
-use Rattle.rules.specs.Calls.{guarded, oldWrong, versionOr, isFull, roomFor, needing, sameDecision, castAct, prByVote, prByDecision, prByEntry, prRule, logAct, lgByLog}
+use Rattle.rules.specs.Visits.{through, lookUp, versionUp, keyByKey, visits2, fails3, fails4, visits3, visits4, waitingVisits, testVisits, firstVisits}
+use Rattle.rules.specs.Visits.{againVisits}
+use Rattle.rules.specs.Calls.{guarded, oldWrong, versionOr, isFull, roomFor, needing, sameDecision, castAct, prByVote, prByDecision, prByEntry, prRule}
+use Rattle.rules.specs.Calls.{logAct, lgByLog}
 use Rattle.rules.specs.Calls.{lgByDecision, lgByEntry, lgRule, decideAct, dcSame, dcOther, dcByEntry, dcRule, better, newest, valueAt}
 use Rattle.rules.specs.Calls.{versionOf, isCommitted, isUndecided, rdAnswer, lookAct, rdRule}
 use Rattle.rules.specs.Fallback.{leaderOf, reach, higher, reached, byFew, byMany, nextView, electAct, ivByLog, ivByDecision, ivByEntry, ivRule}
@@ -61,7 +63,7 @@ unfolding test1 liveWriter isLow isFolded names test2 undercut foldAbove test3 t
 testing = 0
 
 unfoldable visiting : ℕ
-unfolding through lookUp versionUp keyByKey visits2 visits3 visits4 waitingVisits testVisits firstVisits againVisits
+unfolding through lookUp versionUp keyByKey visits2 fails3 fails4 visits3 visits4 waitingVisits testVisits firstVisits againVisits
 visiting = 0
 
 unfoldable calling : ℕ

@@ -6,18 +6,18 @@ use mathlib.Core.Logic.{_⊎_, inl, inr}
 use mathlib.Core.Option.{Option, some, none}
 use mathlib.Core.List.{List, [], _∷_, _++_}
 use native.Mathlib.Omega.{arith}
-use lib.Dec.{T, eqb, ltb}
+use lib.Dec.{T, eqb, eqb→eq, leb, ltb, nleb→lt}
 use lib.ListN.{length}
 use Rattle.terms.specs.Choice.{any, pick}
 use Rattle.records.specs.declared.Read.{Read}
 use Rattle.records.specs.declared.Write.{Write}
 use Rattle.records.specs.Tx.{readKey, readVersion, writeKey}
 use Rattle.rules.specs.Bodies.{Body, readsOf, stampOf, writesKey, writesOf}
-use Rattle.rules.specs.Table.{Box, Entry, Told, find, live}
-use Rattle.rules.specs.Tests.{liveWriter, namesNone, readUndercut, test1, test2, test3, test4, test5, undercut}
-use Rattle.rules.specs.Visits.{againVisits, fails3, fails4, firstVisits, keyByKey, lookUp, newLast, testVisits, through, unless, versionUp, visits2}
-use Rattle.rules.specs.Visits.{visits3, visits4, waitingVisits}
-use Rattle.rules.proofs.Laws.{pick-elim, pick-false, pick-true}
+use Rattle.rules.specs.Table.{Box, Entry, find, live}
+use Rattle.rules.specs.Tests.{foldAbove, isFolded, isLow, liveWriter, names, namesNone, readUndercut, test2, test3, test4, undercut}
+use Rattle.rules.specs.Visits.{fails3, fails4, keyByKey, lookUp, newLast, through, unless, versionUp}
+use Rattle.rules.specs.Visits.{visits2, visits3, visits4, waitingVisits}
+use Rattle.rules.proofs.Laws.{decideT, not-eqb, pick-elim}
 
 true-false : {A : Type 0} → _≡_ {A = Bool} true false → A
 true-false h = let z : _≡_ {A = ℕ} 0 1 = cc in absurd (omega arith)
@@ -38,6 +38,14 @@ through-all p (e ∷ es) h = go (p e) (through-all p es) h
     go : (c : Bool) → (any p es ≡ false → through p es ≡ length es) → c || any p es ≡ false → suc (pick c 0 (through p es)) ≡ suc (length es)
     go true l k = true-false k
     go false l k = ap suc (l k)
+
+pub look-most : (s : ℕ) (t : List Entry) → lookUp s t ≤ length t
+unfolding lookUp
+look-most s t = through-most _ t
+
+pub version-most : (low : ℕ) (t : List Entry) (r : Read) → versionUp low t r ≤ length t
+unfolding versionUp
+version-most low t r = pick-elim (λ (n : ℕ). n ≤ length t) (leb (readVersion r) low) (λ _. omega arith) (λ _. look-most (readVersion r) t)
 
 pub look-all : (s : ℕ) (t : List Entry) → find s t ≡ none → lookUp s t ≡ length t
 unfolding lookUp through find
@@ -92,6 +100,33 @@ module _ {K : Type 0} where
       go true p l q = true-false q
       go false p l q = omega (arith, m k p, l q)
 
+-- eight keys, each at so many entries
+times-most : (n k h : ℕ) → n ≤ k → n * h ≤ k * h
+times-most zero k h p = omega arith
+times-most (suc n) zero h p = absurd (omega arith)
+times-most (suc n) (suc k) h p = omega (arith, times-most n k h (omega arith))
+
+pub eight-most : {K : Type 0} (visits : K → ℕ) (fails : K → Bool) (ks : List K) (h : ℕ) → length ks ≤ 8 → ((k : K) → visits k ≤ h) → keyByKey visits fails ks ≤ 8 * h
+eight-most visits fails ks h n m = omega (arith, keys-most visits fails ks h m, times-most (length ks) 8 h n)
+
+pub waiting-most : (low : ℕ) (t : List Entry) (b : Body) → length (readsOf b) ≤ 8 → waitingVisits low t b ≤ 8 * length t
+unfolding waitingVisits
+waiting-most low t b r = eight-most (versionUp low t) (λ _. false) (readsOf b) (length t) r (version-most low t)
+
+pub two-most : (x : Box) (b : Body) → length (readsOf b) ≤ 8 → visits2 x b ≤ 8 * length (x .table)
+unfolding visits2
+two-most x b r = eight-most (versionUp (x .low) (x .table)) _ (readsOf b) (length (x .table)) r (version-most (x .low) (x .table))
+
+pub three-most : (x : Box) (b : Body) → length (readsOf b) ≤ 8 → visits3 x b ≤ 8 * length (x .table)
+unfolding visits3
+three-most x b r =
+    eight-most _ _ (readsOf b) (length (x .table)) r
+    (λ k. pick-elim (λ (n : ℕ). n ≤ length (x .table)) (foldAbove x k) (λ _. omega arith) (λ _. through-most (fails3 b k) (x .table)))
+
+pub four-most : (x : Box) (b : Body) → length (writesOf b) ≤ 8 → visits4 x b ≤ 8 * length (x .table)
+unfolding visits4
+four-most x b w = eight-most _ _ (writesOf b) (length (x .table)) w (λ k. through-most _ (x .table))
+
 -- ---- row by row is key by key
 module _ {B : Type 0} where
   any-never : (bs : List B) → any (λ (b : B). false) bs ≡ false
@@ -128,11 +163,17 @@ module _ {B : Type 0} where
       go true false false h = h
       go false c u h = h
 
-pub test3-by-key : (x : Box) (b : Body) → test3 x b ≡ any (λ r. any (fails3 b r) (x .table)) (readsOf b)
-unfolding test3 undercut
-test3-by-key x b =
+entries-by-key : (x : Box) (b : Body) → any (λ e. live e && undercut b (e .body)) (x .table) ≡ any (λ r. any (fails3 b r) (x .table)) (readsOf b)
+unfolding undercut fails3
+entries-by-key x b =
     (λ i. any (λ e. and-any (live e) (readUndercut (stampOf b) (e .body)) (readsOf b) i) (x .table))
     ∙ any-swap (λ (e : Entry) (r : Read). fails3 b r e) (x .table) (readsOf b)
+
+pub test3-by-key : (x : Box) (b : Body) → test3 x b ≡ any (λ r. foldAbove x r || any (fails3 b r) (x .table)) (readsOf b)
+unfolding test3
+test3-by-key x b =
+    ap (λ (c : Bool). any (foldAbove x) (readsOf b) || c) (entries-by-key x b)
+    ∙ any-or (foldAbove x) (λ (r : Read). any (fails3 b r) (x .table)) (readsOf b)
 
 -- of one entry: it undercuts at one of the keys written here
 over-by-key : (a b : Body)
@@ -143,40 +184,54 @@ over-by-key a b =
     (λ i. any (λ r. any-and (ltb (readVersion r) (stampOf b) && ltb (stampOf b) (stampOf a)) (λ w. eqb (writeKey w) (readKey r)) (writesOf b) i) (readsOf a))
     ∙ any-swap (λ (r : Read) (w : Write). eqb (writeKey w) (readKey r) && (ltb (readVersion r) (stampOf b) && ltb (stampOf b) (stampOf a))) (readsOf a) (writesOf b)
 
-pub test4-by-key : (x : Box) (b : Body) → test4 x b ≡ any (λ w. any (fails4 b w) (x .table)) (writesOf b)
-unfolding test4
+pub test4-by-key : (x : Box) (b : Body) → test4 x b ≡ any (λ w. any (fails4 b (writeKey w)) (x .table)) (writesOf b)
+unfolding test4 fails4
 test4-by-key x b =
     (λ i. any (λ e. live e && over-by-key (e .body) b i) (x .table))
     ∙ (λ i. any (λ e. and-any (live e) (λ w. any (λ r. eqb (writeKey w) (readKey r) && (ltb (readVersion r) (stampOf b) && ltb (stampOf b) (stampOf (e .body)))) (readsOf (e .body))) (writesOf b) i) (x .table))
-    ∙ any-swap (λ (e : Entry) (w : Write). fails4 b w e) (x .table) (writesOf b)
+    ∙ any-swap (λ (e : Entry) (w : Write). fails4 b (writeKey w) e) (x .table) (writesOf b)
 
 -- ---- where tests 3 and 4 pass, each key goes through all entries
 pub visits3-all : (x : Box) (b : Body) → test3 x b ≡ false → visits3 x b ≡ length (readsOf b) * length (x .table)
 unfolding visits3
 visits3-all x b h =
-    keys-all _ _ (readsOf b) (length (x .table)) (sym (test3-by-key x b) ∙ h) (λ r n. through-all (fails3 b r) (x .table) n)
+    keys-all _ _ (readsOf b) (length (x .table)) (sym (test3-by-key x b) ∙ h) (λ r n. at r (foldAbove x r) n)
+  where
+    at : (r : Read) (c : Bool) → c || any (fails3 b r) (x .table) ≡ false → unless c (through (fails3 b r) (x .table)) ≡ length (x .table)
+    at r true n = true-false n
+    at r false n = through-all (fails3 b r) (x .table) n
 
 pub visits4-all : (x : Box) (b : Body) → test4 x b ≡ false → visits4 x b ≡ length (writesOf b) * length (x .table)
 unfolding visits4
 visits4-all x b h =
-    keys-all _ _ (writesOf b) (length (x .table)) (sym (test4-by-key x b) ∙ h) (λ w n. through-all (fails4 b w) (x .table) n)
+    keys-all _ _ (writesOf b) (length (x .table)) (sym (test4-by-key x b) ∙ h) (λ w n. through-all (fails4 b (writeKey w)) (x .table) n)
 
 -- ---- where test 2 passes, the waiting rule looks up what test 2 looked up, a new entry behind or not
-named-up : (x : Box) (u : List Entry) (r : Read) → namesNone x r ≡ false → versionUp (x .table ++ u) r ≡ versionUp (x .table) r
-unfolding versionUp liveWriter
-named-up x u r h = go (eqb (readVersion r) 0) (find (readVersion r) (x .table)) refl h
+nonzero : (v low : ℕ) → leb v low ≡ false → eqb v 0 ≡ false
+nonzero v low h = go (decideT (eqb v 0)) (eqb v 0) refl
   where
-    go : (z : Bool) (o : Option Entry) → find (readVersion r) (x .table) ≡ o → not z && not (liveWriter (readKey r) o) ≡ false
-        → pick z 0 (lookUp (readVersion r) (x .table ++ u)) ≡ pick z 0 (lookUp (readVersion r) (x .table))
-    go true o p q = refl
-    go false (some e) p q = look-more (readVersion r) (x .table) u e p
-    go false none p q = true-false q
+    go : T (eqb v 0) ⊎ T (not (eqb v 0)) → (c : Bool) → eqb v 0 ≡ c → c ≡ false
+    go w false q = refl
+    go (inl k) true q = absurd (omega (arith, eqb→eq v 0 k, nleb→lt v low (rw h tt)))
+    go (inr k) true q = absurd (rw q at k)
 
-pub waiting-as-test2 : (x : Box) (b : Body) → test2 x b ≡ false → waitingVisits (x .table) b ≡ visits2 x b
+named-up : (x : Box) (u : List Entry) (r : Read) → namesNone x r ≡ false → versionUp (x .low) (x .table ++ u) r ≡ versionUp (x .low) (x .table) r
+unfolding versionUp liveWriter names isLow
+named-up x u r h = go (leb (readVersion r) (x .low)) (nonzero (readVersion r) (x .low)) (eqb (readVersion r) 0) refl (find (readVersion r) (x .table)) refl h
+  where
+    go : (l : Bool) → (l ≡ false → eqb (readVersion r) 0 ≡ false) → (z : Bool) → eqb (readVersion r) 0 ≡ z → (o : Option Entry)
+        → find (readVersion r) (x .table) ≡ o → not z && not (pick l (isFolded x r) (liveWriter (readKey r) o)) ≡ false
+        → pick l 0 (lookUp (readVersion r) (x .table ++ u)) ≡ pick l 0 (lookUp (readVersion r) (x .table))
+    go true n z y o p q = refl
+    go false n z y (some e) p q = look-more (readVersion r) (x .table) u e p
+    go false n true y none p q = true-false (sym y ∙ n refl)
+    go false n false y none p q = true-false q
+
+pub waiting-as-test2 : (x : Box) (b : Body) → test2 x b ≡ false → waitingVisits (x .low) (x .table) b ≡ visits2 x b
 unfolding waitingVisits visits2 test2
-waiting-as-test2 x b h = sym (keys-sum (versionUp (x .table)) (versionUp (x .table)) (namesNone x) (readsOf b) h (λ r n. refl))
+waiting-as-test2 x b h = sym (keys-sum (versionUp (x .low) (x .table)) (versionUp (x .low) (x .table)) (namesNone x) (readsOf b) h (λ r n. refl))
 
-pub waiting-new-last : (x : Box) (b : Body) → test2 x b ≡ false → waitingVisits (newLast b (x .table)) b ≡ visits2 x b
+pub waiting-new-last : (x : Box) (b : Body) → test2 x b ≡ false → waitingVisits (x .low) (newLast b (x .table)) b ≡ visits2 x b
 unfolding waitingVisits visits2 test2
 waiting-new-last x b h =
-    sym (keys-sum (versionUp (x .table)) (versionUp (newLast b (x .table))) (namesNone x) (readsOf b) h (λ r n. sym (named-up x _ r n)))
+    sym (keys-sum (versionUp (x .low) (x .table)) (versionUp (x .low) (newLast b (x .table))) (namesNone x) (readsOf b) h (λ r n. sym (named-up x _ r n)))
