@@ -9,6 +9,7 @@ pub mod Tested
 pub mod Called
 pub mod Fallback
 pub mod Deeds
+pub mod Folds
 pub mod Outcome
 pub mod Figure
 pub mod Kept
