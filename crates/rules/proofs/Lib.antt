@@ -36,6 +36,7 @@ pub mod Cases
 pub mod Counts
 pub mod Traces
 pub mod Panel
+pub mod Lows
 pub mod Leading
 pub mod Reordered
 pub mod Twins

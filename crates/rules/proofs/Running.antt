@@ -30,7 +30,7 @@ use Rattle.rules.specs.Low.{upTo, openUpTo, lowWrong, lowRule, newerFold
 use Rattle.rules.specs.Act.{toldWrong, unlessOld, rule, dueAct, markedAct, dueMark, markBy, actBy, act, tableAfter, raise, marksAfter, lowAfter}
 use Rattle.rules.specs.Act.{foldsAfter, boxAfter, after}
 use Rattle.rules.specs.System.{boxAt, answerTo, word, cast, voteWord, wordIn, sameWord, isWord, givesNow, gave, howMany}
-use Rattle.rules.specs.Cases.{replay, given, due, line, case, read, write, tx, writes, reads, pairs, list, PR, LG, DC, RD, commits, waits}
+use Rattle.rules.specs.Cases.{got, LM, replay, given, due, line, case, read, write, tx, writes, reads, pairs, list, PR, LG, DC, RD, commits, waits}
 use Rattle.rules.specs.Cases.{aborts, logs0, lg, dc, iv, ld, logsAt, ballotsOf, seen, elections, few, found}
 use Rattle.rules.specs.Vectors.{group, marked, lent, atFirst, viewed, entry, logsIn, elects, zeros, stores, run, held, wanted}
 
@@ -91,7 +91,7 @@ unfolding toldWrong unlessOld rule dueAct markedAct dueMark markBy actBy act tab
 acting = 0
 
 unfoldable sending : ℕ
-unfolding apartFromNumber replay given due line case read write tx writes reads pairs list PR LG DC RD lg dc iv ld logsAt ballotsOf seen elections few found commits waits aborts logs0
+unfolding apartFromNumber got LM replay given due line case read write tx writes reads pairs list PR LG DC RD lg dc iv ld logsAt ballotsOf seen elections few found commits waits aborts logs0
 sending = 0
 
 unfoldable lending : ℕ
