@@ -48,7 +48,7 @@ pub record Held (x : Kept) (y : Box) : Type 0 where
 
 begun : (i : ℕ) → Held (eight i) empty
 unfolding eight boxIn entriesOf empty
-begun i = record { taken = starts-taken 8; same = rw (starts-empty 8 .none, starts-empty 8 .unread) }
+begun i = record { taken = starts-taken 8; same = rw (starts-empty 8 .none, starts-empty 8 .unread, starts-empty 8 .low, starts-empty 8 .folds) }
 
 pub started : (i : ℕ) → Empty (eight i)
 unfolding eight

@@ -38,7 +38,7 @@ unfolding zeros boxIn entriesOf empty
 begun = record {
   long = length-replicate {A = ℕ} (tableLen 8) 0;
   right = none-bad 8 _ (starts-taken 8);
-  box = rw (starts-empty 8 .none, starts-empty 8 .unread);
+  box = rw (starts-empty 8 .none, starts-empty 8 .unread, starts-empty 8 .low, starts-empty 8 .folds);
 }
 
 -- a call that is told no more than eight, and no less than the box holds, is the rules' call
