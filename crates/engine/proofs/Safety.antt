@@ -28,6 +28,7 @@ use Rattle.engine.specs.Safety.{leaves, keptAt, answered, gaveBy, Empty,
 use Rattle.engine.specs.SlipUnder.{keptFor}
 use Rattle.engine.proofs.Lent.{taken}
 use Rattle.engine.proofs.Bridge.{called-act, bridge}
+use Rattle.engine.proofs.Starts.{empty-box}
 use Rattle.engine.proofs.Watching.{reads-none, reads-on, shows-none, shows-on}
 
 pub and-none : (a : Bool) → (a && false) ≡ false
@@ -215,7 +216,7 @@ module _ (f : ℕ) (faulty : ℕ → Bool) where
     unfolding keptAt boxAt boxIn empty entriesOf gaveBy gave Fair everHeld holds readWithout shownBelow
     shadow fresh [] = record {
       rules = [];
-      held = λ i s. rw (fresh i s .none, fresh i s .unread, fresh i s .low, fresh i s .folds);
+      held = λ i s. empty-box (start i) (fresh i s);
       said = λ i s b w. refl;
       fair = λ _. tt;
       ever = λ i s b h. absurd h;

@@ -9,10 +9,16 @@ use Rattle.terms.specs.Choice.{tab}
 use Rattle.terms.proofs.Checks.{pass, halt, less-no, less-yes, when-no}
 use Rattle.terms.proofs.Scans.{tab-same}
 use Rattle.records.specs.Numbers.{leVal, numAt}
-use Rattle.rules.specs.Table.{noVersion}
-use Rattle.table.specs.Table.{foldIn, foldsOf, headLen, lowOf, tableWrong, tableLen, rowLen}
+use Rattle.rules.specs.Table.{empty, noVersion}
+use Rattle.table.specs.Table.{entriesOf, foldIn, foldsOf, headLen, lowOf, tableWrong, tableLen, rowLen}
+use Rattle.engine.specs.Outcome.{Kept, boxIn}
 use Rattle.engine.specs.Safety.{Empty}
 use Rattle.engine.specs.Busy.{zeros}
+
+-- what starts empty holds the rules' empty box
+pub empty-box : (x : Kept) → Empty x → boxIn x ≡ empty
+unfolding boxIn entriesOf empty
+empty-box x e = rw (e .none, e .unread, e .low, e .folds)
 
 -- ---- zeros say 0
 front-none : (n m : ℕ) → leVal (take n (replicate m 0)) ≡ 0
