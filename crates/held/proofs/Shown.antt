@@ -49,8 +49,8 @@ its-stamp = refl
 pub met : (bodyHeld table 2 (stampOf body) ≡ body) × (heldOf table 2 (stampOf body) .state ≡ state)
 met = stored-held 2 0 body state refl (omega arith, omega arith, omega arith) (omega arith) empty empty-taken (rw its-stamp first-place)
 
--- held under 50, from byte 9 on; nothing under 51; 14 before 16; 16 of a table that is too short
+-- held under 50, from byte 8209 on, behind the head, codes and views; nothing under 51; 14 before 16; 16 of a table that is too short
 pub told : _≡_ {A = List Holding} (heldOf table 2 50 ∷ heldOf table 2 51 ∷ heldOf table 0 50 ∷ heldOf (take 15 table) 256 50 ∷ heldOf (take 15 table) 2 50 ∷ [])
-    (record { wrong = 0; at = 9; len = 22; state = state } ∷ nothing 0 ∷ nothing 14 ∷ nothing 14 ∷ nothing 16 ∷ [])
+    (record { wrong = 0; at = 8209; len = 22; state = state } ∷ nothing 0 ∷ nothing 14 ∷ nothing 14 ∷ nothing 16 ∷ [])
 unfolding heldOf heldBy heldWrong capacityWrong tableWrong rowWrong reasonWrong orElse when ifLess ifSame foundIn holdingOf nothing stored newRow newCount entriesOf entryOf entryWith rowBody stateAt stateIn place find stampOf txOf numAt
 told = refl

@@ -11,9 +11,9 @@ use lib.Dec.{ltb}
 use borrow.Author.Tests.{lt-ltb, le-ltb, ltb-false}
 use Rattle.terms.specs.Choice.{pick}
 use Rattle.records.specs.Messages.{isMark, markOf}
-use Rattle.lines.specs.Lines.{markGP, markCK, noMark, isMessage, known, markText}
+use Rattle.lines.specs.Lines.{markGP, markCK, markLM, noMark, isMessage, known, markText}
 
--- ---- the six marks, each where those before it are not
+-- ---- the marks, each where those before it are not
 module _ (s : List ℕ) where
   pub known-cut : length s < 2 → false ≡ known s
   unfolding known
@@ -27,16 +27,21 @@ module _ (s : List ℕ) where
   unfolding known
   known-ck h a b = rw (le-ltb (length s) 2 h, a, b)
 
-  pub known-rest : (x : Bool) → 2 ≤ length s → isMark markGP s ≡ false → isMark markCK s ≡ false → x ≡ isMessage (markOf s) → x ≡ known s
+  pub known-lm : 2 ≤ length s → isMark markGP s ≡ false → isMark markCK s ≡ false → isMark markLM s ≡ true → true ≡ known s
   unfolding known
-  known-rest x h a b c = rw (le-ltb (length s) 2 h, a, b) c
+  known-lm h a b c = rw (le-ltb (length s) 2 h, a, b, c)
+
+  pub known-rest : (x : Bool) → 2 ≤ length s → isMark markGP s ≡ false → isMark markCK s ≡ false → isMark markLM s ≡ false → x ≡ isMessage (markOf s)
+      → x ≡ known s
+  unfolding known
+  known-rest x h a b c d = rw (le-ltb (length s) 2 h, a, b, c) d
 
   -- a mark that is known is not cut
   pub known-long : known s ≡ true → 2 ≤ length s
   unfolding known
   known-long e = by (ltb (length s) 2) refl e
     where
-      by : (t : Bool) → ltb (length s) 2 ≡ t → pick t false (isMark markGP s || (isMark markCK s || isMessage (markOf s))) ≡ true → 2 ≤ length s
+      by : (t : Bool) → ltb (length s) 2 ≡ t → pick t false (isMark markGP s || (isMark markCK s || (isMark markLM s || isMessage (markOf s)))) ≡ true → 2 ≤ length s
       by true p q = absurd (let z : _≡_ {A = ℕ} 0 1 = cc in omega arith)
       by false p q = ltb-false (length s) 2 p
 

@@ -21,12 +21,12 @@ use Rattle.rules.specs.Bodies.{Body, readsOf, sameBody, stampOf, writesO
 use Rattle.rules.specs.Table.{Box, Entry, Told, find}
 use Rattle.rules.specs.Tests.{test1, test2, test3, test4, test5}
 use Rattle.rules.specs.Visits.{againVisits, firstVisits, newLast, testVisits, unless, visits2, visits3, visits4, waitingVisits}
-use Rattle.rules.specs.Calls.{Act, castAct, isFull, keep, prByDecision, prByEntry, prByVote, prRule, refuse, roomFor}
-use Rattle.rules.specs.Act.{EntryPoint, act, dueAct, markBy, markedAct, rule, toldWrong}
+use Rattle.rules.specs.Calls.{Act, castAct, isFull, keep, oldWrong, prByDecision, prByEntry, prByVote, prRule, refuse, roomFor}
+use Rattle.rules.specs.Act.{EntryPoint, act, dueAct, markBy, rule, toldWrong, unlessOld}
 use Rattle.rules.specs.Figure.{Already, Figures, answered, figureOf, numberIn}
 use Rattle.rules.proofs.Laws.{pick-elim}
 use Rattle.rules.proofs.Moves.{none-some, some-eq}
-use Rattle.rules.proofs.Deeds.{guarded-elim}
+use Rattle.rules.proofs.Deeds.{act-marked, guarded-elim}
 use Rattle.rules.proofs.Visits.{four-most, look-most, three-most, two-most, waiting-most}
 
 -- ---- the bound: the own look-up, then four times eight walks; 33 = 1 + 4 × 8
@@ -35,23 +35,23 @@ unless-most true n = omega arith
 unless-most false n = omega arith
 
 module _ (told : Told) (x : Box) (b : Body) (r : length (readsOf b) ≤ 8) (w : length (writesOf b) ≤ 8) where
-  tests-most : (t : List Entry) → testVisits told x b t ≤ visits2 x b + visits3 x b + visits4 x b + waitingVisits t b
+  tests-most : (t : List Entry) → testVisits told x b t ≤ visits2 x b + visits3 x b + visits4 x b + waitingVisits (x .low) t b
   unfolding testVisits
   tests-most t =
-      let e = unless-most (test5 x b) (waitingVisits t b) in
-      let d = unless-most (test4 x b) (unless (test5 x b) (waitingVisits t b)) in
-      let c = unless-most (test3 x b) (visits4 x b + unless (test4 x b) (unless (test5 x b) (waitingVisits t b))) in
-      let a = unless-most (test2 x b) (visits3 x b + unless (test3 x b) (visits4 x b + unless (test4 x b) (unless (test5 x b) (waitingVisits t b)))) in
-      let z = unless-most (test1 told b) (visits2 x b + unless (test2 x b) (visits3 x b + unless (test3 x b) (visits4 x b + unless (test4 x b) (unless (test5 x b) (waitingVisits t b))))) in
+      let e = unless-most (test5 x b) (waitingVisits (x .low) t b) in
+      let d = unless-most (test4 x b) (unless (test5 x b) (waitingVisits (x .low) t b)) in
+      let c = unless-most (test3 x b) (visits4 x b + unless (test4 x b) (unless (test5 x b) (waitingVisits (x .low) t b))) in
+      let a = unless-most (test2 x b) (visits3 x b + unless (test3 x b) (visits4 x b + unless (test4 x b) (unless (test5 x b) (waitingVisits (x .low) t b)))) in
+      let z = unless-most (test1 told b) (visits2 x b + unless (test2 x b) (visits3 x b + unless (test3 x b) (visits4 x b + unless (test4 x b) (unless (test5 x b) (waitingVisits (x .low) t b))))) in
       omega (arith, a, c, d, e, z)
 
   first-most : (t : List Entry) → length t ≤ length (x .table) + 1 → firstVisits told x b t ≤ figureOf (x .table)
   unfolding firstVisits
-  first-most t h = omega (arith, h, look-most (stampOf b) (x .table), tests-most t, two-most x b r, three-most x b r, four-most x b w, waiting-most t b r)
+  first-most t h = omega (arith, h, look-most (stampOf b) (x .table), tests-most t, two-most x b r, three-most x b r, four-most x b w, waiting-most (x .low) t b r)
 
   again-most : againVisits x b ≤ figureOf (x .table)
   unfolding againVisits
-  again-most = omega (arith, look-most (stampOf b) (x .table), waiting-most (x .table) b r)
+  again-most = omega (arith, look-most (stampOf b) (x .table), waiting-most (x .low) (x .table) b r)
 
 new-last : (b : Body) (t : List Entry) → length (newLast b t) ≤ length t + 1
 new-last b [] = omega arith
@@ -137,12 +137,14 @@ module _ (told : Told) (x : Box) (p : EntryPoint) (m : List ℕ) where
         pick-elim (Bears told x p m) (sameBody (e .body) (txPart m)) (λ _. decision-bears e at (e .decided) refl) (λ _. refused-bears _)
 
   act-bears : markBy p m ≡ Is PR → Bears told x p m (act p told x m)
-  unfolding act markedAct dueAct rule prRule
+  unfolding act dueAct rule unlessOld prRule
   act-bears d =
-      rw d
+      rw (act-marked told x p m PR d)
       (guarded-elim (Bears told x p m) (toldWrong told) _
       (λ _. guarded-elim (Bears told x p m) (dueRefusal PR (told .f) m) _
-      (λ h. entry-bears (reads-eight (told .f) m h) (writes-eight (told .f) m h) (find (stampOf (txPart m)) (x .table)) refl) refused-bears) refused-bears)
+      (λ h. guarded-elim (Bears told x p m) (oldWrong (x .low) (stampOf (txPart m))) _
+      (λ _. entry-bears (reads-eight (told .f) m h) (writes-eight (told .f) m h) (find (stampOf (txPart m)) (x .table)) refl) refused-bears) refused-bears)
+      refused-bears)
 
 pub figures : Figures
 figures told x p m d = let a = act-bears told x p m d in record { never-above = a .never-above; none-again = a .none-again; every-other = a .every-other }

@@ -11,13 +11,13 @@ use Rattle.rules.specs.Answers.{View, logged, unlogged, viewAs}
 use Rattle.rules.specs.Bodies.{Body, stampOf}
 use Rattle.rules.specs.Lists.{decisionOf}
 use Rattle.rules.specs.Table.{Entry, Box, voteIn, logIn, liveBy, live}
-use Rattle.rules.specs.Calls.{Act, Change, nothing, puts, raises, castAct, logAct, decideAct, lookAct}
+use Rattle.rules.specs.Calls.{Act, Change, nothing, puts, raises, raisesLow, castAct, logAct, decideAct}
 use Rattle.rules.specs.Fallback.{electAct}
 use Rattle.rules.specs.Act.{tableAfter, EntryPoint}
 use Rattle.rules.specs.System.{Word, vote, log, elect, cast, voteWord, wordIn}
 use Rattle.rules.proofs.Laws.{find-in, in-put}
 use Rattle.rules.proofs.Moves.{settled-eq, un-settled, un-logged, Holds, stands, stands-cast, Clear, Prior, Arrives}
-use Rattle.rules.proofs.Moves.{Move, quiet, looks, again, casts, logs-first, takes, elects, decides, replaces}
+use Rattle.rules.proofs.Moves.{Move, quiet, again, casts, logs-first, takes, elects, decides, replaces}
 use Rattle.rules.proofs.Kept.{Keeps}
 use Rattle.rules.proofs.Said.{Spoken, Carried, carried}
 
@@ -61,7 +61,8 @@ pub record Fresh (f : ℕ) (x : Box) (way : EntryPoint) (m : List ℕ) (b : Body
 
 FreshBy : (f : ℕ) (x : Box) (way : EntryPoint) (m : List ℕ) (b : Body) → Answer → Change → Type 0
 FreshBy f x way m b a nothing = Unit {0}
-FreshBy f x way m b a (raises k s) = Unit {0}
+FreshBy f x way m b a (raises k s) = ⊥
+FreshBy f x way m b a (raisesLow l) = ⊥
 FreshBy f x way m b a (puts e) = Fresh f x way m b e a
 
 module _ {t : List Entry} {b : Body} (o : Option Entry) (p : Prior t b o) where
@@ -90,9 +91,8 @@ module _ {t : List Entry} {b : Body} (o : Option Entry) (p : Prior t b o) where
   told-kept x q k (elect d u) h = absurd h
 
 fresh : {f : ℕ} {x : Box} {way : EntryPoint} {m : List ℕ} {b : Body} {a : Act} → Move f x way m b a → FreshBy f x way m b (a .answer) (a .change)
-unfolding FreshBy castAct logAct electAct decideAct lookAct stands Holds cast
+unfolding FreshBy castAct logAct electAct decideAct stands Holds cast
 fresh (quiet n) = tt
-fresh (looks k s) = tt
 fresh (again w e p h n) = tt
 fresh {x = x} {b = b} (casts v c o p n r cl) = record {
   owner = refl;
@@ -153,7 +153,8 @@ after-cases {f = f} {x = x} {way = way} {m = m} {b = b} a k e h = go (a .change)
 
     go : (c : Change) → FreshBy f x way m b (a .answer) c → In e (tableAfter x.table c) → In e x.table ⊎ Fresh f x way m b e (a .answer)
     go nothing w i = inl i
-    go (raises k s) w i = inl i
+    go (raises k s) w i = absurd w
+    go (raisesLow l) w i = absurd w
     go (puts y) w i = new y w (in-put y e x.table i)
 
 -- a body that stands afterwards stood before, or has just passed the tests

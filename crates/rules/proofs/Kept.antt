@@ -7,15 +7,17 @@ use mathlib.Core.Option.{Option, some}
 use mathlib.Core.List.{List}
 use native.Mathlib.Omega.{arith}
 use lib.Dec.{T, eqb, eqb→eq}
-use Rattle.rules.specs.Answers.{Decision, commit, settled, Log, logged, unlogged, logView, viewAs}
+use Rattle.rules.specs.Answers.{Decision, Version, commit, settled, Log, logged, unlogged, logView, viewAs}
 use Rattle.rules.specs.Bodies.{Body, stampOf}
 use Rattle.rules.specs.Table.{Entry, Box, find, put}
-use Rattle.rules.specs.Calls.{Act, Change, nothing, puts, raises, castAct, logAct, decideAct, lookAct}
+use Rattle.rules.specs.Calls.{Act, Change, nothing, puts, raises, raisesLow, castAct, logAct, decideAct}
 use Rattle.rules.specs.Fallback.{electAct}
-use Rattle.rules.specs.Act.{tableAfter, EntryPoint}
+use Rattle.rules.specs.Low.{above}
+use Rattle.rules.specs.Act.{tableAfter, lowAfter, foldsAfter, EntryPoint}
 use Rattle.rules.specs.System.{Word, vote, log, elect, cast}
 use Rattle.rules.proofs.Laws.{decideT, not-eqb, find-put-same, find-put-other}
-use Rattle.rules.proofs.Moves.{some-eq, un-settled, un-logged, Holds, Prior, Move, quiet, looks, again, casts, logs-first, takes, elects, decides, replaces}
+use Rattle.rules.proofs.Folds.{find-above}
+use Rattle.rules.proofs.Moves.{some-eq, un-settled, un-logged, Holds, Prior, Move, quiet, again, casts, logs-first, takes, elects, decides, replaces}
 
 -- after a put: the new entry at its stamp, the old one elsewhere
 pub put-cases : (s : ℕ) (e : Entry) (t : List Entry) → ((stampOf e.body ≡ s) × (find s (put e t) ≡ some e)) ⊎ (find s (put e t) ≡ find s t)
@@ -75,7 +77,8 @@ kept-put e t g b w y = go (put-cases (stampOf b) e t)
 
 GrowsBy : List Entry → Change → Type 0
 GrowsBy t nothing = Unit {0}
-GrowsBy t (raises k s) = Unit {0}
+GrowsBy t (raises k s) = ⊥
+GrowsBy t (raisesLow l) = ⊥
 GrowsBy t (puts e) = (o : Entry) → find (stampOf e.body) t ≡ some o → Grow o e
 
 -- a log stays or gives way to one of a higher view, and the current view does not fall
@@ -109,9 +112,8 @@ grow-prior : {t : List Entry} {b : Body} {o : Option Entry} → Prior t b o → 
 grow-prior p e s k x q = let u = sym (p .at) ∙ q in same-body (p .body x u ∙ s) (k x u) (λ h. absurd (un-settled (p .undecided x u) h))
 
 grows : {f : ℕ} {x : Box} {way : EntryPoint} {m : List ℕ} {b : Body} {a : Act} → Move f x way m b a → GrowsBy x.table (a .change)
-unfolding GrowsBy castAct logAct electAct decideAct lookAct
+unfolding GrowsBy castAct logAct electAct decideAct
 grows (quiet n) = tt
-grows (looks k s) = tt
 grows (again w e p h n) = tt
 grows (casts v c o p n r cl) = grow-prior p _ refl (λ y u. keeps-up y _ (λ d h. absurd (un-settled (rw u at n) h)) (λ _. rises-same y _ (rw u refl) (rw u refl)))
 grows (logs-first l o q k w p n) = grow-prior p _ refl (λ y u. keeps-up y _ (λ d h. rw u h) (λ h. absurd (h (rw u at n))))
@@ -130,5 +132,31 @@ kept-old {x = x} a m b′ w y = go (a .change) (grows m)
   where
     go : (c : Change) → GrowsBy x.table c → Kept (tableAfter x.table c) b′ w
     go nothing g = y
-    go (raises k s) g = y
+    go (raises k s) g = absurd g
+    go (raisesLow l) g = absurd g
     go (puts e) g = kept-put e x.table g b′ w y
+
+-- a move leaves the low mark and the folds
+pub low-same : {f : ℕ} {x : Box} {way : EntryPoint} {m : List ℕ} {b : Body} (a : Act) → Move f x way m b a → lowAfter x.low (a .change) ≡ x.low
+unfolding GrowsBy lowAfter
+low-same {x = x} a m = go (a .change) (grows m)
+  where
+    go : (c : Change) → GrowsBy x.table c → lowAfter x.low c ≡ x.low
+    go nothing g = refl
+    go (puts e) g = refl
+    go (raises k s) g = refl
+    go (raisesLow l) g = absurd g
+
+pub folds-same : {f : ℕ} {x : Box} {way : EntryPoint} {m : List ℕ} {b : Body} (a : Act) → Move f x way m b a → foldsAfter x.table x.folds (a .change) ≡ x.folds
+unfolding GrowsBy foldsAfter
+folds-same {x = x} a m = go (a .change) (grows m)
+  where
+    go : (c : Change) → GrowsBy x.table c → foldsAfter x.table x.folds c ≡ x.folds
+    go nothing g = refl
+    go (puts e) g = refl
+    go (raises k s) g = refl
+    go (raisesLow l) g = absurd g
+
+-- what a box gave above a low mark it still keeps when that is raised
+pub kept-above : (l : ℕ) (t : List Entry) (b : Body) (w : Word) → l < stampOf b → Kept t b w → Kept (above l t) b w
+kept-above l t b w h y = record { entry = y .entry; at = find-above l (stampOf b) t h ∙ y .at; how = y .how }

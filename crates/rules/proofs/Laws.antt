@@ -53,6 +53,14 @@ pub or-r : (a b : Bool) → T b → T (a || b)
 or-r true b h = tt
 or-r false b h = h
 
+pub nor-l : (a b : Bool) → T (not (a || b)) → T (not a)
+nor-l true b h = h
+nor-l false b h = tt
+
+pub nor-r : (a b : Bool) → T (not (a || b)) → T (not b)
+nor-r true b h = absurd h
+nor-r false b h = h
+
 pub decideT : (b : Bool) → T b ⊎ T (not b)
 decideT true = inl tt
 decideT false = inr tt

@@ -9,6 +9,7 @@ pub mod Tested
 pub mod Called
 pub mod Fallback
 pub mod Deeds
+pub mod Folds
 pub mod Outcome
 pub mod Figure
 pub mod Kept
@@ -35,6 +36,7 @@ pub mod Cases
 pub mod Counts
 pub mod Traces
 pub mod Panel
+pub mod Lows
 pub mod Leading
 pub mod Reordered
 pub mod Twins

@@ -1,6 +1,6 @@
 -- What holds of one box along every trace.
 use Prim.Native.Nat.{ℕ, _≤_, _<_}
-use mathlib.Core.Path.{_≡_, refl, sym, _∙_}
+use mathlib.Core.Path.{_≡_, refl, sym, _∙_, ap}
 use mathlib.Core.Logic.{_⊎_, inl, inr}
 use mathlib.Core.Option.{some}
 use mathlib.Core.List.{List, [], _∷_, List·Memᴰ as In}
@@ -15,10 +15,11 @@ use Rattle.rules.specs.Act.{tableAfter}
 use Rattle.rules.specs.System.{Event, boxAt, Word, vote, log, elect, wordIn, gave}
 use Rattle.rules.proofs.Laws.{find-in}
 use Rattle.rules.proofs.Moves.{some-eq, Holds, Move}
-use Rattle.rules.proofs.Kept.{Kept, kept-old}
+use Rattle.rules.proofs.Folds.{in-above}
+use Rattle.rules.proofs.Kept.{Kept, kept-above, kept-old}
 use Rattle.rules.proofs.Said.{said, spoken, kept-new, vote-once, Carried, elect-log, log-top, log-once, closed}
 use Rattle.rules.proofs.Fresh.{Fresh, after-cases}
-use Rattle.rules.proofs.Trace.{table, New, Idle, Moved, Step, still, arrives, gave-later, step}
+use Rattle.rules.proofs.Trace.{table, low, New, Idle, Moved, Lifted, Step, still, arrives, lifts, gave-later, step}
 
 module _ (f i : ℕ) where
   -- an election answer tells a log that was given, of a view that is not below any other one under the answer's view
@@ -29,7 +30,8 @@ module _ (f i : ℕ) where
 
   -- what holds of one box along every trace
   pub record Local (es : List Event) : Type 0 where
-    pub kept : (b : Body) (w : Word) → T (gave f i b w es) → Kept (table f i es) b w
+    pub kept : (b : Body) (w : Word) → T (gave f i b w es) → low f i es < stampOf b → Kept (table f i es) b w
+    pub high : (e : Entry) → In e (table f i es) → low f i es < stampOf e.body
     pub told : (e : Entry) (w : Word) → In e (table f i es) → Holds (some e) w → T (gave f i e.body w es)
     pub one-vote : (b c : Body) (d d′ : Decision) → T (gave f i b (vote d) es) → T (gave f i c (vote d′) es) → stampOf b ≡ stampOf c
         → (b ≡ c) × (d ≡ d′)
@@ -39,7 +41,8 @@ module _ (f i : ℕ) where
   local-empty : Local []
   unfolding table boxAt empty gave
   local-empty = record {
-    kept = λ b w h. absurd h;
+    kept = λ b w h l. absurd h;
+    high = λ e p. elim p [ ];
     told = λ e w p q. elim p [ ];
     one-vote = λ b c d d′ h h′ q. absurd h;
     one-log = λ b d d′ v h h′. absurd h;
@@ -56,6 +59,7 @@ module _ (f i : ℕ) where
       → T (gave f i b (elect d′ v) es) → T (gave f i b (log d u) (e ∷ es)) → T (gave f i b (log d u) es)
   unfolding table
   closed-by e es (still s) L b d d′ u v l k h = s .unsaid b (log d u) h
+  closed-by e es (lifts s) L b d d′ u v l k h = s .unsaid b (log d u) h
   closed-by e es (arrives s) L b d d′ u v l k h = go (s .given b (log d u) h)
     where
       b₀ : Body
@@ -64,7 +68,7 @@ module _ (f i : ℕ) where
       go : New f i e es (s .act) b (log d u) → T (gave f i b (log d u) es)
       go (inl y) =
           rw (← y .0)
-          (carried-gave es L b₀ (log d u) (closed (said (s .move) (log d u) (y .1)) (L .kept b₀ (elect d′ v) (rw (y .0) k)) l))
+          (carried-gave es L b₀ (log d u) (closed (said (s .move) (log d u) (y .1)) (L .kept b₀ (elect d′ v) (rw (y .0) k) (s .high)) l))
       go (inr y) = y
 
   elected-later : (e : Event) (es : List Event) → Step f i e es → Local es → (b : Body) (d : Decision) (w : ℕ) → T (gave f i b (elect d w) es)
@@ -79,17 +83,32 @@ module _ (f i : ℕ) where
 
   local-still : (e : Event) (es : List Event) → Idle f i e es → Local es → Local (e ∷ es)
   local-still e es s L = record {
-    kept = λ b w h. rw (s .table-now) (L .kept b w (s .unsaid b w h));
+    kept = λ b w h l. rw (s .table-now) (L .kept b w (s .unsaid b w h) (rw (s .low-now) at l));
+    high = λ x p. rw (s .low-now) (L .high x (rw (s .table-now) at p));
     told = λ x w p q. gave-later f i e es x.body w (L .told x w (rw (s .table-now) at p) q);
     one-vote = λ b c d d′ h h′ q. L .one-vote b c d d′ (s .unsaid b (vote d) h) (s .unsaid c (vote d′) h′) q;
     one-log = λ b d d′ v h h′. L .one-log b d d′ v (s .unsaid b (log d v) h) (s .unsaid b (log d′ v) h′);
     elections = λ b d w h. elected-later e es (still s) L b d w (s .unsaid b (elect d w) h);
   }
 
+  local-lifted : (e : Event) (es : List Event) → Lifted f i e es → Local es → Local (e ∷ es)
+  local-lifted e es s L = record {
+    kept = λ b w h l. kept-by b w h (rw (s .low-now) at l);
+    high = λ x p. rw (s .low-now) (in-above (s .mark) x (table f i es) (rw (s .table-now) at p) .1);
+    told = λ x w p q. gave-later f i e es x.body w (L .told x w (in-above (s .mark) x (table f i es) (rw (s .table-now) at p) .0) q);
+    one-vote = λ b c d d′ h h′ q. L .one-vote b c d d′ (s .unsaid b (vote d) h) (s .unsaid c (vote d′) h′) q;
+    one-log = λ b d d′ v h h′. L .one-log b d d′ v (s .unsaid b (log d v) h) (s .unsaid b (log d′ v) h′);
+    elections = λ b d w h. elected-later e es (lifts s) L b d w (s .unsaid b (elect d w) h);
+  }
+    where
+      kept-by : (b : Body) (w : Word) → T (gave f i b w (e ∷ es)) → s .mark < stampOf b → Kept (table f i (e ∷ es)) b w
+      kept-by b w h u = rw (s .table-now) (kept-above (s .mark) (table f i es) b w u (L .kept b w (s .unsaid b w h) (omega (arith, s .higher))))
+
   local-moved : (e : Event) (es : List Event) → Moved f i e es → Local es → Local (e ∷ es)
   unfolding table
   local-moved e es s L = record {
-    kept = λ b w h. rw (s .table-now) (kept-by b w (s .given b w h));
+    kept = λ b w h l. rw (s .table-now) (kept-by b w (rw (s .low-now) at l) (s .given b w h));
+    high = λ x p. rw (s .low-now) (high-by x (after-cases a m x (rw (s .table-now) at p)));
     told = λ x w p h. told-by x w h (after-cases a m x (rw (s .table-now) at p));
     one-vote = λ b c d d′ h h′ q. vote-by b c d d′ q (s .given b (vote d) h) (s .given c (vote d′) h′);
     one-log = λ b d d′ v h h′. log-by b d d′ v (s .given b (log d v) h) (s .given b (log d′ v) h′);
@@ -105,9 +124,13 @@ module _ (f i : ℕ) where
       m : Move f (boxAt f i es) e.entry e.message b₀ a
       m = s .move
 
-      kept-by : (b : Body) (w : Word) → New f i e es a b w → Kept (tableAfter (table f i es) (a .change)) b w
-      kept-by b w (inl u) = rw (← u .0) (kept-new (spoken m w (u .1)))
-      kept-by b w (inr u) = kept-old a m b w (L .kept b w u)
+      kept-by : (b : Body) (w : Word) → low f i es < stampOf b → New f i e es a b w → Kept (tableAfter (table f i es) (a .change)) b w
+      kept-by b w l (inl u) = rw (← u .0) (kept-new (spoken m w (u .1)))
+      kept-by b w l (inr u) = kept-old a m b w (L .kept b w u l)
+
+      high-by : (x : Entry) → In x (table f i es) ⊎ Fresh f (boxAt f i es) e.entry e.message b₀ x (a .answer) → low f i es < stampOf x.body
+      high-by x (inl o) = L .high x o
+      high-by x (inr y) = omega (arith, s .high, ap stampOf (y .owner))
 
       told-by : (x : Entry) (w : Word) → Holds (some x) w → In x (table f i es) ⊎ Fresh f (boxAt f i es) e.entry e.message b₀ x (a .answer)
           → T (gave f i x.body w (e ∷ es))
@@ -120,15 +143,15 @@ module _ (f i : ℕ) where
 
       vote-by : (b c : Body) (d d′ : Decision) → stampOf b ≡ stampOf c → New f i e es a b (vote d) → New f i e es a c (vote d′) → (b ≡ c) × (d ≡ d′)
       vote-by b c d d′ q (inl u) (inl v) = let k : vote d ≡ vote d′ = some-eq (u .1) (v .1) in (sym (u .0) ∙ v .0, cc)
-      vote-by b c d d′ q (inl u) (inr v) = rw (← u .0) (vote-once (said m (vote d) (u .1)) (L .kept c (vote d′) v) (rw (u .0) q))
+      vote-by b c d d′ q (inl u) (inr v) = rw (← u .0) (vote-once (said m (vote d) (u .1)) (L .kept c (vote d′) v (omega (arith, s .high, q, ap stampOf (u .0)))) (rw (u .0) q))
       vote-by b c d d′ q (inr u) (inl v) =
-          let w = vote-once (said m (vote d′) (v .1)) (L .kept b (vote d) u) (rw (v .0) (sym q)) in (sym (w .0) ∙ v .0, sym (w .1))
+          let w = vote-once (said m (vote d′) (v .1)) (L .kept b (vote d) u (omega (arith, s .high, q, ap stampOf (v .0)))) (rw (v .0) (sym q)) in (sym (w .0) ∙ v .0, sym (w .1))
       vote-by b c d d′ q (inr u) (inr v) = L .one-vote b c d d′ u v q
 
       log-by : (b : Body) (d d′ : Decision) (v : ℕ) → New f i e es a b (log d v) → New f i e es a b (log d′ v) → d ≡ d′
       log-by b d d′ v (inl x) (inl y) = let k : log d v ≡ log d′ v = some-eq (x .1) (y .1) in cc
-      log-by b d d′ v (inl x) (inr y) = log-once (said m (log d v) (x .1)) (L .kept b₀ (log d′ v) (rw (x .0) y))
-      log-by b d d′ v (inr x) (inl y) = sym (log-once (said m (log d′ v) (y .1)) (L .kept b₀ (log d v) (rw (y .0) x)))
+      log-by b d d′ v (inl x) (inr y) = log-once (said m (log d v) (x .1)) (L .kept b₀ (log d′ v) (rw (x .0) y) (s .high))
+      log-by b d d′ v (inr x) (inl y) = sym (log-once (said m (log d′ v) (y .1)) (L .kept b₀ (log d v) (rw (y .0) x) (s .high)))
       log-by b d d′ v (inr x) (inr y) = L .one-log b d d′ v x y
 
       elect-by : (b : Body) (d : Decision) (w : ℕ) → New f i e es a b (elect d w) → Elected (e ∷ es) b d w
@@ -150,7 +173,7 @@ module _ (f i : ℕ) where
 
           below : (d′ : Decision) (v : ℕ) → New f i e es a b₀ (log d′ v) → v ≤ x .0
           below d′ v (inl k) = let c : elect d w ≡ log d′ v = some-eq (y .1) (k .1) in let z : _≡_ {A = ℕ} 0 1 = cc in absurd (omega arith)
-          below d′ v (inr k) = at-most d′ v (log-top (x .1) (L .kept b₀ (log d′ v) k))
+          below d′ v (inr k) = at-most d′ v (log-top (x .1) (L .kept b₀ (log d′ v) k (s .high)))
 
   pub local : (es : List Event) → Local es
   local [] = local-empty
@@ -159,6 +182,7 @@ module _ (f i : ℕ) where
       go : Step f i e es → Local es → Local (e ∷ es)
       go (still s) L = local-still e es s L
       go (arrives s) L = local-moved e es s L
+      go (lifts s) L = local-lifted e es s L
 
   pub none-new : (e : Event) (es : List Event) (b : Body) (d d′ : Decision) (u v : ℕ) → u < v → T (gave f i b (elect d′ v) es)
       → T (gave f i b (log d u) (e ∷ es)) → T (gave f i b (log d u) es)

@@ -13,7 +13,7 @@ use Rattle.terms.specs.Group.{boxes}
 use Rattle.records.specs.declared.Pair.{Pair}
 use Rattle.records.specs.Vl.{Vl}
 use Rattle.records.specs.Contents.{codeWrong, answerOdd}
-use Rattle.rules.specs.Answers.{Answer, Decided, Decision, Done, Elected, Found, Logged, Refused, Voted, abort, commit, decisionNumber}
+use Rattle.rules.specs.Answers.{Answer, Decided, Decision, Done, Elected, Found, Logged, Raised, Refused, Voted, abort, commit, decisionNumber}
 use Rattle.rules.specs.Answers.{Kind, Settled, kindNumber, logs, settled, unsettled, votes}
 use Rattle.rules.specs.Bodies.{Body}
 use Rattle.rules.specs.Lists.{kindOf, decisionOf, forProof, bit, tally, meets}
@@ -133,6 +133,7 @@ unfoldable pub loggedView : Answer → ℕ
 loggedView (Logged d v) = v .0
 loggedView (Elected d v l) = 0
 loggedView (Voted v n) = 0
+loggedView Raised = 0
 loggedView Done = 0
 loggedView (Decided d) = 0
 loggedView (Found p q) = 0
@@ -152,6 +153,7 @@ unfolding wordIn loggedView
 logged-view (Logged x u) d v h = let q : log x (u .0) ≡ log d v = some-eq refl h in cc
 logged-view (Elected x u l) d v h = let q = some-eq refl h in let z : _≡_ {A = ℕ} 0 1 = cc in absurd (omega arith)
 logged-view (Voted x n) d v h = absurd (vote-unlogged (cast x) d v h)
+logged-view Raised d v h = absurd (none-some refl h)
 logged-view Done d v h = absurd (none-some refl h)
 logged-view (Decided x) d v h = absurd (none-some refl h)
 logged-view (Found p q) d v h = absurd (none-some refl h)

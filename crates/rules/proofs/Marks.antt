@@ -13,10 +13,11 @@ use Rattle.records.specs.Contents.{largestKey}
 use Rattle.records.specs.declared.Mark.the-variants.{PR, LG, DC, RD, IV, LD}
 use Rattle.records.specs.declared.Marked.{Marked}
 use Rattle.records.specs.declared.Marked.the-variants.{Is, Refused as Unmarked}
-use Rattle.records.specs.Messages.{dueRefusal, rdKey, rdStamp}
+use Rattle.records.specs.Messages.{dueRefusal, markOf, rdKey, rdStamp}
 use Rattle.rules.specs.Table.{Box, Told, empty, limit}
-use Rattle.rules.specs.Calls.{Act, Change, guarded, lookAct, nothing, puts, raises, rdRule}
-use Rattle.rules.specs.Act.{EntryPoint, act, after, boxAfter, dueAct, markBy, markedAct, marksAfter, raise, rule, toldWrong}
+use Rattle.rules.specs.Calls.{Act, Change, guarded, lookAct, nothing, oldWrong, puts, raises, raisesLow, rdRule}
+use Rattle.rules.specs.Act.{EntryPoint, act, actBy, after, boxAfter, due, dueAct, dueMark, markBy, markedAct, marksAfter, raise, raising, receive}
+use Rattle.rules.specs.Act.{rule, toldWrong}
 use Rattle.rules.specs.System.{Event, boxAt, toldAt}
 use Rattle.rules.specs.SlipUnder.{isFound, isRd}
 use Rattle.rules.proofs.Laws.{decideT, not-eqb, pick-elim}
@@ -28,6 +29,7 @@ marks-up : (marks : List ℕ) (c : Change) (k : ℕ) → k < length marks → ge
 unfolding marksAfter raise
 marks-up marks nothing k h = omega arith
 marks-up marks (puts e) k h = omega arith
+marks-up marks (raisesLow l) k h = omega arith
 marks-up marks (raises j s) k h = go (decideT (eqb k j))
   where
     go : T (eqb k j) ⊎ T (not (eqb k j)) → getD marks k 0 ≤ getD (set marks j (max (getD marks j 0) s)) k 0
@@ -69,9 +71,13 @@ module _ (told : Told) (x : Box) (m : List ℕ) where
   unfolding dueAct rule rdRule guarded
   looks-rd h =
       let u = found-guard (dueRefusal RD told.f m) (rdRule told x (rdKey m) (rdStamp m)) h in
-      let v = found-guard (ifLess (limit told) (rdStamp m) ahead) (lookAct x (rdKey m) (rdStamp m)) (u .1) in
+      let v = found-guard (ifLess (limit told) (rdStamp m) ahead) (guarded (oldWrong x.low (rdStamp m)) (lookAct x (rdKey m) (rdStamp m))) (u .1) in
+      let w = found-guard (oldWrong x.low (rdStamp m)) (lookAct x (rdKey m) (rdStamp m)) (v .1) in
       record {
-        is = ap (λ n. guarded n (rdRule told x (rdKey m) (rdStamp m))) (u .0) ∙ ap (λ n. guarded n (lookAct x (rdKey m) (rdStamp m))) (v .0);
+        is =
+            ap (λ n. guarded n (rdRule told x (rdKey m) (rdStamp m))) (u .0)
+            ∙ (ap (λ n. guarded n (guarded (oldWrong x.low (rdStamp m)) (lookAct x (rdKey m) (rdStamp m)))) (v .0)
+            ∙ ap (λ n. guarded n (lookAct x (rdKey m) (rdStamp m))) (w .0));
         key = rd-key told.f m (u .0);
       }
 
@@ -85,12 +91,18 @@ module _ (told : Told) (x : Box) (m : List ℕ) where
   looks-marked (Is LD) h g = absurd h
   looks-marked (Unmarked n) h g = absurd h
 
+  looks-by : (way : EntryPoint) → T (isRd (markBy way m)) → T (isFound (actBy way told x m .answer)) → Looks (actBy way told x m) x m
+  unfolding actBy markBy isRd
+  looks-by receive h g = looks-marked (markOf m) h g
+  looks-by (due k) h g = looks-marked (dueMark k) h g
+  looks-by (raising l) h g = absurd h
+
   pub looks-found : (way : EntryPoint) → T (isRd (markBy way m)) → T (isFound (act way told x m .answer)) → Looks (act way told x m) x m
   unfolding act guarded
   looks-found way h g =
-      let u = found-guard (toldWrong told) (markedAct (markBy way m) told x m) g in
-      let l = looks-marked (markBy way m) h (u .1) in
-      record { is = ap (λ n. guarded n (markedAct (markBy way m) told x m)) (u .0) ∙ l .is; key = l .key }
+      let u = found-guard (toldWrong told) (actBy way told x m) g in
+      let l = looks-by way h (u .1) in
+      record { is = ap (λ n. guarded n (actBy way told x m)) (u .0) ∙ l .is; key = l .key }
 
 -- its mark is then at the stamp or above
 pub look-raises : (marks : List ℕ) (k s : ℕ) → k < length marks → s ≤ getD (raise marks k s) k 0

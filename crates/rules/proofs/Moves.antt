@@ -1,4 +1,4 @@
--- The nine moves that a message can be, on the entry of its stamp or on a read mark.
+-- The eight moves that a message can be, on the entry of its stamp.
 use Prim.Native.Nat.{ℕ, _≤_, _<_}
 use mathlib.Core.Bool.{Bool, true, false, _&&_}
 use mathlib.Core.Path.{_≡_, refl, ap}
@@ -13,7 +13,7 @@ use Rattle.records.specs.Vl.{Vl}
 use Rattle.records.specs.declared.Ballot.{Ballot}
 use Rattle.records.specs.declared.ViewMark.the-variants.{EL}
 use Rattle.records.specs.Views.{Views, ballotPair}
-use Rattle.records.specs.Contents.{listWrong, boxesWrong}
+use Rattle.records.specs.Contents.{listWrong, boxesWrong, largestKey}
 use Rattle.records.specs.declared.Mark.{Mark}
 use Rattle.records.specs.declared.Mark.the-variants.{LG, DC, LD}
 use Rattle.records.specs.declared.Marked.the-variants.{Is}
@@ -22,9 +22,9 @@ use Rattle.rules.specs.Answers.{Decision, commit, abort, votes, Settled,
 use Rattle.rules.specs.Answers.{Log, View, logged, unlogged, logView, viewAs}
 use Rattle.rules.specs.Bodies.{Body, stampOf, readsOf, writesKey}
 use Rattle.rules.specs.Lists.{kindOf, decisionOf, forLogging, forProof, tally, meets}
-use Rattle.rules.specs.Table.{Entry, Box, Told, find, voteIn, logIn, viewIn, live}
+use Rattle.rules.specs.Table.{Entry, Box, Told, find, foldedAt, voteIn, logIn, viewIn, live}
 use Rattle.rules.specs.Tests.{undercut, test5}
-use Rattle.rules.specs.Calls.{Act, keep, sameDecision, castAct, firstLog, decideAct, lookAct}
+use Rattle.rules.specs.Calls.{Act, keep, sameDecision, castAct, firstLog, decideAct}
 use Rattle.rules.specs.Fallback.{ballotView, electAct, ledAct}
 use Rattle.rules.specs.Quorums.{majority}
 use Rattle.records.specs.Cutting.{txPart}
@@ -109,10 +109,11 @@ pub record Committed (x : Box) (r : Read) : Type 0 where
   pub committed : entry .decided ≡ settled commit
   pub writes : T (writesKey (entry .body) (readKey r))
 
--- what a read may name: the start, or a committed writer here
+-- what a read may name: the start, a committed writer here, or A11's folded version
 pub data Names (x : Box) (r : Read) : Type 0 where
   start : readVersion r ≡ 0 → Names x r
   here-held : Committed x r → Names x r
+  here-folded : foldedAt x (readKey r) ≡ readVersion r → Names x r
 
 -- what a vote that is stored has been tested for
 pub record Ready (x : Box) (b : Body) (v : Vote) : Type 0 where
@@ -123,6 +124,8 @@ pub record Clear (x : Box) (b : Body) : Type 0 where
   pub under : (e : Entry) → In e x.table → T (live e) → T (undercut b e.body) → ⊥
   pub over : (e : Entry) → In e x.table → T (live e) → T (undercut e.body b) → ⊥
   pub unread : T (test5 x b) → ⊥
+  pub folds : (r : Read) → In r (readsOf b) → foldedAt x (readKey r) ≤ readVersion r
+  pub keys : (r : Read) → In r (readsOf b) → readKey r ≤ largestKey
 
 -- what is held under the stamp of b: nothing, or b undecided
 pub record Prior (t : List Entry) (b : Body) (o : Option Entry) : Type 0 where
@@ -176,8 +179,6 @@ pub record Rival (t : List Entry) (b : Body) (e : Entry) : Type 0 where
 pub data Move (f : ℕ) (x : Box) (way : EntryPoint) (m : List ℕ) (b : Body) : Act → Type 0 where
   -- nothing is stored, and no word is given
   quiet : {a : Answer} → wordIn a ≡ none → Move f x way m b (keep a)
-  -- a read mark is raised, and no word is given
-  looks : (k s : ℕ) → Move f x way m b (lookAct x k s)
   -- a word that is held is given again
   again : {a : Answer} (w : Word) (e : Entry) → Prior x.table b (some e) → Holds (some e) w → wordIn a ≡ some w → Move f x way m b (keep a)
   -- a vote after the tests, or a waiting one after the waiting rule

@@ -8,6 +8,7 @@ use mathlib.Core.List.{List}
 use native.Mathlib.Omega.{arith}
 use lib.Dec.{T, leb, leb→le, le→leb, not-T}
 use lib.ListN.{length}
+use Rattle.terms.specs.Checks.{orElse}
 use Rattle.terms.specs.Choice.{pick}
 use Rattle.terms.specs.declared.Refusal.{Refusal}
 use Rattle.terms.specs.declared.Refusal.the-variants.{Full, TooFew}
@@ -15,16 +16,16 @@ use Rattle.records.specs.declared.Mark.the-variants.{DC}
 use Rattle.records.specs.Cutting.{txPart}
 use Rattle.records.specs.Messages.{dueRefusal, listBehind}
 use Rattle.records.specs.Vl.{Vl}
-use Rattle.rules.specs.Answers.{Answer, Decision, Done, Refused, Settled, abort, commit, settled, unsettled}
+use Rattle.rules.specs.Answers.{Answer, Decision, Done, Refused, Settled, Version, abort, commit, settled, unsettled}
 use Rattle.rules.specs.Bodies.{Body, sameBody, stampOf}
 use Rattle.rules.specs.Lists.{decisionOf, forProof, kindOf, lacking, meets}
 use Rattle.rules.specs.Table.{Box, Entry, Told, find, put}
-use Rattle.rules.specs.Calls.{Act, Change, dcByEntry, dcOther, dcRule, dcSame, decideAct, guarded, isFull, needing, nothing, puts, raises, refuse}
-use Rattle.rules.specs.Calls.{roomFor, sameDecision}
-use Rattle.rules.specs.Act.{act, after, boxAfter, dueAct, markedAct, marksAfter, rule, tableAfter, toldWrong}
+use Rattle.rules.specs.Calls.{Act, Change, dcByEntry, dcOther, dcRule, dcSame, decideAct, guarded, isFull, needing, nothing, oldWrong, puts, raises, raisesLow}
+use Rattle.rules.specs.Calls.{refuse, roomFor, sameDecision}
+use Rattle.rules.specs.Act.{act, after, boxAfter, dueAct, foldsAfter, lowAfter, marksAfter, rule, tableAfter, toldWrong, unlessOld}
 use Rattle.rules.specs.Order.{Call, DecisionsCommute, IsDC, NeedsNew, OneRefused, Reordered, Room, next, ofRules, reply, same, stampIn}
 use Rattle.rules.proofs.Laws.{decideT, find-put-other, pick-elim, pick-false, pick-true}
-use Rattle.rules.proofs.Deeds.{guarded-elim}
+use Rattle.rules.proofs.Deeds.{act-marked, guarded-elim}
 use Rattle.rules.proofs.Room.{Fit, FitsBy, FitsIn, act-fits}
 use Rattle.rules.proofs.Reordered.{put-held, put-new, put-put}
 use Rattle.rules.proofs.Twins.{Twins, replies-twins}
@@ -32,11 +33,12 @@ use Rattle.rules.proofs.Twins.{Twins, replies-twins}
 abbrev actOf : Box → Call → Act
 actOf x c = act (c .entry) (c .told) x (c .message)
 
--- ---- a DC puts nothing unless it is taken, and raises no mark
+-- ---- a DC puts nothing unless it is taken, and raises no mark, nor the low mark
 unfoldable Takes : Change → Answer → Type 0
 Takes nothing a = Unit {0}
 Takes (puts e) a = a ≡ Done
 Takes (raises k s) a = ⊥
+Takes (raisesLow l) a = ⊥
 
 unfoldable TakesIn : Act → Type 0
 TakesIn a = Takes (a .change) (a .answer)
@@ -71,12 +73,19 @@ dc-takes : (told : Told) (x : Box) (b : Body) (l : Vl) → TakesIn (dcRule told 
 unfolding dcRule needing
 dc-takes told x b l = pick-elim TakesIn (meets _ l) (λ _. entry-takes told x b _ _) (λ _. refuse-takes _)
 
--- a DC call, behind its checks
+-- a DC call, behind its checks: those of the message, then 18
+abbrev checked : Box → Call → ℕ
+checked x c = orElse (dueRefusal DC (c .told .f) (c .message)) (oldWrong x.low (stampIn c))
+
+twice : (n m : ℕ) (a : Act) → guarded n (guarded m a) ≡ guarded (orElse n m) a
+unfolding guarded orElse
+twice zero m a = refl
+twice (suc n) m a = refl
+
 dc-act : (x : Box) (c : Call) → IsDC c
-    → actOf x c
-    ≡ guarded (toldWrong (c .told)) (guarded (dueRefusal DC (c .told .f) (c .message)) (dcRule (c .told) x (txPart (c .message)) (listBehind (c .message))))
-unfolding act markedAct dueAct rule
-dc-act x c d = rw d
+    → actOf x c ≡ guarded (toldWrong (c .told)) (guarded (checked x c) (dcRule (c .told) x (txPart (c .message)) (listBehind (c .message))))
+unfolding act dueAct rule unlessOld
+dc-act x c d = ap (guarded (toldWrong (c .told))) (act-marked (c .told) x (c .entry) (c .message) DC d ∙ twice _ _ _)
 
 act-takes : (x : Box) (c : Call) → IsDC c → TakesIn (actOf x c)
 act-takes x c d =
@@ -86,6 +95,41 @@ act-takes x c d =
 act-puts : (x : Box) (c : Call) → FitsIn (c .told) x (txPart (c .message)) (actOf x c .change)
 unfolding Fit
 act-puts x c = act-fits (c .told) x (c .message) (c .entry)
+
+-- ---- what it leaves of the marks
+still : (c : Change) (a : Answer) → Takes c a → (marks : List ℕ) → marksAfter marks c ≡ marks
+unfolding Takes marksAfter
+still nothing a h marks = refl
+still (puts e) a h marks = refl
+still (raises k s) a h marks = absurd h
+still (raisesLow l) a h marks = absurd h
+
+act-still : (x : Box) (c : Call) → IsDC c → (marks : List ℕ) → marksAfter marks (actOf x c .change) ≡ marks
+unfolding TakesIn
+act-still x c d marks = still _ _ (act-takes x c d) marks
+
+-- nor of the low mark and what is folded
+low-by : (c : Change) (a : Answer) → Takes c a → (low : ℕ) → lowAfter low c ≡ low
+unfolding Takes lowAfter
+low-by nothing a h low = refl
+low-by (puts e) a h low = refl
+low-by (raises k s) a h low = refl
+low-by (raisesLow l) a h low = absurd h
+
+low-still : (x : Box) (c : Call) → IsDC c → next x c .low ≡ x.low
+unfolding TakesIn next after boxAfter
+low-still x c d = low-by _ _ (act-takes x c d) x.low
+
+folds-by : (c : Change) (a : Answer) → Takes c a → (t : List Entry) (folds : List Version) → foldsAfter t folds c ≡ folds
+unfolding Takes foldsAfter
+folds-by nothing a h t folds = refl
+folds-by (puts e) a h t folds = refl
+folds-by (raises k s) a h t folds = refl
+folds-by (raisesLow l) a h t folds = absurd h
+
+folds-still : (x : Box) (c : Call) → IsDC c → next x c .folds ≡ x.folds
+unfolding TakesIn next after boxAfter
+folds-still x c d = folds-by _ _ (act-takes x c d) x.table x.folds
 
 -- ---- past the checks
 not-done : {A : Type 0} {r : Refusal} → Refused r ≡ Done → A
@@ -147,7 +191,7 @@ module _ (x : Box) (c : Call) (d : IsDC c) (new : find (stampIn c) x.table ≡ n
   fresh = decideAct (txPart (c .message)) (saidIn c) none
 
   -- taken, where its checks pass and there is room
-  is-taken : toldWrong (c .told) ≡ 0 → dueRefusal DC (c .told .f) (c .message) ≡ 0 → Enough c → T (not (isFull (c .told) x))
+  is-taken : toldWrong (c .told) ≡ 0 → checked x c ≡ 0 → Enough c → T (not (isFull (c .told) x))
       → actOf x c ≡ fresh
   unfolding dcRule needing dcByEntry roomFor
   is-taken n m k r =
@@ -155,14 +199,14 @@ module _ (x : Box) (c : Call) (d : IsDC c) (new : find (stampIn c) x.table ≡ n
       ∙ (rw new (pick-false (isFull (c .told) x) (refuse Full) fresh r))
 
   -- refused with 13, where they pass and there is none
-  is-refused : toldWrong (c .told) ≡ 0 → dueRefusal DC (c .told .f) (c .message) ≡ 0 → Enough c → T (isFull (c .told) x)
+  is-refused : toldWrong (c .told) ≡ 0 → checked x c ≡ 0 → Enough c → T (isFull (c .told) x)
       → actOf x c ≡ refuse Full
   unfolding dcRule needing dcByEntry roomFor
   is-refused n m k r =
       dc-act x c d ∙ unguarded _ _ _ n m ∙ pick-true (meets _ (listBehind (c .message))) _ _ k
       ∙ (rw new (pick-true (isFull (c .told) x) (refuse Full) fresh r))
 
-  checks-pass : reply x c ≡ Done → (toldWrong (c .told) ≡ 0) × (dueRefusal DC (c .told .f) (c .message) ≡ 0) × Enough c
+  checks-pass : reply x c ≡ Done → (toldWrong (c .told) ≡ 0) × (checked x c ≡ 0) × Enough c
   unfolding reply dcRule
   checks-pass h = passed _ _ _ (listBehind (c .message)) _ (sym (ap (λ (a : Act). a .answer) (dc-act x c d)) ∙ h)
 
@@ -182,15 +226,21 @@ module _ (x : Box) (p q : Call) (dp : IsDC p) (dq : IsDC q) (apart : stampIn p �
   y = next x p
 
   -- what p puts is not seen under q's stamp
-  find-by : (c : Change) → FitsIn (p .told) x (txPart (p .message)) c → find (stampIn q) (tableAfter x.table c) ≡ find (stampIn q) x.table
-  unfolding FitsBy tableAfter
-  find-by nothing h = refl
-  find-by (raises k s) h = refl
-  find-by (puts e) h = find-put-other (stampIn q) e x.table (λ r. apart (rw (h .0) at r))
+  find-by : (c : Change) (a : Answer) → FitsIn (p .told) x (txPart (p .message)) c → Takes c a → find (stampIn q) (tableAfter x.table c) ≡ find (stampIn q) x.table
+  unfolding FitsBy Takes tableAfter
+  find-by nothing a h k = refl
+  find-by (raises n s) a h k = refl
+  find-by (raisesLow l) a h k = absurd k
+  find-by (puts e) a h k = find-put-other (stampIn q) e x.table (λ r. apart (rw (h .0) at r))
 
   find-y : find (stampIn q) (y .table) ≡ find (stampIn q) x.table
+  unfolding next after boxAfter TakesIn
+  find-y = find-by (actOf x p .change) (actOf x p .answer) (act-puts x p) (act-takes x p dp)
+
+  -- nor is it older for it
+  checked-y : checked y q ≡ checked x q
   unfolding next after boxAfter
-  find-y = find-by (actOf x p .change) (act-puts x p)
+  checked-y = ap (λ (l : ℕ). orElse (dueRefusal DC (q .told .f) (q .message)) (oldWrong l (stampIn q))) (low-still x p dp)
 
   -- p adds no entry, or needs a new one and adds that
   grows-by : (c : Change) (a : Answer) → FitsIn (p .told) x (txPart (p .message)) c → Takes c a
@@ -199,6 +249,7 @@ module _ (x : Box) (p q : Call) (dp : IsDC p) (dq : IsDC q) (apart : stampIn p �
   unfolding FitsBy Takes tableAfter
   grows-by nothing a h k = inl refl
   grows-by (raises n s) a h k = inl refl
+  grows-by (raisesLow l) a h k = absurd k
   grows-by (puts e) a h k = go (find (stampOf e.body) x.table) refl
     where
       go : (o : Option Entry) → find (stampOf e.body) x.table ≡ o
@@ -240,10 +291,11 @@ module _ (x : Box) (p q : Call) (dp : IsDC p) (dq : IsDC q) (apart : stampIn p �
   unfolding dcRule dcByEntry roomFor reply decideAct
   act-after room =
       dc-act y q dq
+      ∙ ap (λ (n : ℕ). guarded (toldWrong (q .told)) (guarded n (dcRule (q .told) y (txPart (q .message)) (listBehind (q .message))))) checked-y
       ∙ behind-checks _ _ _ _ _ _ (λ n m k. rw find-y (by n m k (find (stampIn q) x.table) refl))
       ∙ sym (dc-act x q dq)
     where
-      by : toldWrong (q .told) ≡ 0 → dueRefusal DC (q .told .f) (q .message) ≡ 0 → Enough q → (o : Option Entry) → find (stampIn q) x.table ≡ o
+      by : toldWrong (q .told) ≡ 0 → checked x q ≡ 0 → Enough q → (o : Option Entry) → find (stampIn q) x.table ≡ o
           → dcByEntry (q .told) y (txPart (q .message)) (saidIn q) o ≡ dcByEntry (q .told) x (txPart (q .message)) (saidIn q) o
       by n m k (some e) r = refl
       by n m k none r =
@@ -263,34 +315,25 @@ module _ (x : Box) (p q : Call) (dp : IsDC p) (dq : IsDC q) (apart : stampIn p �
   second-refused h g r =
       let k = checks-pass x q dq (g .new) (g .taken) in
       ap (λ (a : Act). a .answer)
-      (is-refused y q dq (find-y ∙ g .new) (k .0) (k .1) (k .2) (le→leb (q .told .capacity) (length (y .table)) (omega (arith, r, longer h))))
+      (is-refused y q dq (find-y ∙ g .new) (k .0) (checked-y ∙ k .1) (k .2) (le→leb (q .told .capacity) (length (y .table)) (omega (arith, r, longer h))))
 
 -- ---- both, in either order
-either-way : (x : Box) (p q : Call) → (stampIn p ≡ stampIn q → ⊥)
+either-way : (x : Box) (p q : Call) → IsDC p → IsDC q → (stampIn p ≡ stampIn q → ⊥)
     → Reordered (tableAfter (tableAfter x.table (actOf x p .change)) (actOf x q .change))
     (tableAfter (tableAfter x.table (actOf x q .change)) (actOf x p .change))
-unfolding tableAfter FitsBy
-either-way x p q apart = go (actOf x p .change) (actOf x q .change) (act-puts x p) (act-puts x q)
+unfolding tableAfter FitsBy Takes TakesIn
+either-way x p q dp dq apart =
+    go (actOf x p .change) (actOf x q .change) (actOf x p .answer) (actOf x q .answer) (act-puts x p) (act-puts x q) (act-takes x p dp) (act-takes x q dq)
   where
-    go : (c d : Change) → FitsIn (p .told) x (txPart (p .message)) c → FitsIn (q .told) x (txPart (q .message)) d
+    go : (c d : Change) (a o : Answer) → FitsIn (p .told) x (txPart (p .message)) c → FitsIn (q .told) x (txPart (q .message)) d → Takes c a → Takes d o
         → Reordered (tableAfter (tableAfter x.table c) d) (tableAfter (tableAfter x.table d) c)
-    go nothing d h k = same
-    go (raises n s) nothing h k = same
-    go (raises n s) (raises n′ s′) h k = same
-    go (raises n s) (puts o) h k = same
-    go (puts e) nothing h k = same
-    go (puts e) (raises n s) h k = same
-    go (puts e) (puts o) h k = put-put o e x.table (λ r. apart (rw (← h .0, ← k .0) (sym r)))
-
-still : (c : Change) (a : Answer) → Takes c a → (marks : List ℕ) → marksAfter marks c ≡ marks
-unfolding Takes marksAfter
-still nothing a h marks = refl
-still (puts e) a h marks = refl
-still (raises k s) a h marks = absurd h
-
-act-still : (x : Box) (c : Call) → IsDC c → (marks : List ℕ) → marksAfter marks (actOf x c .change) ≡ marks
-unfolding TakesIn
-act-still x c d marks = still _ _ (act-takes x c d) marks
+    go nothing d a o h k t u = same
+    go (raises n s) d a o h k t u = absurd t
+    go (raisesLow l) d a o h k t u = absurd t
+    go (puts e) nothing a o h k t u = same
+    go (puts e) (raises n s) a o h k t u = absurd u
+    go (puts e) (raisesLow l) a o h k t u = absurd u
+    go (puts e) (puts y) a o h k t u = put-put y e x.table (λ r. apart (rw (← h .0, ← k .0) (sym r)))
 
 turned : (x : Box) (p q : Call) → Room x p q → Room x q p
 turned x p q room h g = let r = room g h in (r .1, r .0)
@@ -301,8 +344,10 @@ twins x p q dp dq apart room =
     let a = act-after x p q dp dq apart room in
     let b = act-after x q p dq dp (λ e. apart (sym e)) (turned x p q room) in
     record {
-      table = rw (a, b) (either-way x p q apart);
+      table = rw (a, b) (either-way x p q dp dq apart);
       marks = act-still _ q dq _ ∙ act-still x p dp _ ∙ sym (act-still x q dq _) ∙ sym (act-still _ p dp _);
+      low = low-still _ q dq ∙ low-still x p dp ∙ sym (low-still x q dq) ∙ sym (low-still _ p dp);
+      folds = folds-still _ q dq ∙ folds-still x p dp ∙ sym (folds-still x q dq) ∙ sym (folds-still _ p dp);
     }
 
 pub decisions-commute : DecisionsCommute
@@ -313,6 +358,8 @@ decisions-commute x p q dp dq apart room = record {
   later = replies-twins _ _ (twins x p q dp dq apart room);
   tables = twins x p q dp dq apart room .table;
   marks = twins x p q dp dq apart room .marks;
+  low = twins x p q dp dq apart room .low;
+  folds = twins x p q dp dq apart room .folds;
 }
 
 pub one-refused : OneRefused

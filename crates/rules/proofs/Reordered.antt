@@ -12,6 +12,7 @@ use Rattle.terms.specs.Choice.{pick, any}
 use Rattle.rules.specs.Bodies.{stampOf, writesKey}
 use Rattle.rules.specs.Table.{Entry, find, put}
 use Rattle.rules.specs.Calls.{better, newest}
+use Rattle.rules.specs.Low.{above, upTo}
 use Rattle.rules.specs.Order.{Reordered, same, behind, swapped, further}
 use Rattle.rules.proofs.Laws.{decideT, neqb, not-eqb, pick-elim, pick-false, pick-true}
 use Rattle.rules.proofs.Moves.{none-some}
@@ -127,6 +128,26 @@ put-same e (swapped {a = a} {b = b} {t = t} n) =
     go false true p q = swapped (λ r. n (r ∙ sym (q tt)))
     go false false p q = swapped n
 put-same e (further w v) = further (put-same e w) (put-same e v)
+
+-- ---- what stays above a low mark
+pub above-same : {t u : List Entry} (l : ℕ) → Reordered t u → Reordered (above l t) (above l u)
+unfolding above
+above-same l same = same
+above-same l (behind {e = x} {t = t} {u = u} w) = go (upTo l x) (above-same l w)
+  where
+    go : (c : Bool) → Reordered (above l t) (above l u) → Reordered (pick c (above l t) (x ∷ above l t)) (pick c (above l u) (x ∷ above l u))
+    go true r = r
+    go false r = behind r
+above-same l (swapped {a = a} {b = b} {t = t} n) = go (upTo l a) (upTo l b)
+  where
+    go : (c d : Bool)
+        → Reordered (pick c (pick d (above l t) (b ∷ above l t)) (a ∷ pick d (above l t) (b ∷ above l t)))
+        (pick d (pick c (above l t) (a ∷ above l t)) (b ∷ pick c (above l t) (a ∷ above l t)))
+    go true true = same
+    go true false = same
+    go false true = same
+    go false false = swapped n
+above-same l (further w v) = further (above-same l w) (above-same l v)
 
 put-here : (e x : Entry) (t : List Entry) → T (eqb (stampOf x.body) (stampOf e.body)) → put e (x ∷ t) ≡ e ∷ t
 unfolding put

@@ -16,17 +16,21 @@ use Rattle.rules.specs.Answers.{apartFromNumber}
 use Rattle.rules.specs.Bodies.{stampOf, readsOf, writesOf, sameBody, writesKey}
 use Rattle.rules.specs.Lists.{kindOf, decisionOf, bit, tally, meets, lacking}
 use Rattle.rules.specs.Table.{empty, find, put, liveBy, live}
-use Rattle.rules.specs.Tests.{test1, liveWriter, test2, undercut, test3, test4, test5, statusBy, statusOf, status, waitingRule, firstVote}
+use Rattle.rules.specs.Tests.{test1, liveWriter, isLow, isFolded, names, test2, undercut, foldAbove, test3, test4, test5, statusBy, statusOf}
+use Rattle.rules.specs.Tests.{statusFolded, status, waitingRule, firstVote}
 use Rattle.rules.specs.Visits.{through, lookUp, versionUp, keyByKey, visits2, fails3, fails4, visits3, visits4, waitingVisits, testVisits, firstVisits}
 use Rattle.rules.specs.Visits.{againVisits}
-use Rattle.rules.specs.Calls.{guarded, isFull, roomFor, needing, sameDecision, castAct, prByVote, prByDecision, prByEntry, prRule, logAct, lgByLog}
+use Rattle.rules.specs.Calls.{guarded, oldWrong, versionOr, isFull, roomFor, needing, sameDecision, castAct, prByVote, prByDecision, prByEntry, prRule}
+use Rattle.rules.specs.Calls.{logAct, lgByLog}
 use Rattle.rules.specs.Calls.{lgByDecision, lgByEntry, lgRule, decideAct, dcSame, dcOther, dcByEntry, dcRule, better, newest, valueAt}
 use Rattle.rules.specs.Calls.{versionOf, isCommitted, isUndecided, rdAnswer, lookAct, rdRule}
 use Rattle.rules.specs.Fallback.{leaderOf, reach, higher, reached, byFew, byMany, nextView, electAct, ivByLog, ivByDecision, ivByEntry, ivRule}
 use Rattle.rules.specs.Fallback.{oneView, leads, mayTake, takeAct, ldByDecision, ldByEntry, ldRule}
-use Rattle.rules.specs.Act.{toldWrong, rule, dueAct, markedAct, dueMark, markBy, act, tableAfter, raise, marksAfter, boxAfter, after}
+use Rattle.rules.specs.Low.{upTo, openUpTo, lowWrong, lowRule, newerFold, foldUpTo, foldsUpTo, above}
+use Rattle.rules.specs.Act.{toldWrong, unlessOld, rule, dueAct, markedAct, dueMark, markBy, actBy, act, tableAfter, raise, marksAfter, lowAfter}
+use Rattle.rules.specs.Act.{foldsAfter, boxAfter, after}
 use Rattle.rules.specs.System.{boxAt, answerTo, word, cast, voteWord, wordIn, sameWord, isWord, givesNow, gave, howMany}
-use Rattle.rules.specs.Cases.{replay, given, due, line, case, read, write, tx, writes, reads, pairs, list, PR, LG, DC, RD, commits, waits}
+use Rattle.rules.specs.Cases.{got, LM, replay, given, due, line, case, read, write, tx, writes, reads, pairs, list, PR, LG, DC, RD, commits, waits}
 use Rattle.rules.specs.Cases.{aborts, logs0, lg, dc, iv, ld, logsAt, ballotsOf, seen, elections, few, found}
 use Rattle.rules.specs.Vectors.{group, marked, lent, atFirst, viewed, entry, logsIn, elects, zeros, stores, run, held, wanted}
 
@@ -55,7 +59,7 @@ unfolding stampOf readsOf writesOf sameBody writesKey kindOf decisionOf bit tall
 tables = 0
 
 unfoldable testing : ℕ
-unfolding test1 liveWriter test2 undercut test3 test4 test5 statusBy statusOf status waitingRule firstVote
+unfolding test1 liveWriter isLow isFolded names test2 undercut foldAbove test3 test4 test5 statusBy statusOf statusFolded status waitingRule firstVote
 testing = 0
 
 unfoldable visiting : ℕ
@@ -63,11 +67,11 @@ unfolding through lookUp versionUp keyByKey visits2 fails3 fails4 visits3 visits
 visiting = 0
 
 unfoldable calling : ℕ
-unfolding guarded isFull roomFor needing sameDecision castAct prByVote prByDecision prByEntry prRule logAct lgByLog lgByDecision lgByEntry lgRule
+unfolding guarded oldWrong isFull roomFor needing sameDecision castAct prByVote prByDecision prByEntry prRule logAct lgByLog lgByDecision lgByEntry lgRule
 calling = 0
 
 unfoldable deciding : ℕ
-unfolding decideAct dcSame dcOther dcByEntry dcRule better newest valueAt versionOf isCommitted isUndecided rdAnswer lookAct rdRule
+unfolding decideAct dcSame dcOther dcByEntry dcRule better newest valueAt versionOr versionOf isCommitted isUndecided rdAnswer lookAct rdRule
 deciding = 0
 
 unfoldable moving : ℕ
@@ -78,12 +82,16 @@ unfoldable leading : ℕ
 unfolding oneView leads mayTake takeAct ldByDecision ldByEntry ldRule
 leading = 0
 
+unfoldable folding : ℕ
+unfolding upTo openUpTo lowWrong lowRule newerFold foldUpTo foldsUpTo above
+folding = 0
+
 unfoldable acting : ℕ
-unfolding toldWrong rule dueAct markedAct dueMark markBy act tableAfter raise marksAfter boxAfter after
+unfolding toldWrong unlessOld rule dueAct markedAct dueMark markBy actBy act tableAfter raise marksAfter lowAfter foldsAfter boxAfter after
 acting = 0
 
 unfoldable sending : ℕ
-unfolding apartFromNumber replay given due line case read write tx writes reads pairs list PR LG DC RD lg dc iv ld logsAt ballotsOf seen elections few found commits waits aborts logs0
+unfolding apartFromNumber got LM replay given due line case read write tx writes reads pairs list PR LG DC RD lg dc iv ld logsAt ballotsOf seen elections few found commits waits aborts logs0
 sending = 0
 
 unfoldable lending : ℕ
@@ -91,7 +99,7 @@ unfolding group marked lent atFirst viewed entry logsIn elects zeros run held wa
 lending = 0
 
 unfoldable pub running : ℕ
-unfolding checks bytes views reading messages tables testing visiting calling deciding moving leading acting sending lending
+unfolding checks bytes views reading messages tables testing visiting calling deciding moving leading folding acting sending lending
 running = 0
 
 unfoldable pub tracing : ℕ

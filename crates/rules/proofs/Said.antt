@@ -12,13 +12,13 @@ use Rattle.rules.specs.Answers.{Log, View, logged, unlogged, logView, vi
 use Rattle.rules.specs.Bodies.{Body, stampOf}
 use Rattle.rules.specs.Lists.{kindOf, decisionOf, forLogging}
 use Rattle.rules.specs.Table.{Entry, Box, find, voteIn, logIn, viewIn}
-use Rattle.rules.specs.Calls.{Act, castAct, logAct, decideAct, rdAnswer, lookAct}
+use Rattle.rules.specs.Calls.{Act, castAct, logAct, decideAct}
 use Rattle.rules.specs.Fallback.{electAct}
 use Rattle.rules.specs.Act.{tableAfter, EntryPoint}
 use Rattle.rules.specs.System.{Word, vote, log, elect, cast, voteWord, wordIn}
 use Rattle.rules.proofs.Laws.{find-put-same}
 use Rattle.rules.proofs.Moves.{none-some, some-eq, settled-eq, un-settled, un-logged, Holds, Ready, Prior, Listing, Brings, Leads, Leading}
-use Rattle.rules.proofs.Moves.{Move, quiet, looks, again, casts, logs-first, takes, elects, decides, replaces}
+use Rattle.rules.proofs.Moves.{Move, quiet, again, casts, logs-first, takes, elects, decides, replaces}
 use Rattle.rules.proofs.Kept.{Tops, tops-logged, Keeps, holds-keeps, Kept}
 
 -- the word of a vote
@@ -39,9 +39,8 @@ pub data Said (f : ℕ) (x : Box) (way : EntryPoint) (m : List ℕ) (b : Body) (
   by-log : (v : ℕ) (e : Entry) (d : Decision) (u : View) → elect d v ≡ w → Prior x.table b (some e) → e.log ≡ logged d u → Said f x way m b w
 
 pub said : {f : ℕ} {x : Box} {way : EntryPoint} {m : List ℕ} {b : Body} {a : Act} → Move f x way m b a → (w : Word) → wordIn (a .answer) ≡ some w → Said f x way m b w
-unfolding rdAnswer wordIn castAct logAct electAct decideAct lookAct
+unfolding wordIn castAct logAct electAct decideAct
 said (quiet n) w h = absurd (none-some n h)
-said (looks k s) w h = absurd (none-some refl h)
 said (again w′ e p k n) w h = repeats e p (rw (some-eq n h) at k)
 said (casts v c o p n r cl) w h = let y = word-vote (cast v) w h in by-tests (y .0) v o (y .1) p n (y .2) r
 said (logs-first l o q k y p n) w h = by-list l o (some-eq refl h) q k y p n
@@ -60,9 +59,8 @@ pub record Spoken (t : List Entry) (b : Body) (w : Word) : Type 0 where
 
 pub spoken : {f : ℕ} {x : Box} {way : EntryPoint} {m : List ℕ} {b : Body} {a : Act} → Move f x way m b a → (w : Word) → wordIn (a .answer) ≡ some w
     → Spoken (tableAfter x.table (a .change)) b w
-unfolding rdAnswer tableAfter wordIn castAct logAct electAct decideAct lookAct Keeps Tops
+unfolding tableAfter wordIn castAct logAct electAct decideAct Keeps Tops
 spoken (quiet n) w h = absurd (none-some n h)
-spoken (looks k s) w h = absurd (none-some refl h)
 spoken (again w′ e p k n) w h =
     record { entry = e; at = p .at; body = p .body e refl; undecided = p .undecided e refl; keeps = holds-keeps e w (rw (some-eq n h) at k) }
 spoken {x = x} (casts v c o p n r cl) w h =

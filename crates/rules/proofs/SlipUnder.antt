@@ -13,7 +13,7 @@ use Rattle.records.specs.Tx.{writeKey}
 use Rattle.records.specs.Contents.{largestKey}
 use Rattle.records.specs.Cutting.{txPart}
 use Rattle.records.specs.Messages.{rdKey, rdStamp}
-use Rattle.rules.specs.Answers.{Answer, Decided, Done, Elected, Found, Logged, Refused, Voted, commit}
+use Rattle.rules.specs.Answers.{Answer, Decided, Done, Elected, Found, Logged, Raised, Refused, Voted, commit}
 use Rattle.rules.specs.Bodies.{Body, sameBody, stampOf, writesKey, writesOf}
 use Rattle.rules.specs.Table.{Box}
 use Rattle.rules.specs.Tests.{test5}
@@ -22,18 +22,20 @@ use Rattle.rules.specs.Act.{act, after, boxAfter, markBy, marksAfter, ra
 use Rattle.rules.specs.System.{Event, Fair, Proof, Sound, Word, answerTo, boxAt, gave, givesNow, howMany, isWord, toldAt, vote, wordIn}
 use Rattle.rules.specs.SlipUnder.{NoneHeld, NoneShown, NothingComesBetween, NothingSlipsUnder, Watched, asks, everHeld, holds, isFound, isRd}
 use Rattle.rules.specs.SlipUnder.{readWithout, readsNow, shownBelow, showsBelow, showsNow, watched}
-use Rattle.rules.proofs.Laws.{ands, any-found, any-of, find-in, no-both, or-cases, or-l, or-r, pick-true, sameBody-refl}
+use Rattle.rules.proofs.Laws.{ands, any-found, any-of, find-in, lt-cases, no-both, or-cases, or-l, or-r, pick-true, sameBody-refl}
 use Rattle.rules.proofs.Counting.{meet}
 use Rattle.rules.proofs.Moves.{Clear}
 use Rattle.rules.proofs.Said.{spoken}
 use Rattle.rules.proofs.Fresh.{Upright}
-use Rattle.rules.proofs.Trace.{New, Step, arrives, step, still, table}
+use Rattle.rules.proofs.Trace.{New, Step, arrives, folds, lifts, low, step, still, table}
+use Rattle.rules.proofs.Local.{local}
 use Rattle.rules.proofs.Backing.{upheld, upheld-gave}
 use Rattle.rules.proofs.Rests.{rests}
-use Rattle.rules.proofs.Apart.{Accepts, Dead, accepted, by-entry, by-vote, dead-later, here-or-dead}
+use Rattle.rules.proofs.Apart.{Accepts, Dead, Under, accepted, accepted-lifted, by-entry, by-vote, dead-later, here-or-dead, is-dead, parted}
+use Rattle.rules.proofs.Apart.{under-folds}
 use Rattle.rules.proofs.Global.{alive, quorum}
 use Rattle.rules.proofs.Marks.{Looks, all-marks, look-raises, looks-found, mark-up, marks}
-use Rattle.rules.proofs.Shown.{shows-what-stands}
+use Rattle.rules.proofs.Shown.{shows-what-stands, shows-what-went}
 
 -- what is held is held at some time
 pub held-ever : (x : Watched) (b : Body) (es : List Event) → T (holds b (x .held es)) → T (everHeld x b es)
@@ -56,6 +58,7 @@ gave-held f i b w (e ∷ es) h =
   where
     go : Step f i e es → (T (gave f i b w es) → T (everHeld (watched f i) b (e ∷ es))) → T (everHeld (watched f i) b (e ∷ es))
     go (still s) before = before (s .unsaid b w h)
+    go (lifts s) before = before (s .unsaid b w h)
     go (arrives s) before = by (s .given b w h)
       where
         by : New f i e es (s .act) b w → T (everHeld (watched f i) b (e ∷ es))
@@ -75,6 +78,7 @@ shows-found v (Decided d) h = absurd h
 shows-found v (Logged d w) h = absurd h
 shows-found v (Elected d w l) h = absurd h
 shows-found v Done h = absurd h
+shows-found v Raised h = absurd h
 shows-found v (Found committed undecided) h = tt
 shows-found v (Refused r) h = absurd h
 
@@ -161,6 +165,7 @@ module _ (f : ℕ) (faulty : ℕ → Bool) (i : ℕ) (sound : Sound f faulty i) 
       before : Accepts f faulty i (e ∷ es) b → Accepts f faulty i es b
       before (by-vote h) = by-vote (y .unsaid b (vote commit) h)
       before (by-entry u) = by-entry (rw (y .table-now) at u)
+  out-step e es (lifts y) S a = dead-later f faulty e es b (S .out (accepted-lifted f faulty i e es y b a))
   out-step e es (arrives y) S a = by (accepted f faulty i e es y b a)
     where
       by : Accepts f faulty i es b ⊎ ((txPart e.message ≡ b) × Clear (boxAt f i es) (txPart e.message)) → Dead f faulty (e ∷ es) b
@@ -192,15 +197,23 @@ module _ (f : ℕ) (faulty : ℕ → Bool) (i : ℕ) (sound : Sound f faulty i) 
           let n : T (not (everHeld (watched f i) b es)) = search ands in
           shut-now e es q h g (out-unheld es n)
 
-  -- where it was not shown: an entry that stands is shown, or a higher one is
-  out-unshown : (es : List Event) → Fair f faulty es → T (showsBelow (stampOf b) (rdAnswer (boxAt f i es) k s)) → Out es
-  unfolding table
-  out-unshown es F n (by-entry u) = absurd (shows-what-stands (boxAt f i es) k s b writes below u n)
-  out-unshown es F n (by-vote g) = go (here-or-dead f faulty i es (rests f faulty i sound es F) b g)
+  -- where it was not shown: an entry that stands is shown, or a higher one is; and so is the fold of one that was let go
+  out-unshown : (es : List Event) → Fair f faulty es → k ≤ largestKey → T (showsBelow (stampOf b) (rdAnswer (boxAt f i es) k s)) → Out es
+  unfolding table low folds
+  out-unshown es F r n (by-entry u) = absurd (shows-what-stands (boxAt f i es) k s b writes below u n)
+  out-unshown es F r n (by-vote g) = by (lt-cases (low f i es) (stampOf b))
     where
       go : Dead f faulty es b ⊎ Upright (table f i es) b → Dead f faulty es b
       go (inl d) = d
       go (inr u) = absurd (shows-what-stands (boxAt f i es) k s b writes below u n)
+
+      went : stampOf b ≤ low f i es → Under f faulty (folds f i es) es b → Dead f faulty es b
+      went l (is-dead d) = d
+      went l (under-folds o) = absurd (shows-what-went (boxAt f i es) k s b (local f i es .high) l (o k r writes) n)
+
+      by : (low f i es < stampOf b) ⊎ (stampOf b ≤ low f i es) → Dead f faulty es b
+      by (inl l) = go (here-or-dead f faulty i es (rests f faulty i sound es F) b g l)
+      by (inr l) = went l (parted f faulty i sound es F .gone b g l)
 
   shut-unshown : (es : List Event) → Fair f faulty es → T (shownBelow (watched f i) i k s (stampOf b) es) → Shut es
   unfolding shownBelow showsNow Fair
@@ -217,7 +230,7 @@ module _ (f : ℕ) (faulty : ℕ → Bool) (i : ℕ) (sound : Sound f faulty i) 
           let h : T (asks k s e) = search ands in
           let n : T (showsBelow (stampOf b) (answerTo f e es)) = search ands in
           let g = shows-found (stampOf b) (answerTo f e es) n in
-          shut-now e es q h g (out-unshown es (F .0) (rw (answer-is e es q h g) at n))
+          shut-now e es q h g (out-unshown es (F .0) (rw (key-is e es q h g) at (looks e es q h g .key)) (rw (answer-is e es q h g) at n))
 
   shut-later : (es later : List Event) → Shut es → Shut (later ++ es)
   shut-later es [] S = S

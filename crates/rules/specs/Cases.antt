@@ -16,19 +16,29 @@ use Rattle.rules.specs.Answers.{Answer, Decision, Done, Found, Kind, Log
 use Rattle.rules.specs.Answers.{Reason, Ahead, Dependency, NoVersion, Overwritten, ReadMark, Undercuts}
 use Rattle.rules.specs.Answers.{apartFromNumber, decisionNumber, kindNumber, unvisited, viewAs, waiting}
 use Rattle.rules.specs.Table.{Box, Told, empty}
-use Rattle.rules.specs.Act.{act, after, receive}
+use Rattle.rules.specs.Act.{EntryPoint, act, after, raising, receive}
 
--- ---- a case: messages that one box gets, one after another, and the answers that are due
+-- ---- a case: what one box gets, one after another, and the answers that are due. Bytes reach it by the entry point for any message; or, A11, its low
+-- mark is raised
+abbrev pub Sent : Type 0
+Sent = EntryPoint × List ℕ
+
+unfoldable pub got : List ℕ → Sent
+got m = (receive, m)
+
+unfoldable pub LM : ℕ → Sent
+LM l = (raising l, [])
+
 pub record Case : Type 0 where
   pub told : Told
   pub start : Box
-  pub sent : List (List ℕ)
+  pub sent : List Sent
   pub due : List Answer
 
 -- answers "apart from A6's number", which have vectors of their own (Counts)
-unfoldable pub replay : Told → Box → List (List ℕ) → List Answer
+unfoldable pub replay : Told → Box → List Sent → List Answer
 replay told x [] = []
-replay told x (m ∷ ms) = apartFromNumber (act receive told x m .answer) ∷ replay told (after receive told x m) ms
+replay told x (c ∷ cs) = apartFromNumber (act (c .0) told x (c .1) .answer) ∷ replay told (after (c .0) told x (c .1)) cs
 
 unfoldable pub given : Case → List Answer
 given c = replay (c .told) (c .start) (c .sent)
@@ -41,7 +51,7 @@ unfoldable pub line : Told
 line = record { f = 1; capacity = 8; clock = 100; delta = 10 }
 
 unfoldable pub case : List (List ℕ) → List Answer → Case
-case sent due = record { told = line; start = empty; sent = sent; due = due }
+case sent due = record { told = line; start = empty; sent = map got sent; due = due }
 
 -- ---- the messages, as bytes
 unfoldable pub read : ℕ → ℕ → Read

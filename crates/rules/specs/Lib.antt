@@ -20,3 +20,4 @@ pub mod Counts
 pub mod Crossed
 pub mod Traces
 pub mod Panel
+pub mod Lows

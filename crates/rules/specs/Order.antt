@@ -8,7 +8,7 @@ use Rattle.terms.specs.declared.Refusal.the-variants.{Full}
 use Rattle.records.specs.declared.Mark.the-variants.{DC}
 use Rattle.records.specs.declared.Marked.the-variants.{Is}
 use Rattle.records.specs.Cutting.{txPart}
-use Rattle.rules.specs.Answers.{Answer, Done, Refused, apartFromNumber}
+use Rattle.rules.specs.Answers.{Answer, Done, Refused, Version, apartFromNumber}
 use Rattle.rules.specs.Bodies.{stampOf}
 use Rattle.rules.specs.Table.{Box, Entry, Told, find}
 use Rattle.rules.specs.Act.{EntryPoint, act, after, markBy}
@@ -34,12 +34,14 @@ pub data Reordered : List Entry → List Entry → Type 0 where
   swapped : {a b : Entry} {t : List Entry} → (stampOf (a .body) ≡ stampOf (b .body) → ⊥) → Reordered (a ∷ b ∷ t) (b ∷ a ∷ t)
   further : {t u v : List Entry} → Reordered t u → Reordered u v → Reordered t v
 
--- what answers calls: the answer, what stands afterwards, and the entries and read marks that it holds
+-- what answers calls: the answer, what stands afterwards, and the entries, read marks, low mark and folds that it holds
 pub record Answering (X : Type 0) : Type 0 where
   pub reply : X → Call → Answer
   pub next : X → Call → X
   pub entries : X → List Entry
   pub marks : X → List ℕ
+  pub low : X → ℕ
+  pub folds : X → List Version
 
 module _ {X : Type 0} (w : Answering X) where
   -- what is answered to calls that follow one another
@@ -61,6 +63,8 @@ module _ {X : Type 0} (w : Answering X) where
     -- and in which way "the boxes then differ"
     pub tables : Reordered (w .entries (w .next (w .next x p) q)) (w .entries (w .next (w .next x q) p))
     pub marks : w .marks (w .next (w .next x p) q) ≡ w .marks (w .next (w .next x q) p)
+    pub low : w .low (w .next (w .next x p) q) ≡ w .low (w .next (w .next x q) p)
+    pub folds : w .folds (w .next (w .next x p) q) ≡ w .folds (w .next (w .next x q) p)
 
 -- ---- of the rules: what is answered, and the box afterwards
 unfoldable pub reply : Box → Call → Answer
@@ -70,7 +74,7 @@ unfoldable pub next : Box → Call → Box
 next x c = after (c .entry) (c .told) x (c .message)
 
 abbrev pub ofRules : Answering Box
-ofRules = record { reply = reply; next = next; entries = λ x. x .table; marks = λ x. x .marks }
+ofRules = record { reply = reply; next = next; entries = λ x. x .table; marks = λ x. x .marks; low = λ x. x .low; folds = λ x. x .folds }
 
 -- "with room for both": it matters only where both need a new entry
 abbrev pub Room : Box → Call → Call → Type 0

@@ -10,21 +10,21 @@ use Rattle.rules.specs.Answers.{Answer, Decided, Decision, Done, Elected
 use Rattle.rules.specs.Answers.{Log, logged, unlogged, viewAs}
 use Rattle.rules.specs.Answers.{Ahead, Dependency, NoVersion, Overwritten, ReadMark, Undercuts, voteAbort, voteCommit}
 use Rattle.rules.specs.Table.{Box, Told, Entry, empty, noVersion}
-use Rattle.rules.specs.Act.{after, receive}
+use Rattle.rules.specs.Act.{after}
 use Rattle.rules.specs.Cases.{Case, DC, LG, PR, RD, aborts, case, commits, dc, due, few, found, given, lg, line, list, logs0, pairs, read, reads, tx, waits, write, writes}
-use Rattle.rules.specs.Cases.{elections, iv, ld, logsAt, seen}
+use Rattle.rules.specs.Cases.{Sent, elections, got, iv, ld, logsAt, seen}
 
 -- with another f or capacity; from a table that is lent
 unfoldable pub group : ℕ → ℕ → List (List ℕ) → List Answer → Case
 group f capacity sent due =
-    record { told = record { f = f; capacity = capacity; clock = 100; delta = 10 }; start = empty; sent = sent; due = due }
+    record { told = record { f = f; capacity = capacity; clock = 100; delta = 10 }; start = empty; sent = map got sent; due = due }
 
 -- entries, and the read mark of key 0
 unfoldable pub marked : List Entry → ℕ → Box
 marked table mark = record { table = table; marks = mark ∷ replicate 511 0; low = 0; folds = replicate 512 noVersion }
 
 unfoldable pub lent : List Entry → List (List ℕ) → List Answer → Case
-lent table sent due = record { told = line; start = marked table 0; sent = sent; due = due }
+lent table sent due = record { told = line; start = marked table 0; sent = map got sent; due = due }
 
 -- a log of view 0, or none
 unfoldable pub atFirst : Settled → Log
@@ -352,16 +352,16 @@ Further = map given further ≡ map due further
 -- ---- what a box holds afterwards: the entries that it begins with, the messages, and then its entries and the read mark of key 0
 pub record Storing : Type 0 where
   pub start : List Entry
-  pub sent : List (List ℕ)
+  pub sent : List Sent
   pub table : List Entry
   pub mark : ℕ
 
 unfoldable pub stores : List Entry → List (List ℕ) → List Entry → ℕ → Storing
-stores start sent table mark = record { start = start; sent = sent; table = table; mark = mark }
+stores start sent table mark = record { start = start; sent = map got sent; table = table; mark = mark }
 
-unfoldable pub run : Told → Box → List (List ℕ) → Box
+unfoldable pub run : Told → Box → List Sent → Box
 run told x [] = x
-run told x (m ∷ ms) = run told (after receive told x m) ms
+run told x (c ∷ cs) = run told (after (c .0) told x (c .1)) cs
 
 unfoldable pub held : Storing → Box
 held c = run line (marked (c .start) 0) (c .sent)

@@ -12,17 +12,16 @@ use Rattle.terms.specs.Choice.{any}
 use Rattle.records.specs.declared.Read.{Read}
 use Rattle.records.specs.declared.Write.{Write}
 use Rattle.records.specs.Tx.{readKey, readVersion, writeKey}
-use Rattle.rules.specs.declared.Reason.the-variants.{Ahead, NoVersion, Overwritten, Undercuts, ReadMark}
+use Rattle.rules.specs.declared.Reason.the-variants.{Ahead, NoVersion}
 use Rattle.rules.specs.declared.Vote.the-variants.{Abort as voteAbort}
 use Rattle.rules.specs.Bodies.{Body, stampOf, readsOf, writesKey}
 use Rattle.rules.specs.declared.Told.{Told}
 use Rattle.rules.specs.Table.{Box, Entry, boxWith, find, limit, live}
-use Rattle.rules.specs.Tests.{readUndercut, test1, test2, test3, test4, test5, undercut, waitingRule, firstVote, status}
-use Rattle.rules.specs.Calls.{rdAnswer}
+use Rattle.rules.specs.Tests.{foldAbove, isFolded, isLow, names, readUndercut, test1, test2, test3, test4, test5, undercut, waitingRule, firstVote, status}
 use Rattle.table.specs.Table.{rowTx, entryOf, entries, rowAt, place}
 use Rattle.table.proofs.Bodies.{body-stamp, body-reads, body-writes-key}
 use Rattle.table.proofs.Looking.{find-some}
-use Rattle.scans.specs.Scans.{over, older, below, hit3, hit4, marked}
+use Rattle.scans.specs.Scans.{over, entriesOnly, marksOnly, older, below, hit3, hit4, marked}
 
 -- ---- whether some element passes
 module _ {A : Type 0} (p q : A → Bool) where
@@ -77,30 +76,30 @@ pub find-held : (t : List ℕ) (s n i : ℕ) (q : List ℕ) → i ≡ place s (e
 find-held t s n i q p h e = find-some s t n i p h ∙ (rw e)
 
 -- ---- what the tests do not look at
+-- the box with no read marks
+abbrev pub unmarked : Box → Box
+unmarked x = boxWith (x .table) [] (x .low) (x .folds)
+
 module _ (x : Box) (b : Body) where
-  pub marks-2 : test2 (over (x .table)) b ≡ test2 x b
-  unfolding test2
+  pub marks-2 : test2 (unmarked x) b ≡ test2 x b
+  unfolding test2 names isLow isFolded
   marks-2 = refl
 
-  pub marks-3 : test3 (over (x .table)) b ≡ test3 x b
-  unfolding test3
+  pub marks-3 : test3 (unmarked x) b ≡ test3 x b
+  unfolding test3 foldAbove
   marks-3 = refl
 
-  pub marks-4 : test4 (over (x .table)) b ≡ test4 x b
+  pub marks-4 : test4 (entriesOnly (x .table)) b ≡ test4 x b
   unfolding test4
   marks-4 = refl
 
-  pub marks-5 : test5 (boxWith [] (x .marks)) b ≡ test5 x b
+  pub marks-5 : test5 (marksOnly (x .marks)) b ≡ test5 x b
   unfolding test5
   marks-5 = refl
 
-  pub marks-wait : waitingRule (over (x .table)) b ≡ waitingRule x b
-  unfolding waitingRule status
+  pub marks-wait : waitingRule (unmarked x) b ≡ waitingRule x b
+  unfolding waitingRule status isLow isFolded
   marks-wait = refl
-
-pub marks-found : (x : Box) (k s : ℕ) → rdAnswer (over (x .table)) k s ≡ rdAnswer x k s
-unfolding rdAnswer
-marks-found x k s = refl
 
 -- ---- test 1
 module _ (s : ℕ) (told : Told) where
@@ -193,6 +192,19 @@ module _ (b : Body) (r : List ℕ) where
   pub hit4-early : stampOf (rowTx r) ≤ stampOf b → false ≡ hit4 b (entryOf r)
   hit4-early h = hit4-clear (sym (under-no (rowTx r) b h))
 
+-- ---- test 3 of the folds, then of the entries
+module _ (h : List ℕ) (es : List Entry) (b : Body) where
+  abbrev folded : Bool
+  folded = any (foldAbove (over h [])) (readsOf b)
+
+  pub test3-fold : folded ≡ true → true ≡ test3 (over h es) b
+  unfolding test3 foldAbove
+  test3-fold e = rw e
+
+  pub test3-entries : {w : Bool} → folded ≡ false → w ≡ any (hit3 b) es → w ≡ test3 (over h es) b
+  unfolding test3 foldAbove hit3
+  test3-entries e q = q ∙ (rw e)
+
 -- ---- test 5
 module _ (ms : List ℕ) (s : ℕ) (w : Write) {x : ℕ} (e : x ≡ getD ms (writeKey w) 0) where
   pub marked-yes : s < x → marked ms s w ≡ true
@@ -204,36 +216,11 @@ module _ (ms : List ℕ) (s : ℕ) (w : Write) {x : ℕ} (e : x ≡ getD ms (wri
   marked-no h = le-ltb s (getD ms (writeKey w) 0) (omega arith)
 
 -- ---- the first vote
-module _ (told : Told) (es : List Entry) (ms : List ℕ) (b : Body) where
-  abbrev box : Box
-  box = boxWith es ms
-
-  pub first-1 : test1 told b ≡ true → voteAbort Ahead ≡ firstVote told box b
+module _ (told : Told) (x : Box) (b : Body) where
+  pub first-1 : test1 told b ≡ true → voteAbort Ahead ≡ firstVote told x b
   unfolding firstVote
   first-1 a = rw a
 
-  module _ (a : test1 told b ≡ false) where
-    pub first-2 : test2 (over es) b ≡ true → voteAbort NoVersion ≡ firstVote told box b
-    unfolding firstVote
-    first-2 d = rw (a, sym (marks-2 box b) ∙ d)
-
-    module _ (d : test2 (over es) b ≡ false) where
-      pub first-3 : test3 (over es) b ≡ true → voteAbort Overwritten ≡ firstVote told box b
-      unfolding firstVote
-      first-3 e = rw (a, sym (marks-2 box b) ∙ d, sym (marks-3 box b) ∙ e)
-
-      module _ (e : test3 (over es) b ≡ false) where
-        pub first-4 : test4 (over es) b ≡ true → voteAbort Undercuts ≡ firstVote told box b
-        unfolding firstVote
-        first-4 f = rw (a, sym (marks-2 box b) ∙ d, sym (marks-3 box b) ∙ e, sym (marks-4 box b) ∙ f)
-
-        module _ (f : test4 (over es) b ≡ false) where
-          pub first-5 : test5 (boxWith [] ms) b ≡ true → voteAbort ReadMark ≡ firstVote told box b
-          unfolding firstVote
-          first-5 g = rw (a, sym (marks-2 box b) ∙ d, sym (marks-3 box b) ∙ e, sym (marks-4 box b) ∙ f, sym (marks-5 box b) ∙ g)
-
-          pub first-6 : test5 (boxWith [] ms) b ≡ false → waitingRule (over es) b ≡ firstVote told box b
-          unfolding firstVote
-          first-6 g =
-              rw (a, sym (marks-2 box b) ∙ d, sym (marks-3 box b) ∙ e, sym (marks-4 box b) ∙ f, sym (marks-5 box b) ∙ g)
-              (marks-wait box b)
+  pub first-2 : test1 told b ≡ false → test2 (unmarked x) b ≡ true → voteAbort NoVersion ≡ firstVote told x b
+  unfolding firstVote
+  first-2 a d = rw (a, sym (marks-2 x b) ∙ d)

@@ -5,7 +5,7 @@ use native.Mathlib.Nat.{sub-zero}
 use mathlib.Core.Path.{_≡_, refl}
 use mathlib.Core.List.{List, [], _∷_}
 use mathlib.Core.Bool.{Bool, true, false, _||_}
-use borrow.Author.Tests.{eq-eqb, ne-eqb}
+use borrow.Author.Tests.{le-leb, lt-leb}
 use lib.Dec.{eqb}
 use lib.ListN.{length}
 use Rattle.terms.specs.Choice.{pick, tab, any}
@@ -61,19 +61,19 @@ look-most t s n =
     omega arith
 
 -- ---- a version read
-module _ (t : List ℕ) (n : ℕ) (r : Read) where
-  pub version-zero : readVersion r ≡ 0 → 0 ≡ versionUp (entries t n) r
+module _ (low : ℕ) (t : List ℕ) (n : ℕ) (r : Read) where
+  pub version-low : readVersion r ≤ low → 0 ≡ versionUp low (entries t n) r
   unfolding versionUp
-  version-zero h = rw (eq-eqb (readVersion r) 0 h)
+  version-low h = rw (le-leb (readVersion r) low h)
 
-  module _ (h : readVersion r ≡ 0 → ⊥) (i : ℕ) (e : i ≡ place (readVersion r) (entries t n)) where
-    pub version-found : i < n → i + 1 ≡ versionUp (entries t n) r
+  module _ (h : low < readVersion r) (i : ℕ) (e : i ≡ place (readVersion r) (entries t n)) where
+    pub version-found : i < n → i + 1 ≡ versionUp low (entries t n) r
     unfolding versionUp
-    version-found l = rw (ne-eqb (readVersion r) 0 h) (look-found t (readVersion r) n i e l)
+    version-found l = rw (lt-leb (readVersion r) low h) (look-found t (readVersion r) n i e l)
 
-    pub version-free : n ≤ i → n ≡ versionUp (entries t n) r
+    pub version-free : n ≤ i → n ≡ versionUp low (entries t n) r
     unfolding versionUp
-    version-free l = rw (ne-eqb (readVersion r) 0 h) (look-free t (readVersion r) n i e l)
+    version-free l = rw (lt-leb (readVersion r) low h) (look-free t (readVersion r) n i e l)
 
 -- ---- key by key
 -- the loop: x and what is left from key j on are the whole, W

@@ -6,7 +6,7 @@ use mathlib.Core.Path.{_≡_, refl, ap, _∙_}
 use mathlib.Core.List.{List, _∷_}
 use mathlib.Core.Bool.{Bool, true, false, _&&_}
 use mathlib.Core.Option.{Option, some, none}
-use borrow.Author.Tests.{lt-ltb, le-ltb, eq-eqb, ne-eqb}
+use borrow.Author.Tests.{lt-ltb, le-ltb, ltb-true, ltb-false, eq-eqb, ne-eqb}
 use lib.Dec.{ltb, eqb}
 use lib.ListN.{getD}
 use Rattle.terms.specs.Choice.{pick, tab}
@@ -19,12 +19,14 @@ use Rattle.rules.specs.declared.Settled.the-variants.{None as unsettled, Is as 
 use Rattle.rules.specs.declared.Version.{Version}
 use Rattle.rules.specs.declared.Answer.the-variants.{Found}
 use Rattle.rules.specs.Bodies.{stampOf, writesOf, writesKey}
-use Rattle.rules.specs.Table.{Entry, live, liveBy}
-use Rattle.rules.specs.Calls.{better, newest, valueAt, versionOf, isCommitted, isUndecided, rdAnswer}
-use Rattle.table.specs.Table.{rowTx, stateAt, entryWith, entryOf, decidedAt}
+use Rattle.rules.specs.Table.{Entry, foldAt, live, liveBy, noVersion}
+use Rattle.rules.specs.Calls.{better, newest, valueAt, versionOf, versionOr, isCommitted, isUndecided, rdAnswer}
+use Rattle.table.specs.Table.{rowTx, stateAt, entryWith, entryOf, decidedAt, foldsOf}
 use Rattle.table.proofs.Bodies.{body-stamp, body-writes, body-writes-key}
+use Rattle.scans.specs.declared.Best.{Best}
+use Rattle.scans.specs.declared.Bests.{Bests}
 use Rattle.scans.specs.declared.Writers.{Writers}
-use Rattle.scans.specs.Scans.{over, committed, undecided, newerBy, nextWriters, newestWriters}
+use Rattle.scans.specs.Scans.{over, committed, undecided, bestOf, newerBy, nextBests, bestsOf, writersOr}
 
 -- ---- the first write of a key: what is left from j on has the value of the whole, W
 pub record First (k : ℕ) (f : ℕ → Write) (n W j : ℕ) : Type 0 where
@@ -50,19 +52,19 @@ module _ {k : ℕ} {f : ℕ → Write} {n W : ℕ} where
     unfolding valueAt
     first-end h = let e : n - j ≡ 0 = omega arith in rw e at (r .same)
 
--- ---- the newer of what a row's entry wrote and of what was newest behind it, by its outcomes
-module _ (k s : ℕ) (r : List ℕ) (x : Version) where
+-- ---- the newer of a row's entry and of what was newest behind it, by its outcomes
+module _ (k s : ℕ) (r : List ℕ) (x : Best) where
   pub newer-high : s ≤ stampOf (rowTx r) → x ≡ newerBy k s (entryOf r) x
   unfolding newerBy
   newer-high h = rw (body-stamp r, le-ltb (stampOf (rowTx r)) s h) (by (writesKey (entryOf r .body) k))
     where
-      by : (w : Bool) → x ≡ pick (w && false) (pick (ltb (stampOf (rowTx r)) (x .stamp .0)) x (versionOf k (some (entryOf r)))) x
+      by : (w : Bool) → x ≡ pick (w && false) (pick (ltb (stampOf (rowTx r) + 1) (x .after)) x (bestOf k (some (entryOf r)))) x
       by true = refl
       by false = refl
 
-  pub newer-old : stampOf (rowTx r) < x .stamp .0 → x ≡ newerBy k s (entryOf r) x
+  pub newer-old : stampOf (rowTx r) + 1 < x .after → x ≡ newerBy k s (entryOf r) x
   unfolding newerBy
-  newer-old h = rw (body-stamp r, lt-ltb (stampOf (rowTx r)) (x .stamp .0) h) (by (writesKey (entryOf r .body) k && ltb (stampOf (rowTx r)) s))
+  newer-old h = rw (body-stamp r, lt-ltb (stampOf (rowTx r) + 1) (x .after) h) (by (writesKey (entryOf r .body) k && ltb (stampOf (rowTx r)) s))
     where
       by : (w : Bool) → x ≡ pick w x x
       by true = refl
@@ -72,10 +74,10 @@ module _ (k s : ℕ) (r : List ℕ) (x : Version) where
   unfolding newerBy
   newer-lacks d = rw (body-writes-key r k, d)
 
-  pub newer-new : {v : Stamp} {w : ℕ} → stampOf (rowTx r) < s → x .stamp .0 ≤ stampOf (rowTx r) → writesKey (rowTx r) k ≡ true
-      → v .0 ≡ stampOf (rowTx r) → w ≡ valueAt k (writesOf (rowTx r)) → record { stamp = v; value = w } ≡ newerBy k s (entryOf r) x
-  unfolding newerBy versionOf
-  newer-new h l d m q = rw (body-writes-key r k, d, body-stamp r, lt-ltb (stampOf (rowTx r)) s h, le-ltb (stampOf (rowTx r)) (x .stamp .0) l, body-writes r, ← m, q)
+  pub newer-new : {v : Stamp} {w : ℕ} → stampOf (rowTx r) < s → x .after ≤ stampOf (rowTx r) + 1 → writesKey (rowTx r) k ≡ true
+      → v .0 ≡ stampOf (rowTx r) → w ≡ valueAt k (writesOf (rowTx r)) → record { after = v .0 + 1; value = w } ≡ newerBy k s (entryOf r) x
+  unfolding newerBy bestOf
+  newer-new h l d m q = rw (body-writes-key r k, d, body-stamp r, lt-ltb (stampOf (rowTx r)) s h, le-ltb (stampOf (rowTx r) + 1) (x .after) l, body-writes r, ← m, q)
 
 -- ---- one row more, by its outcomes
 module _ (r : List ℕ) where
@@ -113,64 +115,98 @@ module _ (r : List ℕ) where
       by true = refl
       by false = refl
 
-module _ (k s : ℕ) (r : List ℕ) (x : Writers) where
-  pub next-committed : {y : Version} → getD r decidedAt 0 ≡ 1 → y ≡ newerBy k s (entryOf r) (x .committed) → record { committed = y; undecided = x .undecided } ≡ nextWriters k s (entryOf r) x
-  unfolding nextWriters
+module _ (k s : ℕ) (r : List ℕ) (x : Bests) where
+  pub next-committed : {y : Best} → getD r decidedAt 0 ≡ 1 → y ≡ newerBy k s (entryOf r) (x .committed) → record { committed = y; undecided = x .undecided } ≡ nextBests k s (entryOf r) x
+  unfolding nextBests
   next-committed e p = rw (is-committed r e, is-closed r e, p)
 
   module _ (h : getD r decidedAt 0 ≡ 1 → ⊥) where
-    pub next-open : {y : Version} → live (entryOf r) ≡ true → y ≡ newerBy k s (entryOf r) (x .undecided) → record { committed = x .committed; undecided = y } ≡ nextWriters k s (entryOf r) x
-    unfolding nextWriters
+    pub next-open : {y : Best} → live (entryOf r) ≡ true → y ≡ newerBy k s (entryOf r) (x .undecided) → record { committed = x .committed; undecided = y } ≡ nextBests k s (entryOf r) x
+    unfolding nextBests
     next-open l p = rw (not-committed r h, is-open r h l, p)
 
-    pub next-dead : live (entryOf r) ≡ false → x ≡ nextWriters k s (entryOf r) x
-    unfolding nextWriters
+    pub next-dead : live (entryOf r) ≡ false → x ≡ nextBests k s (entryOf r) x
+    unfolding nextBests
     next-dead l = rw (not-committed r h, not-open r l)
 
 -- ---- an entry more in front
+higher : (m n : ℕ) → ltb (m + 1) (n + 1) ≡ ltb m n
+higher m n = by (ltb m n) refl
+  where
+    by : (c : Bool) → ltb m n ≡ c → ltb (m + 1) (n + 1) ≡ c
+    by true e = let h = ltb-true m n e in lt-ltb (m + 1) (n + 1) (omega arith)
+    by false e = let h = ltb-false m n e in le-ltb (m + 1) (n + 1) (omega arith)
+
 module _ (k s : ℕ) (e : Entry) where
-  choose : (b : Bool) (o : Entry) → pick b (versionOf k (some o)) (versionOf k (some e)) ≡ versionOf k (pick b (some o) (some e))
+  choose : (b : Bool) (o : Entry) → pick b (bestOf k (some o)) (bestOf k (some e)) ≡ bestOf k (pick b (some o) (some e))
   choose true o = refl
   choose false o = refl
 
-  by : (b c : Bool) (o : Option Entry) → pick b (pick c (pick (ltb (stampOf (e .body)) (versionOf k o .stamp .0)) (versionOf k o) (versionOf k (some e))) (versionOf k o)) (versionOf k o) ≡ versionOf k (pick (b && c) (better e o) o)
-  unfolding better versionOf
+  by : (b c : Bool) (o : Option Entry) → pick b (pick c (pick (ltb (stampOf (e .body) + 1) (bestOf k o .after)) (bestOf k o) (bestOf k (some e))) (bestOf k o)) (bestOf k o) ≡ bestOf k (pick (b && c) (better e o) o)
+  unfolding better bestOf
   by false c o = refl
   by true false o = refl
-  by true true none = rw (le-ltb (stampOf (e .body)) 0 zero-le)
-  by true true (some o) = choose (ltb (stampOf (e .body)) (stampOf (o .body))) o
+  by true true none = rw (le-ltb (stampOf (e .body) + 1) 0 zero-le)
+  by true true (some o) = rw (higher (stampOf (e .body)) (stampOf (o .body))) (choose (ltb (stampOf (e .body)) (stampOf (o .body))) o)
 
-  best-more : (p : Entry → Bool) (es : List Entry) → pick (p e) (newerBy k s e (versionOf k (newest p k s es))) (versionOf k (newest p k s es)) ≡ versionOf k (newest p k s (e ∷ es))
+  best-more : (p : Entry → Bool) (es : List Entry) → pick (p e) (newerBy k s e (bestOf k (newest p k s es))) (bestOf k (newest p k s es)) ≡ bestOf k (newest p k s (e ∷ es))
   unfolding newest newerBy
   best-more p es = by (p e) (writesKey (e .body) k && ltb (stampOf (e .body)) s) (newest p k s es)
 
-  pub pair-more : (es : List Entry) → nextWriters k s e (newestWriters k s es) ≡ newestWriters k s (e ∷ es)
-  unfolding nextWriters newestWriters
+  pub pair-more : (es : List Entry) → nextBests k s e (bestsOf k s es) ≡ bestsOf k s (e ∷ es)
+  unfolding nextBests bestsOf
   pair-more es = rw (best-more committed es, best-more undecided es)
 
 -- ---- the loop, from the last entry to the first
-pub record Newer (k s : ℕ) (f : ℕ → Entry) (n : ℕ) (x : Writers) (i : ℕ) : Type 0 where
+pub record Newer (k s : ℕ) (f : ℕ → Entry) (n : ℕ) (x : Bests) (i : ℕ) : Type 0 where
   pub within : i ≤ n
-  pub is : x ≡ newestWriters k s (tab f i (n - i))
+  pub is : x ≡ bestsOf k s (tab f i (n - i))
 
 module _ {k s : ℕ} {f : ℕ → Entry} {n : ℕ} where
-  pub newer-begin : Newer k s f n (record { committed = record { stamp = record { 0 = 0 }; value = 0 }; undecided = record { stamp = record { 0 = 0 }; value = 0 } }) n
-  unfolding newest newestWriters versionOf
+  pub newer-begin : Newer k s f n (record { committed = record { after = 0; value = 0 }; undecided = record { after = 0; value = 0 } }) n
+  unfolding newest bestsOf bestOf
   newer-begin = let e : n - n ≡ 0 = omega arith in record { within = omega arith; is = rw e }
 
-  pub newer-more : {x y : Writers} {i j : ℕ} → Newer k s f n x i → 0 < i → j ≡ i - 1 → y ≡ nextWriters k s (f j) x → Newer k s f n y j
+  pub newer-more : {x y : Bests} {i j : ℕ} → Newer k s f n x i → 0 < i → j ≡ i - 1 → y ≡ nextBests k s (f j) x → Newer k s f n y j
   newer-more {x} {y} {i} {j} w h q p =
       let e : n - j ≡ suc (n - i) = omega arith in
       let d : j + 1 ≡ i = omega arith in
       record {
         within = omega arith;
-        is = p ∙ ap (nextWriters k s (f j)) (w .is) ∙ pair-more k s (f j) (tab f i (n - i)) ∙ (rw (e, d));
+        is = p ∙ ap (nextBests k s (f j)) (w .is) ∙ pair-more k s (f j) (tab f i (n - i)) ∙ (rw (e, d));
       }
 
-  pub newer-end : {x : Writers} {i : ℕ} → Newer k s f n x i → i ≤ 0 → x ≡ newestWriters k s (tab f 0 n)
+  pub newer-end : {x : Bests} {i : ℕ} → Newer k s f n x i → i ≤ 0 → x ≡ bestsOf k s (tab f 0 n)
   newer-end {x} {i} w h = let z : i ≡ 0 = omega arith in rw (z, sub-zero) at (w .is)
 
+-- ---- what the writers found wrote
+after-is : {x y : Best} → x ≡ y → x .after ≡ y .after
+after-is e = rw e
+
+module _ (k : ℕ) (x : Best) (g : Version) where
+  pub or-none : x .after ≡ 0 → (o : Option Entry) → x ≡ bestOf k o → g ≡ versionOr k g o
+  unfolding bestOf versionOr
+  or-none z none e = refl
+  or-none z (some y) e = let q = after-is e in absurd (omega arith)
+
+  pub or-some : (x .after ≡ 0 → ⊥) → (o : Option Entry) → x ≡ bestOf k o
+      → _≡_ {A = Version} (record { stamp = record { 0 = x .after - 1 }; value = x .value }) (versionOr k g o)
+  unfolding bestOf versionOr
+  or-some z none e = absurd (z (after-is e))
+  or-some z (some y) e = let d : stampOf (y .body) + 1 - 1 ≡ stampOf (y .body) = omega arith in rw (e, d)
+
+pub writers-are : (g d : Version) (k s : ℕ) (es : List Entry) (x : Bests) (c u : Version) → x ≡ bestsOf k s es → d ≡ noVersion
+    → ((j : ℕ) (o : Option Entry) → x .committed ≡ bestOf j o → c ≡ versionOr j g o)
+    → ((j : ℕ) (o : Option Entry) → x .undecided ≡ bestOf j o → u ≡ versionOr j d o)
+    → record { committed = c; undecided = u } ≡ writersOr g k s es
+unfolding bestsOf writersOr versionOf
+writers-are g d k s es x c u e z p q =
+    let a : x .committed ≡ bestOf k (newest committed k s es) = rw e in
+    let b : x .undecided ≡ bestOf k (newest undecided k s es) = rw e in
+    rw (p k (newest committed k s es) a, q k (newest undecided k s es) b, z)
+
 -- ---- what RD answers
-pub found-is : (k s : ℕ) (es : List Entry) (x : Writers) → x ≡ newestWriters k s es → Found (x .committed) (x .undecided) ≡ rdAnswer (over es) k s
-unfolding rdAnswer newestWriters
-found-is k s es x e = rw e
+pub found-is : (h : List ℕ) (k s : ℕ) (es : List Entry) (g : Version) (x : Writers) → g ≡ foldAt (foldsOf h) k → x ≡ writersOr g k s es
+    → Found (x .committed) (x .undecided) ≡ rdAnswer (over h es) k s
+unfolding rdAnswer writersOr
+found-is h k s es g x d e = rw (e, d)

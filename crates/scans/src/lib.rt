@@ -1,20 +1,21 @@
 // The scans of a box's table that the rules need: the five tests of a PR, the waiting rule, the first vote, and what RD finds.
 ghost use mathlib.Core.Path.{_≡_};
 ghost use mathlib.Core.Bool.{_||_, false};
-ghost use mathlib.Core.Option.{some};
-ghost use Prim.Native.Nat.{_+_, _*_, _≤_};
+ghost use mathlib.Core.Option.{Option, some};
+ghost use Prim.Native.Nat.{ℕ, _+_, _*_, _≤_};
 ghost use lib.Dec.{ltb, eqb};
 ghost use lib.ListN.{length, getD};
 ghost use mathlib.Core.List.{[]};
 ghost use Rattle.terms.specs.Choice.{any};
 ghost use Rattle.records.specs.Tx.{TxThere, writesFrom};
 ghost use Rattle.rules.specs.Bodies.{readsOf, writesOf};
-ghost use Rattle.rules.specs.Table.{boxWith, limit};
-ghost use Rattle.rules.specs.Tests.{test1, test3, test4, test5, undercut, statusOf, status, waitingRule, firstVote};
-ghost use Rattle.rules.specs.Calls.{valueAt, rdAnswer};
-ghost use Rattle.rules.specs.Visits.{fails3, fails4, through, versionUp, visits2, visits3, visits4, waitingVisits, newLast, testVisits};
-ghost use Rattle.table.specs.Table.{WfRow, Wf, entryOf, entries};
-ghost use Rattle.scans.specs.Scans.{over, namedBy, named, namedAll, below, older, hit3, hit4, statusNumber, newerBy, nextWriters, newestWriters};
+ghost use Rattle.rules.specs.Table.{Entry, limit, noVersion};
+ghost use Rattle.rules.specs.Tests.{test1, test3, test4, test5, undercut, foldAbove, statusOf, status, waitingRule, firstVote};
+ghost use Rattle.rules.specs.Calls.{valueAt, versionOr, rdAnswer};
+ghost use Rattle.rules.specs.Visits.{fails3, fails4, through, unless, versionUp, visits2, visits3, visits4, waitingVisits, newLast, testVisits};
+ghost use Rattle.table.specs.Table.{WfRow, Wf, headLen, lowOf, foldsOf, boxFrom, entryOf, entries};
+ghost use Rattle.scans.specs.Scans.{over, entriesOnly, marksOnly, lowNumber, namedBy, named, namedAll, below, older, hit3, hit4, statusNumber};
+ghost use Rattle.scans.specs.Scans.{bestOf, newerBy, nextBests, bestsOf, writersOr, newestWriters};
 ghost use Rattle.scans.specs.Visits.{readBelow, laterVote, laterVisits, voteAfter};
 ghost use Rattle.scans.specs.Keys.{inKeys, withKey, lacks, keysAt, keysRead, keysWritten};
 use records::Read;
@@ -52,6 +53,18 @@ struct Gone {
 pub struct Cast {
     pub vote: Vote,
     pub visited: usize,
+}
+
+// A writer found: one more than its stamp, so that one with stamp 0, as a lent row may have, is told from none; and its value. 0 0 for none.
+struct Best {
+    after: u64,
+    value: u64,
+}
+
+// The newest committed writer found, and the newest live undecided one.
+struct Bests {
+    committed: Best,
+    undecided: Best,
 }
 
 // What the newest committed writer wrote, and the newest live undecided one.
@@ -98,16 +111,33 @@ fn named_by(e: &[u8], k: Key) -> u8
     BAD
 }
 
-// The same of one version read; one that is not held fails test 2.
-fn named(t: &[u8], n: usize, p: Read) -> Seen
-    requires { ⌜ Wf (now t) n ⌝ }
-    ensures { λ r. ⌜ (r .what ≡ named (entries (now (t .entry)) n) p) × (r .visited ≡ versionUp (entries (now (t .entry)) n) p) ⌝ }
+// A version at or below the low mark, for test 2 and the waiting rule: fine if it is 0 or its key's folded one, else bad. It is never looked up.
+fn low_version(h: &[u8], p: Read) -> u8
+    requires { ⌜ headLen ≤ length (now h) ⌝ }
+    ensures { λ r. ⌜ r ≡ lowNumber (foldsOf (now (h .entry))) p ⌝ }
 {
     let v = p.version;
     let k = p.key;
     if v.0 == 0 {
+        return FINE;
+    }
+    let folded = table::fold_of(h, k);
+    if folded.stamp.0 == v.0 {
+        return FINE;
+    }
+    BAD
+}
+
+// The same of one version read; one above the low mark that is not held fails test 2.
+fn named(h: &[u8], low: Stamp, t: &[u8], n: usize, p: Read) -> Seen
+    requires { ⌜ Wf (now t) n × (headLen ≤ length (now h)) × (low .0 ≡ lowOf (now h)) ⌝ }
+    ensures { λ r. ⌜ (r .what ≡ named (over (now (h .entry)) (entries (now (t .entry)) n)) p) × (r .visited ≡ versionUp (lowOf (now (h .entry))) (entries (now (t .entry)) n) p) ⌝ }
+{
+    let v = p.version;
+    let k = p.key;
+    if v.0 <= low.0 {
         return Seen {
-            what: FINE,
+            what: low_version(h, p),
             visited: 0,
         };
     }
@@ -126,17 +156,18 @@ fn named(t: &[u8], n: usize, p: Read) -> Seen
 }
 
 // All versions read, each looked up once for test 2 and the waiting rule: one that fails the test, else one undecided, else fine.
-fn versions(t: &[u8], n: usize, b: &[u8]) -> Seen
-    requires { ⌜ Wf (now t) n × TxThere (now b) ⌝ }
-    ensures { λ r. ⌜ (r .what ≡ namedAll (entries (now (t .entry)) n) false (readsOf (now (b .entry)))) × (r .visited ≡ visits2 (over (entries (now (t .entry)) n)) (now (b .entry))) ⌝ }
+fn versions(h: &[u8], t: &[u8], n: usize, b: &[u8]) -> Seen
+    requires { ⌜ Wf (now t) n × TxThere (now b) × (headLen ≤ length (now h)) ⌝ }
+    ensures { λ r. ⌜ (r .what ≡ namedAll (over (now (h .entry)) (entries (now (t .entry)) n)) false (readsOf (now (b .entry)))) × (r .visited ≡ visits2 (over (now (h .entry)) (entries (now (t .entry)) n)) (now (b .entry))) ⌝ }
 {
+    let low = table::low_of(h);
     let m = table::read_count(b);
     let mut waits = false;
     let mut visited = 0;
     let mut j = 0;
     while j < m {
         let p = table::read_at(b, j);
-        let one = named(t, n, p);
+        let one = named(h, low, t, n, p);
         visited += one.visited;
         if one.what == BAD {
             return Seen { what: BAD, visited };
@@ -296,10 +327,36 @@ fn hit_3(e: &[u8], b: &[u8], low: Stamp, read: &[u64; 8]) -> bool
     false
 }
 
-// Test 3: a live entry writes a key read here, its stamp above the version read and below this stamp.
-pub fn test_3(t: &[u8], n: usize, b: &[u8]) -> bool
+// Whether a read lies below the folded version of its key.
+fn fold_above(h: &[u8], p: Read) -> bool
+    requires { ⌜ headLen ≤ length (now h) ⌝ }
+    ensures { λ r. ⌜ r ≡ foldAbove (over (now (h .entry)) []) p ⌝ }
+{
+    let folded = table::fold_of(h, p.key);
+    p.version.0 < folded.stamp.0
+}
+
+// Test 3 of the folded versions: a load or two for each read, asked before the rows.
+fn folds_above(h: &[u8], b: &[u8]) -> bool
+    requires { ⌜ (headLen ≤ length (now h)) × TxThere (now b) ⌝ }
+    ensures { λ r. ⌜ r ≡ any (foldAbove (over (now (h .entry)) [])) (readsOf (now (b .entry))) ⌝ }
+{
+    let m = table::read_count(b);
+    let mut j = 0;
+    while j < m {
+        let p = table::read_at(b, j);
+        if fold_above(h, p) {
+            return true;
+        }
+        j += 1;
+    }
+    false
+}
+
+// Test 3 of the entries: a live one writes a key read here, its stamp above the version read and below this stamp.
+fn entries_3(t: &[u8], n: usize, b: &[u8]) -> bool
     requires { ⌜ Wf (now t) n × TxThere (now b) ⌝ }
-    ensures { λ r. ⌜ r ≡ test3 (over (entries (now (t .entry)) n)) (now (b .entry)) ⌝ }
+    ensures { λ r. ⌜ r ≡ any (hit3 (now (b .entry))) (entries (now (t .entry)) n) ⌝ }
 {
     let low = lowest_read(b);
     let mut read = [0u64; 8];
@@ -313,6 +370,17 @@ pub fn test_3(t: &[u8], n: usize, b: &[u8]) -> bool
         i += 1;
     }
     false
+}
+
+// Test 3: a folded version above the version read, or a live entry between that and this stamp.
+pub fn test_3(h: &[u8], t: &[u8], n: usize, b: &[u8]) -> bool
+    requires { ⌜ Wf (now t) n × TxThere (now b) × (headLen ≤ length (now h)) ⌝ }
+    ensures { λ r. ⌜ r ≡ test3 (over (now (h .entry)) (entries (now (t .entry)) n)) (now (b .entry)) ⌝ }
+{
+    if folds_above(h, b) {
+        return true;
+    }
+    entries_3(t, n, b)
 }
 
 // Test 4 at one row: the stamps first, then the set of the keys written here, which settle most rows; what is left is compared.
@@ -336,7 +404,7 @@ fn hit_4(e: &[u8], b: &[u8], written: &[u64; 8]) -> bool
 // Test 4: a live entry with a higher stamp read a key written here at a version below this stamp.
 pub fn test_4(t: &[u8], n: usize, b: &[u8]) -> bool
     requires { ⌜ Wf (now t) n × TxThere (now b) ⌝ }
-    ensures { λ r. ⌜ r ≡ test4 (over (entries (now (t .entry)) n)) (now (b .entry)) ⌝ }
+    ensures { λ r. ⌜ r ≡ test4 (entriesOnly (entries (now (t .entry)) n)) (now (b .entry)) ⌝ }
 {
     let mut written = [0u64; 8];
     add_keys(&mut written, b, writes_from(b), table::write_count(b));
@@ -365,7 +433,7 @@ fn mark_at(marks: &[u64], k: Key) -> u64
 // Test 5: a written key's read mark is above this stamp.
 pub fn test_5(marks: &[u64], b: &[u8]) -> bool
     requires { ⌜ TxThere (now b) ⌝ }
-    ensures { λ r. ⌜ r ≡ test5 (boxWith [] (now (marks .entry))) (now (b .entry)) ⌝ }
+    ensures { λ r. ⌜ r ≡ test5 (marksOnly (now (marks .entry))) (now (b .entry)) ⌝ }
 {
     let s = table::stamp_of(b);
     let m = table::write_count(b);
@@ -398,16 +466,16 @@ fn status_of(e: &[u8], k: Key) -> u8
     PENDING
 }
 
-// The waiting rule of one version read; one that is not held is bad.
-fn status(t: &[u8], n: usize, p: Read) -> Seen
-    requires { ⌜ Wf (now t) n ⌝ }
-    ensures { λ r. ⌜ (r .what ≡ statusNumber (status (over (entries (now (t .entry)) n)) p)) × (r .visited ≡ versionUp (entries (now (t .entry)) n) p) ⌝ }
+// The waiting rule of one version read; one above the low mark that is not held is bad.
+fn status(h: &[u8], low: Stamp, t: &[u8], n: usize, p: Read) -> Seen
+    requires { ⌜ Wf (now t) n × (headLen ≤ length (now h)) × (low .0 ≡ lowOf (now h)) ⌝ }
+    ensures { λ r. ⌜ (r .what ≡ statusNumber (status (over (now (h .entry)) (entries (now (t .entry)) n)) p)) × (r .visited ≡ versionUp (lowOf (now (h .entry))) (entries (now (t .entry)) n) p) ⌝ }
 {
     let v = p.version;
     let k = p.key;
-    if v.0 == 0 {
+    if v.0 <= low.0 {
         return Seen {
-            what: FINE,
+            what: low_version(h, p),
             visited: 0,
         };
     }
@@ -451,11 +519,13 @@ fn bad_too(bad: bool, s: u8) -> bool
     false
 }
 
-// The waiting rule: any bad, abort with reason 6; else any undecided, wait; else commit. Every version is looked up, behind a bad one too.
-pub fn waiting_rule(t: &[u8], n: usize, b: &[u8]) -> Cast
-    requires { ⌜ Wf (now t) n × TxThere (now b) ⌝ }
-    ensures { λ r. ⌜ (r .vote ≡ waitingRule (over (entries (now (t .entry)) n)) (now (b .entry))) × (r .visited ≡ waitingVisits (entries (now (t .entry)) n) (now (b .entry))) × (r .visited ≤ 8 * n) ⌝ }
+// The waiting rule: any bad, abort with reason 6; else any undecided, wait; else commit. It does not stop at a bad one: every version above the low mark
+// is looked up.
+pub fn waiting_rule(h: &[u8], t: &[u8], n: usize, b: &[u8]) -> Cast
+    requires { ⌜ Wf (now t) n × TxThere (now b) × (headLen ≤ length (now h)) ⌝ }
+    ensures { λ r. ⌜ (r .vote ≡ waitingRule (over (now (h .entry)) (entries (now (t .entry)) n)) (now (b .entry))) × (r .visited ≡ waitingVisits (lowOf (now (h .entry))) (entries (now (t .entry)) n) (now (b .entry))) × (r .visited ≤ 8 * n) ⌝ }
 {
+    let low = table::low_of(h);
     let m = table::read_count(b);
     let mut bad = false;
     let mut waits = false;
@@ -463,7 +533,7 @@ pub fn waiting_rule(t: &[u8], n: usize, b: &[u8]) -> Cast
     let mut j = 0;
     while j < m {
         let p = table::read_at(b, j);
-        let one = status(t, n, p);
+        let one = status(h, low, t, n, p);
         visited += one.visited;
         bad = bad_too(bad, one.what);
         waits = waits_too(waits, one.what);
@@ -524,17 +594,31 @@ fn through_3(t: &[u8], n: usize, b: &[u8], p: Read) -> Gone
     }
 }
 
+// Test 3 at one key read here: the folded version first, which visits no row, then the rows.
+fn key_3(h: &[u8], t: &[u8], n: usize, b: &[u8], p: Read) -> Gone
+    requires { ⌜ Wf (now t) n × TxThere (now b) × (headLen ≤ length (now h)) ⌝ }
+    ensures { λ r. ⌜ (r .fails ≡ (foldAbove (over (now (h .entry)) []) p || any (fails3 (now (b .entry)) p) (entries (now (t .entry)) n))) × (r .visited ≡ unless (foldAbove (over (now (h .entry)) []) p) (through (fails3 (now (b .entry)) p) (entries (now (t .entry)) n))) ⌝ }
+{
+    if fold_above(h, p) {
+        return Gone {
+            fails: true,
+            visited: 0,
+        };
+    }
+    through_3(t, n, b, p)
+}
+
 // The rows that test 3 visits key by key. Only where it fails: else it is every row for every key.
-fn visits_3(t: &[u8], n: usize, b: &[u8]) -> usize
-    requires { ⌜ Wf (now t) n × TxThere (now b) ⌝ }
-    ensures { λ r. ⌜ r ≡ visits3 (over (entries (now (t .entry)) n)) (now (b .entry)) ⌝ }
+fn visits_3(h: &[u8], t: &[u8], n: usize, b: &[u8]) -> usize
+    requires { ⌜ Wf (now t) n × TxThere (now b) × (headLen ≤ length (now h)) ⌝ }
+    ensures { λ r. ⌜ r ≡ visits3 (over (now (h .entry)) (entries (now (t .entry)) n)) (now (b .entry)) ⌝ }
 {
     let m = table::read_count(b);
     let mut visited = 0;
     let mut j = 0;
     while j < m {
         let p = table::read_at(b, j);
-        let one = through_3(t, n, b, p);
+        let one = key_3(h, t, n, b, p);
         visited += one.visited;
         if one.fails {
             return visited;
@@ -612,7 +696,7 @@ fn through_4(t: &[u8], n: usize, b: &[u8], k: Key) -> Gone
 // The rows that test 4 visits key by key. Only where it fails: else it is every row for every key.
 fn visits_4(t: &[u8], n: usize, b: &[u8]) -> usize
     requires { ⌜ Wf (now t) n × TxThere (now b) ⌝ }
-    ensures { λ r. ⌜ r ≡ visits4 (over (entries (now (t .entry)) n)) (now (b .entry)) ⌝ }
+    ensures { λ r. ⌜ r ≡ visits4 (entriesOnly (entries (now (t .entry)) n)) (now (b .entry)) ⌝ }
 {
     let m = table::write_count(b);
     let mut visited = 0;
@@ -630,14 +714,14 @@ fn visits_4(t: &[u8], n: usize, b: &[u8]) -> usize
 }
 
 // Tests 3 to 5, then the waiting rule, which finds each version where test 2 found it. A test that passes visits every row for every key.
-fn later_vote(t: &[u8], n: usize, marks: &[u64], b: &[u8], read: Seen) -> Cast
-    requires { ⌜ Wf (now t) n × TxThere (now b) × (read .visited ≤ 8 * n) ⌝ }
-    ensures { λ r. ⌜ (r .vote ≡ laterVote (boxWith (entries (now (t .entry)) n) (now (marks .entry))) (now (b .entry)) (voteAfter (read .what))) × (r .visited ≡ read .visited + laterVisits (boxWith (entries (now (t .entry)) n) (now (marks .entry))) (now (b .entry)) (read .visited)) ⌝ }
+fn later_vote(h: &[u8], t: &[u8], n: usize, marks: &[u64], b: &[u8], read: Seen) -> Cast
+    requires { ⌜ Wf (now t) n × TxThere (now b) × (read .visited ≤ 8 * n) × (headLen ≤ length (now h)) ⌝ }
+    ensures { λ r. ⌜ (r .vote ≡ laterVote (boxFrom (now (h .entry)) (entries (now (t .entry)) n) (now (marks .entry))) (now (b .entry)) (voteAfter (read .what))) × (r .visited ≡ read .visited + laterVisits (boxFrom (now (h .entry)) (entries (now (t .entry)) n) (now (marks .entry))) (now (b .entry)) (read .visited)) ⌝ }
 {
-    if test_3(t, n, b) {
+    if test_3(h, t, n, b) {
         return Cast {
             vote: Vote::Abort(Reason::Overwritten),
-            visited: read.visited + visits_3(t, n, b),
+            visited: read.visited + visits_3(h, t, n, b),
         };
     }
     let third = read.visited + table::read_count(b) * n;
@@ -671,9 +755,9 @@ fn vote_after(what: u8) -> Vote
 }
 
 // The vote of a PR not held: the first failing test aborts, else the waiting rule. The new entry, standing last, is not reached by a look-up that finds.
-pub fn first_vote(t: &[u8], n: usize, marks: &[u64], b: &[u8], told: Told) -> Cast
-    requires { ⌜ Wf (now t) n × TxThere (now b) ⌝ }
-    ensures { λ r. ⌜ (r .vote ≡ firstVote told (boxWith (entries (now (t .entry)) n) (now (marks .entry))) (now (b .entry))) × (r .visited ≡ testVisits told (boxWith (entries (now (t .entry)) n) (now (marks .entry))) (now (b .entry)) (newLast (now (b .entry)) (entries (now (t .entry)) n))) × (r .visited ≡ testVisits told (boxWith (entries (now (t .entry)) n) (now (marks .entry))) (now (b .entry)) (entries (now (t .entry)) n)) × (r .visited ≤ 32 * n) ⌝ }
+pub fn first_vote(h: &[u8], t: &[u8], n: usize, marks: &[u64], b: &[u8], told: Told) -> Cast
+    requires { ⌜ Wf (now t) n × TxThere (now b) × (headLen ≤ length (now h)) ⌝ }
+    ensures { λ r. ⌜ (r .vote ≡ firstVote told (boxFrom (now (h .entry)) (entries (now (t .entry)) n) (now (marks .entry))) (now (b .entry))) × (r .visited ≡ testVisits told (boxFrom (now (h .entry)) (entries (now (t .entry)) n) (now (marks .entry))) (now (b .entry)) (newLast (now (b .entry)) (entries (now (t .entry)) n))) × (r .visited ≡ testVisits told (boxFrom (now (h .entry)) (entries (now (t .entry)) n) (now (marks .entry))) (now (b .entry)) (entries (now (t .entry)) n)) × (r .visited ≤ 32 * n) ⌝ }
 {
     if test_1(b, told) {
         return Cast {
@@ -681,14 +765,14 @@ pub fn first_vote(t: &[u8], n: usize, marks: &[u64], b: &[u8], told: Told) -> Ca
             visited: 0,
         };
     }
-    let read = versions(t, n, b);
+    let read = versions(h, t, n, b);
     if read.what == BAD {
         return Cast {
             vote: Vote::Abort(Reason::NoVersion),
             visited: read.visited,
         };
     }
-    later_vote(t, n, marks, b, read)
+    later_vote(h, t, n, marks, b, read)
 }
 
 // The value of the first write of a key, 0 where there is none.
@@ -708,8 +792,8 @@ fn value_of(b: &[u8], k: Key) -> u64
     0
 }
 
-// The newer of what a row's entry wrote and of what was newest behind it: the stamps first, then the key.
-fn newer(e: &[u8], k: Key, s: Stamp, x: Version) -> Version
+// The newer of a row's entry and of what was newest behind it: the stamps first, then the key.
+fn newer(e: &[u8], k: Key, s: Stamp, x: Best) -> Best
     requires { ⌜ WfRow (now e) ⌝ }
     ensures { λ r. ⌜ r ≡ newerBy (k .0) (s .0) (entryOf (now (e .entry))) x ⌝ }
 {
@@ -718,12 +802,12 @@ fn newer(e: &[u8], k: Key, s: Stamp, x: Version) -> Version
     if s.0 <= v.0 {
         return x;
     }
-    if v.0 < x.stamp.0 {
+    if v.0 + 1 < x.after {
         return x;
     }
     if table::writes_key(b, k) {
-        return Version {
-            stamp: v,
+        return Best {
+            after: v.0 + 1,
             value: value_of(b, k),
         };
     }
@@ -731,20 +815,20 @@ fn newer(e: &[u8], k: Key, s: Stamp, x: Version) -> Version
 }
 
 // One row more, in front.
-fn next(e: &[u8], k: Key, s: Stamp, x: Writers) -> Writers
+fn next(e: &[u8], k: Key, s: Stamp, x: Bests) -> Bests
     requires { ⌜ WfRow (now e) ⌝ }
-    ensures { λ r. ⌜ r ≡ nextWriters (k .0) (s .0) (entryOf (now (e .entry))) x ⌝ }
+    ensures { λ r. ⌜ r ≡ nextBests (k .0) (s .0) (entryOf (now (e .entry))) x ⌝ }
 {
     let committed = x.committed;
     let undecided = x.undecided;
     if e[table::DECIDED_AT] == 1 {
-        return Writers {
+        return Bests {
             committed: newer(e, k, s, committed),
             undecided,
         };
     }
     if table::live(e) {
-        return Writers {
+        return Bests {
             committed,
             undecided: newer(e, k, s, undecided),
         };
@@ -752,16 +836,13 @@ fn next(e: &[u8], k: Key, s: Stamp, x: Writers) -> Writers
     x
 }
 
-// What the committed writer of a key with the highest stamp strictly below wrote, and likewise the live undecided one.
-pub fn newest(t: &[u8], n: usize, k: Key, s: Stamp) -> Writers
+// The committed writer of a key with the highest stamp strictly below, and likewise the live undecided one.
+fn best_writers(t: &[u8], n: usize, k: Key, s: Stamp) -> Bests
     requires { ⌜ Wf (now t) n ⌝ }
-    ensures { λ r. ⌜ r ≡ newestWriters (k .0) (s .0) (entries (now (t .entry)) n) ⌝ }
+    ensures { λ r. ⌜ r ≡ bestsOf (k .0) (s .0) (entries (now (t .entry)) n) ⌝ }
 {
-    let none = Version {
-        stamp: Stamp(0),
-        value: 0,
-    };
-    let mut x = Writers {
+    let none = Best { after: 0, value: 0 };
+    let mut x = Bests {
         committed: none,
         undecided: none,
     };
@@ -774,12 +855,56 @@ pub fn newest(t: &[u8], n: usize, k: Key, s: Stamp) -> Writers
     x
 }
 
-// What RD answers: version and value of both.
-pub fn found(t: &[u8], n: usize, k: Key, s: Stamp) -> Answer
-    requires { ⌜ Wf (now t) n ⌝ }
-    ensures { λ r. ⌜ r ≡ rdAnswer (over (entries (now (t .entry)) n)) (k .0) (s .0) ⌝ }
+// Version and value of a writer found, or another where there is none.
+fn version_or(x: Best, other: Version) -> Version
+    ensures { λ r. ⌜ ((k : ℕ) (o : Option Entry) → x ≡ bestOf k o → r ≡ versionOr k other o) ⌝ }
 {
-    let x = newest(t, n, k, s);
+    if x.after == 0 {
+        return other;
+    }
+    Version {
+        stamp: Stamp(x.after - 1),
+        value: x.value,
+    }
+}
+
+fn no_version() -> Version
+    ensures { λ r. ⌜ r ≡ noVersion ⌝ }
+{
+    Version {
+        stamp: Stamp(0),
+        value: 0,
+    }
+}
+
+// What they wrote, with another version where there is no committed one.
+fn newest_or(t: &[u8], n: usize, k: Key, s: Stamp, other: Version) -> Writers
+    requires { ⌜ Wf (now t) n ⌝ }
+    ensures { λ r. ⌜ r ≡ writersOr other (k .0) (s .0) (entries (now (t .entry)) n) ⌝ }
+{
+    let x = best_writers(t, n, k, s);
+    let committed = version_or(x.committed, other);
+    let undecided = version_or(x.undecided, no_version());
+    Writers {
+        committed,
+        undecided,
+    }
+}
+
+// What the committed writer of a key with the highest stamp strictly below wrote, and likewise the live undecided one.
+pub fn newest(t: &[u8], n: usize, k: Key, s: Stamp) -> Writers
+    requires { ⌜ Wf (now t) n ⌝ }
+    ensures { λ r. ⌜ r ≡ newestWriters (k .0) (s .0) (entries (now (t .entry)) n) ⌝ }
+{
+    newest_or(t, n, k, s, no_version())
+}
+
+// What RD answers: version and value of both; the key's folded version where no committed writer is held.
+pub fn found(h: &[u8], t: &[u8], n: usize, k: Key, s: Stamp) -> Answer
+    requires { ⌜ Wf (now t) n × (headLen ≤ length (now h)) ⌝ }
+    ensures { λ r. ⌜ r ≡ rdAnswer (over (now (h .entry)) (entries (now (t .entry)) n)) (k .0) (s .0) ⌝ }
+{
+    let x = newest_or(t, n, k, s, table::fold_of(h, k));
     let committed = x.committed;
     let undecided = x.undecided;
     Answer::Found(committed, undecided)

@@ -6,8 +6,8 @@ use mathlib.Core.Path.{_≡_, refl, ap}
 use mathlib.Core.List.{List, [], _∷_}
 use mathlib.Core.Bool.{Bool, true, false}
 use lib.Dec.{eqb}
-use lib.ListN.{length, getD, take, drop, length-take, length-drop}
-use lib.Seq.{getD-take, getD-drop, take-take}
+use lib.ListN.{length, getD, set, take, drop, length-take, length-drop}
+use lib.Seq.{getD-take, getD-drop, take-take, drop-set-lt}
 use Rattle.terms.specs.Choice.{pick, tab, any}
 use Rattle.terms.proofs.Scans.{Rest, go, tab-same}
 use Rattle.records.specs.Numbers.{leVal, numAt}
@@ -21,15 +21,20 @@ use Rattle.rules.specs.Table.{liveBy}
 use Rattle.table.specs.Table.{rowLen, bodyAt, rowAt, rowTx, rowBody, entryWith, entryOf, WfRow, Wf}
 
 -- a number that lies in the front of a list
-mid-take : (n p k : ℕ) (s : List ℕ) → p + n ≤ k → take n (drop p (take k s)) ≡ take n (drop p s)
+pub mid-take : (n p k : ℕ) (s : List ℕ) → p + n ≤ k → take n (drop p (take k s)) ≡ take n (drop p s)
 mid-take n zero k s h = take-take n k s (omega arith)
 mid-take n (suc p) zero s h = absurd (omega arith)
 mid-take n (suc p) (suc k) [] h = refl
 mid-take n (suc p) (suc k) (x ∷ s) h = mid-take n p k s (omega arith)
 
-num-take : (n p k : ℕ) (s : List ℕ) → p + n ≤ k → numAt n p (take k s) ≡ numAt n p s
+pub num-take : (n p k : ℕ) (s : List ℕ) → p + n ≤ k → numAt n p (take k s) ≡ numAt n p s
 unfolding numAt
 num-take n p k s h = ap leVal (mid-take n p k s h)
+
+-- a number behind a byte that is stored
+pub num-set : (n p : ℕ) (s : List ℕ) (i x : ℕ) → i < p → numAt n p (set s i x) ≡ numAt n p s
+unfolding numAt
+num-set n p s i x h = ap (λ (l : List ℕ). leVal (take n l)) (drop-set-lt p s i x h)
 
 -- the front of the bytes says the transaction
 module _ (s t : List ℕ) (p j : ℕ) (k : numAt 2 (p + j * 10) t ≡ numAt 2 (p + j * 10) s) (v : numAt 8 (p + j * 10 + 2) t ≡ numAt 8 (p + j * 10 + 2) s) where

@@ -1,26 +1,27 @@
 -- A row that is stored is an entry that is put into the table of the rules, and the table is taken as before.
 use Prim.Native.Nat.{ℕ, _+_, _*_, _-_, _<_, _≤_}
 use native.Mathlib.Omega.{arith}
-use native.Mathlib.Numerals.{one-add}
 use mathlib.Core.Bool.{Bool, true, false}
 use mathlib.Core.Path.{_≡_, refl, ap, sym, _∙_}
-use mathlib.Core.List.{List, [], _∷_, _++_}
+use mathlib.Core.List.{List, [], _∷_, _++_, append-assoc}
 use borrow.Author.Tests.{eqb-true, eqb-false}
 use lib.Dec.{eqb}
-use lib.ListN.{length, drop, getD, set, length-drop, length-append, List·getD-append}
-use lib.Seq.{take-at}
+use lib.ListN.{length, take, drop, getD, set, length-take, length-drop, length-append, length-set, List·getD-append}
+use lib.Seq.{take-at, drop-at, take-add, drop-drop, drop-set-lt, length-take-le, getD-set-same}
 use Rattle.terms.specs.Choice.{pick, tab, any}
 use Rattle.terms.specs.Checks.{ifLess, table}
 use Rattle.terms.proofs.Checks.{pass, less-no, when-no}
-use Rattle.terms.proofs.Scans.{tab-length}
+use Rattle.terms.proofs.Scans.{tab-length, tab-same}
 use Rattle.records.specs.Numbers.{numAt}
 use Rattle.records.specs.Tx.{txLen, rCount, wCount, TxThere}
 use Rattle.rules.specs.Answers.{logView}
 use Rattle.rules.specs.Bodies.{stampOf}
 use Rattle.rules.specs.Table.{put}
 use Rattle.table.specs.declared.State.{State}
+use Rattle.table.specs.Table.{headLen, lowAt, foldsAt, foldLen, lowOf, foldIn, foldsOf, countOf}
 use Rattle.table.specs.Table.{rowLen, logAt, logViewAt, viewAt, decidedAt, bodyAt, tableLen, rowAt, putRow, rowTx, rowBody, stateAt, entryOf, entryAt, entries, entriesOf, entryWith}
 use Rattle.table.specs.Table.{voteWrong, rowWrong, rowBad, tableWrong, place, newRow, newCount, stored}
+use Rattle.table.proofs.Bodies.{num-take, num-set}
 use Rattle.table.proofs.Checked.{any-false, row-long, table-room, table-count, row-right}
 use Rattle.table.proofs.Coding.{vote-back, settled-back, view-back, log-back, vote-small, reason-right, settled-small, log-small}
 use Rattle.table.proofs.Placing.{own, long, other, entries-put, entries-push, put-held, put-new, place-within}
@@ -85,10 +86,71 @@ module _ (d b : List ℕ) (x : State) (ld : length d ≡ rowLen) (lb : length b 
       rw (reads-same, writes-same)
       (sym (pass (less-no _ _ _ hr) (pass (less-no _ _ _ hw) (pass new-vote (pass new-log (sym new-decided))))))
 
+-- ---- bytes written behind the first h, and the first byte beside them
+module _ (h m k c : ℕ) (t r : List ℕ) (some : 0 < h) (in-t : h ≤ length t) where
+  abbrev overwritten : List ℕ
+  overwritten = take (h + m) t ++ (r ++ drop k (drop (h + m) t))
+
+  over-split : overwritten ≡ take h t ++ (take m (drop h t) ++ (r ++ drop k (drop m (drop h t))))
+  over-split = rw (take-add h m t, append-assoc, ← drop-drop m h t)
+
+  over-front : take h overwritten ≡ take h t
+  over-front = ap (take h) over-split ∙ take-at (take h t) (take m (drop h t) ++ (r ++ drop k (drop m (drop h t)))) h (length-take-le h t in-t)
+
+  over-rest : drop h (set overwritten 0 c) ≡ take m (drop h t) ++ (r ++ drop k (drop m (drop h t)))
+  over-rest =
+      drop-set-lt h overwritten 0 c some
+      ∙ ap (drop h) over-split
+      ∙ drop-at (take h t) (take m (drop h t) ++ (r ++ drop k (drop m (drop h t)))) h (length-take-le h t in-t)
+
+  -- a number in front of them, behind the first byte
+  over-num : (n p : ℕ) → 0 < p → p + n ≤ h → numAt n p (set overwritten 0 c) ≡ numAt n p t
+  over-num n p q e = num-set n p overwritten 0 c q ∙ sym (num-take n p h overwritten e) ∙ ap (numAt n p) over-front ∙ num-take n p h t e
+
+  over-long : length r ≡ k → h + m + k ≤ length t → length (set overwritten 0 c) ≡ length t
+  over-long e l = length-set overwritten 0 c ∙ simp (length-append, length-take, length-drop) (omega arith)
+
 -- ---- the table
-stored-cons : (n : ℕ) (rs : List ℕ) (i : ℕ) (b : List ℕ) (x : State) → stored (n ∷ rs) i b x ≡ newCount n i ∷ putRow rs i (newRow (rowAt rs i) b x)
-unfolding stored
-stored-cons n rs i b x = rw one-add
+module _ (t : List ℕ) (i : ℕ) (b : List ℕ) (x : State) (in-t : headLen ≤ length t) where
+  abbrev newAt : List ℕ
+  newAt = newRow (take rowLen (drop (headLen + i * rowLen) t)) b x
+
+  abbrev count : ℕ
+  count = newCount (countOf t) i
+
+  stored-rows : drop headLen (stored t i b x) ≡ putRow (drop headLen t) i (newRow (rowAt (drop headLen t) i) b x)
+  unfolding stored
+  stored-rows =
+      over-rest headLen (i * rowLen) rowLen count t newAt (omega arith) in-t
+      ∙ ap (λ (l : List ℕ). putRow (drop headLen t) i (newRow (take rowLen l) b x)) (sym (drop-drop (i * rowLen) headLen t))
+
+  -- a store leaves the head but for the count
+  pub stored-low : lowOf (stored t i b x) ≡ lowOf t
+  unfolding stored lowOf
+  stored-low = over-num headLen (i * rowLen) rowLen count t newAt (omega arith) in-t 8 lowAt (omega arith) (omega arith)
+
+  stored-fold : (k : ℕ) → k < 512 → foldIn (stored t i b x) k ≡ foldIn t k
+  unfolding stored foldIn
+  stored-fold k h =
+      let s = over-num headLen (i * rowLen) rowLen count t newAt (omega arith) in-t 8 (foldsAt + k * foldLen) (omega arith) (omega arith) in
+      let v = over-num headLen (i * rowLen) rowLen count t newAt (omega arith) in-t 8 (foldsAt + k * foldLen + 8) (omega arith) (omega arith) in
+      rw (s, v)
+
+  pub stored-folds : foldsOf (stored t i b x) ≡ foldsOf t
+  unfolding foldsOf
+  stored-folds = tab-same (foldIn t) (foldIn (stored t i b x)) 0 512 (λ k p q. stored-fold k (omega arith))
+
+  module _ (long : length newAt ≡ rowLen) (room : headLen + i * rowLen + rowLen ≤ length t) where
+    stored-long : length (stored t i b x) ≡ length t
+    unfolding stored
+    stored-long = over-long headLen (i * rowLen) rowLen count t newAt (omega arith) in-t long room
+
+    stored-count : countOf (stored t i b x) ≡ newCount (countOf t) i
+    unfolding stored
+    stored-count =
+        let l = over-long headLen (i * rowLen) rowLen count t newAt (omega arith) in-t long room in
+        let e = length-set (overwritten headLen (i * rowLen) rowLen count t newAt (omega arith) in-t) 0 count in
+        getD-set-same (overwritten headLen (i * rowLen) rowLen count t newAt (omega arith) in-t) 0 count 0 (omega arith)
 
 module _ (rs : List ℕ) (i n : ℕ) (b : List ℕ) (x : State) (room : i * rowLen + rowLen ≤ length rs) (lb : length b ≡ txLen b) (there : TxThere b) where
   small : bodyAt + length b ≤ rowLen
@@ -158,28 +220,41 @@ module _ (rs : List ℕ) (i n : ℕ) (b : List ℕ) (x : State) (room : i * rowL
         by true e = let z = eqb-true i n e in rw e (omega arith)
         by false e = rw e h
 
-    rows-taken : (cap : ℕ) → tableLen cap ≤ length (n ∷ rs) → n ≤ cap → i < cap → ((j : ℕ) → j < n → rowBad (rowAt rs j) ≡ false)
-        → tableWrong cap (newCount n i ∷ putRow rs i (newRow (rowAt rs i) b x)) ≡ 0
+    rows-taken : (cap : ℕ) (s : List ℕ) → tableLen cap ≤ length s → n ≤ cap → i < cap → ((j : ℕ) → j < n → rowBad (rowAt rs j) ≡ false)
+        → drop headLen s ≡ putRow rs i (newRow (rowAt rs i) b x) → countOf s ≡ newCount n i → tableWrong cap s ≡ 0
     unfolding tableWrong
-    rows-taken cap a h k old =
-        let l : length (putRow rs i (newRow (rowAt rs i) b x)) ≡ length rs = long rs (newRow (rowAt rs i) b x) i room with-long in
+    rows-taken cap s a h k old same count =
         let none : any rowBad (tab (rowAt (putRow rs i (newRow (rowAt rs i) b x))) 0 (newCount n i)) ≡ false =
         any-false rowBad (rowAt (putRow rs i (newRow (rowAt rs i) b x))) 0 (newCount n i) (λ j p q. rows-right old j (omega arith)) in
-        sym (pass (less-no _ _ _ (omega arith)) (pass (less-no _ _ _ (count-in cap h k)) (sym (when-no _ _ none))))
+        rw (same, count)
+        (sym (pass (less-no _ _ _ a) (pass (less-no _ _ _ (count-in cap h k)) (sym (when-no _ _ none)))))
 
 -- a whole TX stored in its place: what the rules put, and a table again
 module _ (cap i : ℕ) (b : List ℕ) (x : State) (lb : length b ≡ txLen b) (there : TxThere b) (free : i < cap) where
-  pub stored-put : (t : List ℕ) → tableWrong cap t ≡ 0 → i ≡ place (stampOf b) (entriesOf t) → entriesOf (stored t i b x) ≡ put (entryWith b x) (entriesOf t)
-  unfolding entriesOf
-  stored-put [] right at = absurd (let a = table-room cap [] right in omega arith)
-  stored-put (n ∷ rs) right at =
-      let a = table-room cap (n ∷ rs) right in
-      rw (stored-cons n rs i b x) (rows-put rs i n b x (omega arith) lb there at)
+  module _ (t : List ℕ) (right : tableWrong cap t ≡ 0) where
+    in-table : headLen + i * rowLen + rowLen ≤ length t
+    in-table = let a = table-room cap t right in omega arith
 
-  pub stored-right : (t : List ℕ) → tableWrong cap t ≡ 0 → i ≡ place (stampOf b) (entriesOf t) → tableWrong cap (stored t i b x) ≡ 0
-  unfolding entriesOf
-  stored-right [] right at = absurd (let a = table-room cap [] right in omega arith)
-  stored-right (n ∷ rs) right at =
-      let a = table-room cap (n ∷ rs) right in
-      rw (stored-cons n rs i b x)
-      (rows-taken rs i n b x (omega arith) lb there at cap a (table-count cap (n ∷ rs) right) free (row-right cap (n ∷ rs) right))
+    in-rows : i * rowLen + rowLen ≤ length (drop headLen t)
+    in-rows = let a = in-table in simp length-drop (omega arith)
+
+    new-at-long : length (newRow (take rowLen (drop (headLen + i * rowLen) t)) b x) ≡ rowLen
+    new-at-long =
+        ap (λ (l : List ℕ). length (newRow (take rowLen l) b x)) (sym (drop-drop (i * rowLen) headLen t))
+        ∙ with-long (drop headLen t) i (countOf t) b x in-rows lb there
+
+    pub stored-put : i ≡ place (stampOf b) (entriesOf t) → entriesOf (stored t i b x) ≡ put (entryWith b x) (entriesOf t)
+    unfolding entriesOf
+    stored-put at =
+        let l = in-table in
+        rw (stored-rows t i b x (omega arith), stored-count t i b x (omega arith) new-at-long l)
+        (rows-put (drop headLen t) i (countOf t) b x in-rows lb there at)
+
+    pub stored-right : i ≡ place (stampOf b) (entriesOf t) → tableWrong cap (stored t i b x) ≡ 0
+    unfolding entriesOf
+    stored-right at =
+        let l = in-table in
+        let same = stored-long t i b x (omega arith) new-at-long l in
+        let a = table-room cap t right in
+        rows-taken (drop headLen t) i (countOf t) b x in-rows lb there at cap (stored t i b x) (omega arith) (table-count cap t right) free (row-right cap t right)
+        (stored-rows t i b x (omega arith)) (stored-count t i b x (omega arith) new-at-long l)

@@ -1,4 +1,4 @@
-use Rattle.lines.proofs.Marks.{known-cut, known-gp, known-ck, known-rest}
+use Rattle.lines.proofs.Marks.{known-cut, known-gp, known-ck, known-lm, known-rest}
 use native.Mathlib.Omega.{arith}
 use borrow.Author.Needs.{needs}
 use Rattle.lines.proofs.is_known.Statement.{statement}
@@ -19,14 +19,20 @@ is-mark-requires-2 c κs = search needs
 returns-3 : tie.Need-returns-3
 returns-3 c = known-ck _ (omega arith) (cc) (cc)
 
+is-mark-requires-3 : tie.Need-is-mark-requires-3
+is-mark-requires-3 c κs = search needs
+
+returns-4 : tie.Need-returns-4
+returns-4 c = known-lm _ (omega arith) (cc) (cc) (cc)
+
 mark-of-requires : tie.Need-mark-of-requires
 mark-of-requires c κs = search needs
 
 is-message-requires : tie.Need-is-message-requires
 is-message-requires c κs = search needs
 
-returns-4 : tie.Need-returns-4
-returns-4 c = known-rest _ _ (omega arith) (cc) (cc) (cc)
+returns-5 : tie.Need-returns-5
+returns-5 c = known-rest _ _ (omega arith) (cc) (cc) (cc) (cc)
 
 pub is-known-spec : {M : Type 1} → statement M
 is-known-spec =
@@ -37,6 +43,8 @@ is-known-spec =
     returns-2
     is-mark-requires-2
     returns-3
+    is-mark-requires-3
+    returns-4
     mark-of-requires
     is-message-requires
-    returns-4)
+    returns-5)

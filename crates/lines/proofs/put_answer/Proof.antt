@@ -65,6 +65,15 @@ enum-known-answer-6 c = search needs
 put-elected-requires : tie.Need-put-elected-requires
 put-elected-requires c κs = search needs
 
+enum-told-2 : tie.Need-enum-told-2
+enum-told-2 c = search needs
+
+slice-aggregate-put-text-3 : tie.Need-slice-aggregate-put-text-3
+slice-aggregate-put-text-3 c = search needs
+
+put-text-requires-3 : tie.Need-put-text-requires-3
+put-text-requires-3 c κs = search needs
+
 same-length : tie.Need-same-length
 same-length c = search needs
 
@@ -118,6 +127,13 @@ returns-7 : tie.Need-returns-7
 unfolding answerText
 returns-7 c = rw (c .before .before .before .before .before .answer6 .given .1) (puts-within (c .before .before .put-elected .ensures) (omega arith))
 
+same-length-8 : tie.Need-same-length-8
+same-length-8 c = search needs
+
+returns-8 : tie.Need-returns-8
+unfolding answerText
+returns-8 c = rw (c .before .before .before .before .before .enum-told2 .given .1) (puts-text (c .before .before .put-text3 .ensures) (omega arith))
+
 pub put-answer-spec : {M : Type 1} → statement M
 put-answer-spec =
     tie.close
@@ -139,6 +155,9 @@ put-answer-spec =
     put-refusal-requires
     enum-known-answer-6
     put-elected-requires
+    enum-told-2
+    slice-aggregate-put-text-3
+    put-text-requires-3
     same-length
     returns
     same-length-2
@@ -152,4 +171,6 @@ put-answer-spec =
     same-length-6
     returns-6
     same-length-7
-    returns-7)
+    returns-7
+    same-length-8
+    returns-8)

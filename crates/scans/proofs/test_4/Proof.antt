@@ -4,14 +4,14 @@ use Rattle.terms.proofs.Scans.{Rest, found, go, end}
 use Rattle.rules.specs.Tests.{test4}
 use Rattle.table.specs.Table.{entries, entryAt}
 use Rattle.table.proofs.Bodies.{begin-as}
-use Rattle.scans.specs.Scans.{over, hit4}
+use Rattle.scans.specs.Scans.{entriesOnly, hit4}
 use native.Mathlib.Omega.{arith}
 use borrow.Author.Needs.{needs}
 use Rattle.scans.proofs.test_4.Statement.{statement}
 use Rattle.scans.proofs.test_4.Tie as tie
 
 abbrev Inv-loop : tie.InvT-loop
-Inv-loop t n b written i₀ i = Rest (hit4 b) (entryAt t) n (test4 (over (entries t n)) b) i
+Inv-loop t n b written i₀ i = Rest (hit4 b) (entryAt t) n (test4 (entriesOnly (entries t n)) b) i
 
 abbrev μ-loop : tie.MeasureT-loop
 μ-loop t n b written i₀ i = n - i

@@ -1,12 +1,10 @@
 use Prim.Native.Nat.{_-_}
-use mathlib.Core.List.{[]}
 use Rattle.terms.proofs.Scans.{Rest, found, go, end}
 use Rattle.records.specs.Tx.{writeAt, writesFrom, txOf}
 use Rattle.rules.specs.Bodies.{stampOf, writesOf}
-use Rattle.rules.specs.Table.{boxWith}
 use Rattle.rules.specs.Tests.{test5}
 use Rattle.table.proofs.Bodies.{begin-as}
-use Rattle.scans.specs.Scans.{marked}
+use Rattle.scans.specs.Scans.{marked, marksOnly}
 use Rattle.scans.proofs.Outcomes.{marked-yes, marked-no}
 use native.Mathlib.Omega.{arith}
 use borrow.Author.Needs.{needs}
@@ -14,7 +12,7 @@ use Rattle.scans.proofs.test_5.Statement.{statement}
 use Rattle.scans.proofs.test_5.Tie as tie
 
 abbrev Inv-loop : tie.InvT-loop
-Inv-loop marks b s m j₀ j = Rest (marked marks (stampOf b)) (writeAt b (writesFrom b)) m (test5 (boxWith [] marks) b) j
+Inv-loop marks b s m j₀ j = Rest (marked marks (stampOf b)) (writeAt b (writesFrom b)) m (test5 (marksOnly marks) b) j
 
 abbrev μ-loop : tie.MeasureT-loop
 μ-loop marks b s m j₀ j = m - j

@@ -4,7 +4,10 @@ use Rattle.terms.specs.Choice.{any}
 use Rattle.terms.proofs.Scans.{tab-length}
 use Rattle.records.specs.Tx.{readAt, txOf}
 use Rattle.rules.specs.Bodies.{readsOf}
-use Rattle.rules.specs.Visits.{through, visits3}
+use mathlib.Core.Bool.{_||_}
+use mathlib.Core.List.{[]}
+use Rattle.rules.specs.Tests.{foldAbove}
+use Rattle.rules.specs.Visits.{through, unless, visits3}
 use Rattle.table.specs.Table.{entries}
 use Rattle.scans.specs.Scans.{over}
 use Rattle.rules.specs.Visits.{fails3}
@@ -16,29 +19,29 @@ use Rattle.scans.proofs.visits_3.Statement.{statement}
 use Rattle.scans.proofs.visits_3.Tie as tie
 
 abbrev Inv-loop : tie.InvT-loop
-Inv-loop t n b m visited₀ j₀ visited j = Keyed (λ r. through (fails3 b r) (entries t n)) (λ r. any (fails3 b r) (entries t n)) (readAt b 12) m (visits3 (over (entries t n)) b) visited j
+Inv-loop h t n b m visited₀ j₀ visited j = Keyed (λ r. unless (foldAbove (over h []) r) (through (fails3 b r) (entries t n))) (λ r. foldAbove (over h []) r || any (fails3 b r) (entries t n)) (readAt b 12) m (visits3 (over h (entries t n)) b) visited j
 
 abbrev μ-loop : tie.MeasureT-loop
-μ-loop t n b m visited₀ j₀ visited j = m - j
+μ-loop h t n b m visited₀ j₀ visited j = m - j
 
 read-count-requires : tie.Need-read-count-requires Inv-loop μ-loop
 read-count-requires c κs = search needs
 
 loop-holds : tie.Need-loop-holds Inv-loop μ-loop
-unfolding readsOf txOf visits3 fails3
+unfolding readsOf txOf visits3 fails3 foldAbove
 loop-holds c = keyed-begin (rw (c .read-count .ensures .0))
 
 read-at-requires : tie.Need-read-at-requires Inv-loop μ-loop
 read-at-requires c κs = search needs
 
-through-3-requires : tie.Need-through-3-requires Inv-loop μ-loop
-through-3-requires c κs = search needs
+key-3-requires : tie.Need-key-3-requires Inv-loop μ-loop
+key-3-requires c κs = search needs
 
 add-visited : tie.Need-add-visited Inv-loop μ-loop
-add-visited c = let s = c .before .before .before .before .before .before .before .before in let r = s .pre .0 .room in let k = keyed-fits (c .before .before .before .before .loop .inv) (omega arith) (c .before .through-3 .result .visited) (rw (← c .before .before .read-at .ensures) (c .before .through-3 .ensures .1)) in let m = visits3-most (entries (s .args .t .now) (s .args .n)) (s .args .b .now) (s .args .n) (tab-length _ _ _) (s .pre .1 .0) in omega arith
+add-visited c = let s = c .before .before .before .before .before .before .before .before .before in let r = s .pre .0 .room in let k = keyed-fits (c .before .before .before .before .loop .inv) (omega arith) (c .before .key-3 .result .visited) (rw (← c .before .before .read-at .ensures) (c .before .key-3 .ensures .1)) in let m = visits3-most (over (s .args .h .now) (entries (s .args .t .now) (s .args .n))) (s .args .b .now) (s .args .n) (tab-length _ _ _) (s .pre .1 .0) in omega arith
 
 returns : tie.Need-returns Inv-loop μ-loop
-returns c = keyed-stop (c .before .before .before .before .before .loop .inv) (omega arith) (c .before .before .through-3 .result .visited) (rw (← c .before .before .before .read-at .ensures) (c .before .before .through-3 .ensures .1)) (rw (← c .before .before .before .read-at .ensures) (sym (c .before .before .through-3 .ensures .0) ∙ c .if1 .taken))
+returns c = keyed-stop (c .before .before .before .before .before .loop .inv) (omega arith) (c .before .before .key-3 .result .visited) (rw (← c .before .before .before .read-at .ensures) (c .before .before .key-3 .ensures .1)) (rw (← c .before .before .before .read-at .ensures) (sym (c .before .before .key-3 .ensures .0) ∙ c .if1 .taken))
 
 add-j : tie.Need-add-j Inv-loop μ-loop
 add-j c = search needs
@@ -47,7 +50,7 @@ loop-less : tie.Need-loop-less Inv-loop μ-loop
 loop-less c = search needs
 
 loop-again : tie.Need-loop-again Inv-loop μ-loop
-loop-again c = keyed-go (c .before .before .before .before .before .loop .inv) (omega arith) (c .before .before .through-3 .result .visited) (rw (← c .before .before .before .read-at .ensures) (c .before .before .through-3 .ensures .1)) (rw (← c .before .before .before .read-at .ensures) (sym (c .before .before .through-3 .ensures .0) ∙ c .if1 .left))
+loop-again c = keyed-go (c .before .before .before .before .before .loop .inv) (omega arith) (c .before .before .key-3 .result .visited) (rw (← c .before .before .before .read-at .ensures) (c .before .before .key-3 .ensures .1)) (rw (← c .before .before .before .read-at .ensures) (sym (c .before .before .key-3 .ensures .0) ∙ c .if1 .left))
 
 returns-2 : tie.Need-returns-2 Inv-loop μ-loop
 returns-2 c = keyed-end (c .before .loop .inv) (omega arith)
@@ -61,7 +64,7 @@ visits-3-spec =
     read-count-requires
     loop-holds
     read-at-requires
-    through-3-requires
+    key-3-requires
     add-visited
     returns
     add-j

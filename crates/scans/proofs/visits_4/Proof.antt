@@ -6,7 +6,7 @@ use Rattle.records.specs.Tx.{writeAt, writesFrom, writeKey, txOf}
 use Rattle.rules.specs.Bodies.{writesOf}
 use Rattle.rules.specs.Visits.{through, visits4}
 use Rattle.table.specs.Table.{entries}
-use Rattle.scans.specs.Scans.{over}
+use Rattle.scans.specs.Scans.{entriesOnly}
 use Rattle.rules.specs.Visits.{fails4}
 use Rattle.scans.proofs.Visits.{Keyed, keyed-begin, keyed-fits, keyed-stop, keyed-go, keyed-end}
 use Rattle.scans.proofs.Counting.{visits4-most}
@@ -16,7 +16,7 @@ use Rattle.scans.proofs.visits_4.Statement.{statement}
 use Rattle.scans.proofs.visits_4.Tie as tie
 
 abbrev Inv-loop : tie.InvT-loop
-Inv-loop t n b m visited₀ j₀ visited j = Keyed (λ r. through (fails4 b (writeKey r)) (entries t n)) (λ r. any (fails4 b (writeKey r)) (entries t n)) (writeAt b (writesFrom b)) m (visits4 (over (entries t n)) b) visited j
+Inv-loop t n b m visited₀ j₀ visited j = Keyed (λ r. through (fails4 b (writeKey r)) (entries t n)) (λ r. any (fails4 b (writeKey r)) (entries t n)) (writeAt b (writesFrom b)) m (visits4 (entriesOnly (entries t n)) b) visited j
 
 abbrev μ-loop : tie.MeasureT-loop
 μ-loop t n b m visited₀ j₀ visited j = m - j
@@ -35,7 +35,7 @@ through-4-requires : tie.Need-through-4-requires Inv-loop μ-loop
 through-4-requires c κs = search needs
 
 add-visited : tie.Need-add-visited Inv-loop μ-loop
-add-visited c = let s = c .before .before .before .before .before .before .before .before in let r = s .pre .0 .room in let k = keyed-fits (c .before .before .before .before .loop .inv) (omega arith) (c .before .through-4 .result .visited) (rw (← c .before .before .write-at .ensures) (c .before .through-4 .ensures .1)) in let m = visits4-most (entries (s .args .t .now) (s .args .n)) (s .args .b .now) (s .args .n) (tab-length _ _ _) (s .pre .1 .1) in omega arith
+add-visited c = let s = c .before .before .before .before .before .before .before .before in let r = s .pre .0 .room in let k = keyed-fits (c .before .before .before .before .loop .inv) (omega arith) (c .before .through-4 .result .visited) (rw (← c .before .before .write-at .ensures) (c .before .through-4 .ensures .1)) in let m = visits4-most (entriesOnly (entries (s .args .t .now) (s .args .n))) (s .args .b .now) (s .args .n) (tab-length _ _ _) (s .pre .1 .1) in omega arith
 
 returns : tie.Need-returns Inv-loop μ-loop
 returns c = keyed-stop (c .before .before .before .before .before .loop .inv) (omega arith) (c .before .before .through-4 .result .visited) (rw (← c .before .before .before .write-at .ensures) (c .before .before .through-4 .ensures .1)) (rw (← c .before .before .before .write-at .ensures) (sym (c .before .before .through-4 .ensures .0) ∙ c .if1 .taken))

@@ -6,7 +6,7 @@ use Rattle.records.specs.Tx.{readAt, txOf}
 use Rattle.rules.specs.Bodies.{readsOf}
 use Rattle.rules.specs.Tests.{waitingRule}
 use Rattle.rules.specs.Visits.{versionUp, waitingVisits}
-use Rattle.table.specs.Table.{entries}
+use Rattle.table.specs.Table.{entries, lowOf}
 use Rattle.scans.specs.Scans.{over, waitBy}
 use Rattle.scans.proofs.Waiting.{Waits, waits-begin, waits-go, waits-abort, waits-wait, waits-commit}
 use Rattle.scans.proofs.Visits.{Keyed, keyed-begin, keyed-fits, keyed-go, keyed-end}
@@ -24,10 +24,13 @@ use Rattle.table.proofs.read_at.Reads as read-at-reads
 use Rattle.table.proofs.read_count.Reads as read-count-reads
 
 abbrev Inv-loop : tie.InvT-loop
-Inv-loop t n b m bad₀ waits₀ visited₀ j₀ bad waits visited j = Waits (entries t n) (readAt b 12) m (waitingRule (over (entries t n)) b) bad waits j × Keyed (versionUp (entries t n)) (λ _. false) (readAt b 12) m (waitingVisits (entries t n) b) visited j
+Inv-loop h t n b low m bad₀ waits₀ visited₀ j₀ bad waits visited j = Waits (over h (entries t n)) (readAt b 12) m (waitingRule (over h (entries t n)) b) bad waits j × Keyed (versionUp (lowOf h) (entries t n)) (λ _. false) (readAt b 12) m (waitingVisits (lowOf h) (entries t n) b) visited j
 
 abbrev μ-loop : tie.MeasureT-loop
-μ-loop t n b m bad₀ waits₀ visited₀ j₀ bad waits visited j = m - j
+μ-loop h t n b low m bad₀ waits₀ visited₀ j₀ bad waits visited j = m - j
+
+low-of-requires : tie.Need-low-of-requires Inv-loop μ-loop
+low-of-requires c κs = search needs
 
 read-count-requires : tie.Need-read-count-requires Inv-loop μ-loop
 read-count-requires c κs = search needs
@@ -43,7 +46,7 @@ status-requires : tie.Need-status-requires Inv-loop μ-loop
 status-requires c κs = search needs
 
 add-visited : tie.Need-add-visited Inv-loop μ-loop
-add-visited c = let s = c .before .before .before .before .before .before .before .before in let r = s .pre .0 .room in let k = keyed-fits (c .before .before .before .before .loop .inv .1) (omega arith) (c .before .status .result .visited) (rw (← c .before .before .read-at .ensures) (c .before .status .ensures .1)) in let m = waiting-most (entries (s .args .t .now) (s .args .n)) (s .args .b .now) (s .args .n) (tab-length _ _ _) (s .pre .1 .0) in omega arith
+add-visited c = let s = c .before .before .before .before .before .before .before .before .before .before in let r = s .pre .0 .room in let k = keyed-fits (c .before .before .before .before .loop .inv .1) (omega arith) (c .before .status .result .visited) (rw (← c .before .before .read-at .ensures) (c .before .status .ensures .1)) in let m = waiting-most (over (s .args .h .now) (entries (s .args .t .now) (s .args .n))) (s .args .b .now) (s .args .n) (tab-length _ _ _) (s .pre .1 .0) in omega arith
 
 bad-too-requires : tie.Need-bad-too-requires Inv-loop μ-loop
 bad-too-requires c κs = search needs
@@ -61,13 +64,13 @@ loop-again : tie.Need-loop-again Inv-loop μ-loop
 loop-again c = (waits-go (c .before .before .before .before .before .before .loop .inv .0) (c .before .before .before .status .result .what) (omega arith) (rw (← c .before .before .before .before .read-at .ensures) (c .before .before .before .status .ensures .0)) (c .before .bad-too .ensures) (c .waits-too .ensures), keyed-go (c .before .before .before .before .before .before .loop .inv .1) (omega arith) (c .before .before .before .status .result .visited) (rw (← c .before .before .before .before .read-at .ensures) (c .before .before .before .status .ensures .1)) refl)
 
 returns : tie.Need-returns Inv-loop μ-loop
-returns c = let s = c .before .before .before .before .before .before in let e = keyed-end (c .before .before .loop .inv .1) (omega arith) in (waits-abort (c .before .before .loop .inv .0) (omega arith) (c .if1 .taken), e, rw e (waiting-most (entries (s .args .t .now) (s .args .n)) (s .args .b .now) (s .args .n) (tab-length _ _ _) (s .pre .1 .0)))
+returns c = let s = c .before .before .before .before .before .before .before .before in let e = keyed-end (c .before .before .loop .inv .1) (omega arith) in (waits-abort (c .before .before .loop .inv .0) (omega arith) (c .if1 .taken), e, rw e (waiting-most (over (s .args .h .now) (entries (s .args .t .now) (s .args .n))) (s .args .b .now) (s .args .n) (tab-length _ _ _) (s .pre .1 .0)))
 
 returns-2 : tie.Need-returns-2 Inv-loop μ-loop
-returns-2 c = let s = c .before .before .before .before .before .before .before in let e = keyed-end (c .before .before .before .loop .inv .1) (omega arith) in (waits-wait (c .before .before .before .loop .inv .0) (omega arith) (c .before .if1 .left) (c .if2 .taken), e, rw e (waiting-most (entries (s .args .t .now) (s .args .n)) (s .args .b .now) (s .args .n) (tab-length _ _ _) (s .pre .1 .0)))
+returns-2 c = let s = c .before .before .before .before .before .before .before .before .before in let e = keyed-end (c .before .before .before .loop .inv .1) (omega arith) in (waits-wait (c .before .before .before .loop .inv .0) (omega arith) (c .before .if1 .left) (c .if2 .taken), e, rw e (waiting-most (over (s .args .h .now) (entries (s .args .t .now) (s .args .n))) (s .args .b .now) (s .args .n) (tab-length _ _ _) (s .pre .1 .0)))
 
 returns-3 : tie.Need-returns-3 Inv-loop μ-loop
-returns-3 c = let s = c .before .before .before .before .before .before .before in let e = keyed-end (c .before .before .before .loop .inv .1) (omega arith) in (waits-commit (c .before .before .before .loop .inv .0) (omega arith) (c .before .if1 .left) (c .if2 .left), e, rw e (waiting-most (entries (s .args .t .now) (s .args .n)) (s .args .b .now) (s .args .n) (tab-length _ _ _) (s .pre .1 .0)))
+returns-3 c = let s = c .before .before .before .before .before .before .before .before .before in let e = keyed-end (c .before .before .before .loop .inv .1) (omega arith) in (waits-commit (c .before .before .before .loop .inv .0) (omega arith) (c .before .if1 .left) (c .if2 .left), e, rw e (waiting-most (over (s .args .h .now) (entries (s .args .t .now) (s .args .n))) (s .args .b .now) (s .args .n) (tab-length _ _ _) (s .pre .1 .0)))
 
 pub waiting-rule-spec : {M : Type 1} → statement M
 waiting-rule-spec =
@@ -75,6 +78,7 @@ waiting-rule-spec =
     (tie.spec
     Inv-loop
     μ-loop
+    low-of-requires
     read-count-requires
     loop-holds
     read-at-requires
