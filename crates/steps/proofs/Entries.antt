@@ -1,7 +1,6 @@
 -- The rules of an entry, one law for each outcome as the code has it.
 use Prim.Native.Nat.{ℕ, _+_}
 use mathlib.Core.Path.{_≡_, refl, sym}
-use mathlib.Core.List.{List, []}
 use mathlib.Core.Bool.{Bool, true, false}
 use mathlib.Core.Option.{some, none}
 use lib.Dec.{leb}
@@ -21,52 +20,53 @@ use Rattle.rules.specs.declared.Vote.the-variants.{None as unvoted, Commit as v
 use Rattle.rules.specs.Answers.{View, viewAs}
 use Rattle.rules.specs.Bodies.{Body, stampOf}
 use Rattle.rules.specs.Lists.{decisionOf, forLogging}
-use Rattle.rules.specs.Table.{Entry, Box, boxWith}
-use Rattle.rules.specs.Tests.{firstVote, waitingRule, status}
+use Rattle.rules.specs.Table.{Box}
+use Rattle.rules.specs.Tests.{firstVote, isFolded, isLow, waitingRule, status}
 use Rattle.rules.specs.Calls.{refuse, isFull, roomFor, needing, sameDecision, castAct, prByVote, prByDecision, prByEntry, firstLog, lgByLog, lgByDecision, lgByEntry, decideAct, dcSame, dcByEntry}
 use Rattle.rules.specs.Visits.{lookUp, waitingVisits, testVisits, firstVisits, againVisits, newLast}
+use Rattle.scans.proofs.Outcomes.{unmarked}
 use Rattle.table.specs.declared.State.{State}
 use Rattle.table.specs.Table.{entryWith, stateIn}
 use Rattle.steps.specs.declared.Held.the-variants.{Not, Same}
 use Rattle.steps.specs.Step.{changeBy, stepBy, kept, put, castStep, prBy, lgBy}
 
 -- ---- PR
-module _ (i : ℕ) (told : Told) (es : List Entry) (marks : List ℕ) (b : Body) where
-  module _ (n : ℕ) (l : length es ≡ n) where
-    pub pr-full : leb (told .capacity) n ≡ true → kept (Refused Full) ≡ prBy i told (boxWith es marks) b Not
+module _ (i : ℕ) (told : Told) (x : Box) (b : Body) where
+  module _ (n : ℕ) (l : length (x .table) ≡ n) where
+    pub pr-full : leb (told .capacity) n ≡ true → kept (Refused Full) ≡ prBy i told x b Not
     unfolding prBy prByEntry roomFor isFull stepBy changeBy
     pr-full h = rw (l, h)
 
-    pub pr-room : leb (told .capacity) n ≡ false → (v : Vote) (o k : ℕ) → v ≡ firstVote told (boxWith es marks) b → o ≡ lookUp (stampOf b) es
-        → k ≡ testVisits told (boxWith es marks) b (newLast b es) → castStep i unlogged (viewAs 0) v (o + k) ≡ prBy i told (boxWith es marks) b Not
+    pub pr-room : leb (told .capacity) n ≡ false → (v : Vote) (o k : ℕ) → v ≡ firstVote told x b → o ≡ lookUp (stampOf b) (x .table)
+        → k ≡ testVisits told x b (newLast b (x .table)) → castStep i unlogged (viewAs 0) v (o + k) ≡ prBy i told x b Not
     unfolding prBy prByEntry roomFor isFull castAct stepBy changeBy stateIn firstVisits
     pr-room h v o k w p q = rw (l, h, w, p, q)
 
   module _ (e : State) where
-    pub pr-decided : (d : Decision) → e .decided ≡ settled d → kept (Decided d) ≡ prBy i told (boxWith es marks) b (Same e)
+    pub pr-decided : (d : Decision) → e .decided ≡ settled d → kept (Decided d) ≡ prBy i told x b (Same e)
     unfolding prBy prByDecision stepBy changeBy
     pr-decided d h = rw h
 
-    pub pr-open : e .decided ≡ unsettled → stepBy i (prByVote told (boxWith es marks) b (entryWith b e) (e .vote)) ≡ prBy i told (boxWith es marks) b (Same e)
+    pub pr-open : e .decided ≡ unsettled → stepBy i (prByVote told x b (entryWith b e) (e .vote)) ≡ prBy i told x b (Same e)
     unfolding prBy prByDecision entryWith
     pr-open h = rw h
 
-    pub pr-commit : e .vote ≡ voteCommit → kept (Voted (e .vote) unvisited) ≡ stepBy i (prByVote told (boxWith es marks) b (entryWith b e) (e .vote))
+    pub pr-commit : e .vote ≡ voteCommit → kept (Voted (e .vote) unvisited) ≡ stepBy i (prByVote told x b (entryWith b e) (e .vote))
     unfolding prByVote stepBy changeBy
     pr-commit h = rw h
 
-    pub pr-abort : (r : Reason) → e .vote ≡ voteAbort r → kept (Voted (e .vote) unvisited) ≡ stepBy i (prByVote told (boxWith es marks) b (entryWith b e) (e .vote))
+    pub pr-abort : (r : Reason) → e .vote ≡ voteAbort r → kept (Voted (e .vote) unvisited) ≡ stepBy i (prByVote told x b (entryWith b e) (e .vote))
     unfolding prByVote stepBy changeBy
     pr-abort r h = rw h
 
-    pub pr-waiting : (v : Vote) (o k : ℕ) → e .vote ≡ waiting → v ≡ waitingRule (boxWith es []) b → o ≡ lookUp (stampOf b) es → k ≡ waitingVisits es b
-        → castStep i (e .log) (e .view) v (o + k) ≡ stepBy i (prByVote told (boxWith es marks) b (entryWith b e) (e .vote))
-    unfolding prByVote castAct stepBy changeBy stateIn entryWith waitingRule status againVisits
+    pub pr-waiting : (v : Vote) (o k : ℕ) → e .vote ≡ waiting → v ≡ waitingRule (unmarked x) b → o ≡ lookUp (stampOf b) (x .table) → k ≡ waitingVisits (x .low) (x .table) b
+        → castStep i (e .log) (e .view) v (o + k) ≡ stepBy i (prByVote told x b (entryWith b e) (e .vote))
+    unfolding prByVote castAct stepBy changeBy stateIn entryWith waitingRule status isLow isFolded againVisits
     pr-waiting v o k h w p q = rw (h, w, p, q)
 
-    pub pr-unvoted : (v : Vote) (o k : ℕ) → e .vote ≡ unvoted → v ≡ firstVote told (boxWith es marks) b → o ≡ lookUp (stampOf b) es
-        → k ≡ testVisits told (boxWith es marks) b es
-        → castStep i (e .log) (e .view) v (o + k) ≡ stepBy i (prByVote told (boxWith es marks) b (entryWith b e) (e .vote))
+    pub pr-unvoted : (v : Vote) (o k : ℕ) → e .vote ≡ unvoted → v ≡ firstVote told x b → o ≡ lookUp (stampOf b) (x .table)
+        → k ≡ testVisits told x b (x .table)
+        → castStep i (e .log) (e .view) v (o + k) ≡ stepBy i (prByVote told x b (entryWith b e) (e .vote))
     unfolding prByVote castAct stepBy changeBy stateIn entryWith firstVisits
     pr-unvoted v o k h w p q = rw (h, w, p, q)
 

@@ -21,7 +21,7 @@ use Rattle.rules.specs.declared.Told.{Told}
 use Rattle.rules.specs.Answers.{View, viewAs}
 use Rattle.rules.specs.Bodies.{Body, sameBody, stampOf}
 use Rattle.rules.specs.Lists.{decisionOf, kindOf, forLogging, forProof, lacking}
-use Rattle.rules.specs.Table.{Entry, Box, boxWith, find, voteIn, viewIn}
+use Rattle.rules.specs.Table.{Entry, Box, find, voteIn, viewIn}
 use Rattle.rules.specs.Calls.{Act, refuse, needing, prByDecision, prByEntry, prRule, lgByDecision, lgByEntry, lgRule, firstLog, logAct, dcSame, dcOther, dcByEntry, dcRule}
 use Rattle.rules.specs.Fallback.{ivByDecision, ivByEntry, ivRule, ldByDecision, ldByEntry, ldRule}
 use Rattle.rules.proofs.Laws.{sameBody-eq}
@@ -88,34 +88,34 @@ module _ (i : ℕ) (told : Told) (x : Box) (b : Body) where
       (λ y q. ap (λ (z : Entry). stepBy i (ldByDecision told b l z (y .decided))) q) (λ y. refl) e
 
 -- ---- by a look-up, as the code has it
-module _ (es : List Entry) (b : Body) (look : Look) (l : look ≡ lookOf es b) (h : Held) (q : look .held ≡ h) (told : Told) (marks : List ℕ) where
-  at : look .place ≡ place (stampOf b) es
+module _ (x : Box) (b : Body) (look : Look) (l : look ≡ lookOf (x .table) b) (h : Held) (q : look .held ≡ h) (told : Told) where
+  at : look .place ≡ place (stampOf b) (x .table)
   unfolding lookOf
   at = rw l
 
-  what : h ≡ heldBy b (find (stampOf b) es)
+  what : h ≡ heldBy b (find (stampOf b) (x .table))
   unfolding lookOf
   what = sym q ∙ (rw l)
 
-  pub pr-looked : prBy (look .place) told (boxWith es marks) b h ≡ stepBy (place (stampOf b) es) (prRule told (boxWith es marks) b)
+  pub pr-looked : prBy (look .place) told x b h ≡ stepBy (place (stampOf b) (x .table)) (prRule told x b)
   unfolding prRule
-  pr-looked = rw (at, what) (pr-entry (place (stampOf b) es) told (boxWith es marks) b (find (stampOf b) es))
+  pr-looked = rw (at, what) (pr-entry (place (stampOf b) (x .table)) told x b (find (stampOf b) (x .table)))
 
-  pub lg-looked : (v : Vl) → lgBy (look .place) told (boxWith es marks) b v h ≡ stepBy (place (stampOf b) es) (lgRule told (boxWith es marks) b v)
+  pub lg-looked : (v : Vl) → lgBy (look .place) told x b v h ≡ stepBy (place (stampOf b) (x .table)) (lgRule told x b v)
   unfolding lgRule
-  lg-looked v = rw (at, what) (lg-entry (place (stampOf b) es) told (boxWith es marks) b v (find (stampOf b) es))
+  lg-looked v = rw (at, what) (lg-entry (place (stampOf b) (x .table)) told x b v (find (stampOf b) (x .table)))
 
-  pub dc-looked : (d : Decision) → dcBy (look .place) told (boxWith es marks) b d h ≡ dcProved told es marks b d
+  pub dc-looked : (d : Decision) → dcBy (look .place) told x b d h ≡ dcProved told x b d
   unfolding dcProved
-  dc-looked d = rw (at, what) (dc-entry (place (stampOf b) es) told (boxWith es marks) b d (find (stampOf b) es))
+  dc-looked d = rw (at, what) (dc-entry (place (stampOf b) (x .table)) told x b d (find (stampOf b) (x .table)))
 
-  pub iv-looked : (v : Views) → ivBy (look .place) told b v h ≡ stepBy (place (stampOf b) es) (ivRule told (boxWith es marks) b v)
+  pub iv-looked : (v : Views) → ivBy (look .place) told b v h ≡ stepBy (place (stampOf b) (x .table)) (ivRule told x b v)
   unfolding ivRule
-  iv-looked v = rw (at, what) (iv-entry (place (stampOf b) es) told (boxWith es marks) b v (find (stampOf b) es))
+  iv-looked v = rw (at, what) (iv-entry (place (stampOf b) (x .table)) told x b v (find (stampOf b) (x .table)))
 
-  pub ld-looked : (v : Views) → ldBy (look .place) told (boxWith es marks) b v h ≡ stepBy (place (stampOf b) es) (ldRule told (boxWith es marks) b v)
+  pub ld-looked : (v : Views) → ldBy (look .place) told x b v h ≡ stepBy (place (stampOf b) (x .table)) (ldRule told x b v)
   unfolding ldRule
-  ld-looked v = rw (at, what) (ld-entry (place (stampOf b) es) told (boxWith es marks) b v (find (stampOf b) es))
+  ld-looked v = rw (at, what) (ld-entry (place (stampOf b) (x .table)) told x b v (find (stampOf b) (x .table)))
 
 -- ---- thresholds: need answers are due, k of them are lacking
 module _ (l : VoteList) (k need : ℕ) (t : k ≡ lacking need (listIn l)) where
@@ -147,11 +147,11 @@ module _ (l : VoteList) (k need : ℕ) (t : k ≡ lacking need (listIn l)) where
 
   -- "11 first."
   module _ (told : Told) (d : Decision) (h : d ≡ decisionOf (l .decision)) (kind : Kind) (a : kind ≡ kindOf (l .kind)) (q : need ≡ forProof (told .f) kind d)
-      (es : List Entry) (marks : List ℕ) (b : Body) where
-    pub dc-few : (k ≡ 0 → ⊥) → kept (Refused (TooFew k)) ≡ stepBy (place (stampOf b) es) (dcRule told (boxWith es marks) b (listIn l))
+      (x : Box) (b : Body) where
+    pub dc-few : (k ≡ 0 → ⊥) → kept (Refused (TooFew k)) ≡ stepBy (place (stampOf b) (x .table)) (dcRule told x b (listIn l))
     unfolding dcRule listIn
-    dc-few c = rw (← a, ← h, ← q) (few c (place (stampOf b) es) _)
+    dc-few c = rw (← a, ← h, ← q) (few c (place (stampOf b) (x .table)) _)
 
-    pub dc-enough : k ≡ 0 → dcProved told es marks b d ≡ stepBy (place (stampOf b) es) (dcRule told (boxWith es marks) b (listIn l))
+    pub dc-enough : k ≡ 0 → dcProved told x b d ≡ stepBy (place (stampOf b) (x .table)) (dcRule told x b (listIn l))
     unfolding dcRule dcProved listIn
     dc-enough c = rw (← a, ← h, ← q, enough c _)

@@ -20,8 +20,8 @@ use Rattle.rules.specs.declared.Vote.{Vote}
 use Rattle.rules.specs.declared.Vote.the-variants.{None as unvoted}
 use Rattle.rules.specs.Answers.{viewAs}
 use Rattle.rules.specs.Bodies.{Body, sameBody, stampOf}
-use Rattle.rules.specs.Table.{Entry, Box, boxWith, find, logIn, viewIn, voteIn}
-use Rattle.rules.specs.Calls.{Act, Change, nothing, puts, raises, prByEntry, prByDecision, lgByEntry, lgByDecision, dcSame, dcOther, dcByEntry}
+use Rattle.rules.specs.Table.{Entry, Box, find, logIn, viewIn, voteIn}
+use Rattle.rules.specs.Calls.{Act, Change, nothing, puts, raises, raisesLow, prByEntry, prByDecision, lgByEntry, lgByDecision, dcSame, dcOther, dcByEntry}
 use Rattle.rules.specs.Visits.{lookUp}
 use Rattle.rules.specs.Fallback.{ivByDecision, ldByDecision, ldByEntry}
 use Rattle.table.specs.declared.State.{State}
@@ -33,11 +33,12 @@ use Rattle.steps.specs.declared.Held.the-variants.{Not, Same, Other}
 use Rattle.steps.specs.declared.Look.{Look}
 use Rattle.steps.specs.declared.Step.{Step}
 
--- the step of an act, i the place of the message's stamp
+-- the step of an act, i the place of the message's stamp; no message raises the low mark
 unfoldable pub changeBy : ℕ → Change → Changed
 changeBy i nothing = Nothing
 changeBy i (puts e) = Put i (stateIn e)
 changeBy i (raises k s) = Raise (record { 0 = k }) (record { 0 = s })
+changeBy i (raisesLow l) = Nothing
 
 unfoldable pub stepBy : ℕ → Act → Step
 stepBy i a = record { answer = a .answer; change = changeBy i (a .change) }
@@ -78,8 +79,8 @@ dcBy i told x b d (Same e) = stepBy i (dcSame b d (entryWith b e) (e .decided))
 dcBy i told x b d (Other e) = stepBy i (dcOther b d (e .decided))
 
 -- once the list meets its threshold
-unfoldable pub dcProved : Told → List Entry → List ℕ → Body → Decision → Step
-dcProved told es marks b d = stepBy (place (stampOf b) es) (dcByEntry told (boxWith es marks) b d (find (stampOf b) es))
+unfoldable pub dcProved : Told → Box → Body → Decision → Step
+dcProved told x b d = stepBy (place (stampOf b) (x .table)) (dcByEntry told x b d (find (stampOf b) (x .table)))
 
 -- ---- views
 -- the view after one that was found; 0 where none was

@@ -15,6 +15,7 @@ ghost use Rattle.records.specs.Views.{ballotPair, viewsIn};
 ghost use Rattle.records.specs.declared.ViewMark.the-variants.{VS, EL};
 ghost use Rattle.rules.specs.declared.Answer.the-variants.{Refused};
 ghost use Rattle.rules.specs.declared.Log.the-variants.{Is as logged};
+ghost use Rattle.rules.specs.declared.Version.{Version};
 ghost use Rattle.rules.specs.Answers.{View, logView};
 ghost use Rattle.rules.specs.Bodies.{Body, stampOf};
 ghost use Rattle.rules.specs.Lists.{decisionOf, kindOf, forLogging, forProof, tally, lacking};
@@ -23,7 +24,7 @@ ghost use Rattle.rules.specs.Calls.{needing, refuse, sameDecision, prByVote, pr
 ghost use Rattle.rules.specs.Visits.{lookUp};
 ghost use Rattle.rules.specs.Fallback.{reach, reached, nextView, ivByLog, ivRule, oneView, leads, takeAct, ledAct, ldRule};
 ghost use Rattle.terms.specs.declared.Decision.the-variants.{Commit as commit};
-ghost use Rattle.table.specs.Table.{Wf, WfRow, entryOf, entryWith, entries, place};
+ghost use Rattle.table.specs.Table.{Wf, WfRow, headLen, boxFrom, entryOf, entryWith, entries, place};
 ghost use Rattle.steps.specs.declared.Held.the-variants.{Not, Same};
 ghost use Rattle.steps.specs.Step.{stepBy, kept, put, castStep, heldBy, lookOf, prBy, lgBy, dcProved, above, ivBy, ldBy, blank, Beside};
 use records::ViewList;
@@ -256,14 +257,23 @@ fn cast(i: usize, log: Log, view: View, v: Vote, visited: usize) -> Step
 }
 
 // Not held: 13, else the tests. `own` entries were visited by the own look-up.
-fn pr_new(t: &[u8], n: usize, marks: &[u64], told: Told, b: &[u8], i: usize, own: usize) -> Step
-    requires { ⌜ Wf (now t) n × TxThere (now b) × (own ≡ lookUp (stampOf (now b)) (entries (now t) n)) ⌝ }
-    ensures { λ r. ⌜ r ≡ prBy i told (boxWith (entries (now (t .entry)) n) (now (marks .entry))) (now (b .entry)) Not ⌝ }
+fn pr_new(
+    h: &[u8],
+    t: &[u8],
+    n: usize,
+    marks: &[u64],
+    told: Told,
+    b: &[u8],
+    i: usize,
+    own: usize,
+) -> Step
+    requires { ⌜ Wf (now t) n × TxThere (now b) × (own ≡ lookUp (stampOf (now b)) (entries (now t) n)) × (headLen ≤ length (now h)) ⌝ }
+    ensures { λ r. ⌜ r ≡ prBy i told (boxFrom (now (h .entry)) (entries (now (t .entry)) n) (now (marks .entry))) (now (b .entry)) Not ⌝ }
 {
     if is_full(n, told) {
         return Step::refuse(Refusal::Full);
     }
-    let first = scans::first_vote(t, n, marks, b, told);
+    let first = scans::first_vote(h, t, n, marks, b, told);
     let vote = first.vote;
     let visited = own + first.visited;
     cast(i, Log::None, View(0), vote, visited)
@@ -271,6 +281,7 @@ fn pr_new(t: &[u8], n: usize, marks: &[u64], told: Told, b: &[u8], i: usize, own
 
 // Vote cast: the same vote again. Waiting: the waiting rule. None: the tests as if new, in its place.
 fn pr_undecided(
+    h: &[u8],
     t: &[u8],
     n: usize,
     marks: &[u64],
@@ -280,8 +291,8 @@ fn pr_undecided(
     own: usize,
     e: State,
 ) -> Step
-    requires { ⌜ Wf (now t) n × TxThere (now b) × (own ≡ lookUp (stampOf (now b)) (entries (now t) n)) ⌝ }
-    ensures { λ r. ⌜ r ≡ stepBy i (prByVote told (boxWith (entries (now (t .entry)) n) (now (marks .entry))) (now (b .entry)) (entryWith (now (b .entry)) e) (e .vote)) ⌝ }
+    requires { ⌜ Wf (now t) n × TxThere (now b) × (own ≡ lookUp (stampOf (now b)) (entries (now t) n)) × (headLen ≤ length (now h)) ⌝ }
+    ensures { λ r. ⌜ r ≡ stepBy i (prByVote told (boxFrom (now (h .entry)) (entries (now (t .entry)) n) (now (marks .entry))) (now (b .entry)) (entryWith (now (b .entry)) e) (e .vote)) ⌝ }
 {
     let log = e.log;
     let view = e.view;
@@ -290,13 +301,13 @@ fn pr_undecided(
         Vote::Commit => Step::keep(Answer::Voted(vote, Visited::None)),
         Vote::Abort(_) => Step::keep(Answer::Voted(vote, Visited::None)),
         Vote::Waiting => {
-            let again = scans::waiting_rule(t, n, b);
+            let again = scans::waiting_rule(h, t, n, b);
             let v = again.vote;
             let visited = own + again.visited;
             cast(i, log, view, v, visited)
         }
         Vote::None => {
-            let first = scans::first_vote(t, n, marks, b, told);
+            let first = scans::first_vote(h, t, n, marks, b, told);
             let v = first.vote;
             let visited = own + first.visited;
             cast(i, log, view, v, visited)
@@ -306,6 +317,7 @@ fn pr_undecided(
 
 // Held with this body. Decided: Decided.
 fn pr_held(
+    h: &[u8],
     t: &[u8],
     n: usize,
     marks: &[u64],
@@ -315,28 +327,28 @@ fn pr_held(
     own: usize,
     e: State,
 ) -> Step
-    requires { ⌜ Wf (now t) n × TxThere (now b) × (own ≡ lookUp (stampOf (now b)) (entries (now t) n)) ⌝ }
-    ensures { λ r. ⌜ r ≡ prBy i told (boxWith (entries (now (t .entry)) n) (now (marks .entry))) (now (b .entry)) (Same e) ⌝ }
+    requires { ⌜ Wf (now t) n × TxThere (now b) × (own ≡ lookUp (stampOf (now b)) (entries (now t) n)) × (headLen ≤ length (now h)) ⌝ }
+    ensures { λ r. ⌜ r ≡ prBy i told (boxFrom (now (h .entry)) (entries (now (t .entry)) n) (now (marks .entry))) (now (b .entry)) (Same e) ⌝ }
 {
     let decided = e.decided;
     match decided {
         Settled::Is(d) => Step::keep(Answer::Decided(d)),
-        Settled::None => pr_undecided(t, n, marks, told, b, i, own, e),
+        Settled::None => pr_undecided(h, t, n, marks, told, b, i, own, e),
     }
 }
 
 // PR. Held with another body: 9.
-pub fn pr_step(t: &[u8], n: usize, marks: &[u64], told: Told, b: &[u8]) -> Step
-    requires { ⌜ Wf (now t) n × TxThere (now b) ⌝ }
-    ensures { λ r. ⌜ r ≡ stepBy (place (stampOf (now (b .entry))) (entries (now (t .entry)) n)) (prRule told (boxWith (entries (now (t .entry)) n) (now (marks .entry))) (now (b .entry))) ⌝ }
+pub fn pr_step(h: &[u8], t: &[u8], n: usize, marks: &[u64], told: Told, b: &[u8]) -> Step
+    requires { ⌜ Wf (now t) n × TxThere (now b) × (headLen ≤ length (now h)) ⌝ }
+    ensures { λ r. ⌜ r ≡ stepBy (place (stampOf (now (b .entry))) (entries (now (t .entry)) n)) (prRule told (boxFrom (now (h .entry)) (entries (now (t .entry)) n) (now (marks .entry))) (now (b .entry))) ⌝ }
 {
     let look = look_up(t, n, b);
     let i = look.place;
     let own = look.visited;
     let held = look.held;
     match held {
-        Held::Not => pr_new(t, n, marks, told, b, i, own),
-        Held::Same(e) => pr_held(t, n, marks, told, b, i, own, e),
+        Held::Not => pr_new(h, t, n, marks, told, b, i, own),
+        Held::Same(e) => pr_held(h, t, n, marks, told, b, i, own, e),
         Held::Other(_) => Step::refuse(Refusal::OtherBody),
     }
 }
@@ -394,7 +406,7 @@ fn lg_held(i: usize, e: State, told: Told, l: VoteList) -> Step
 // LG. Not held: a new entry with vote none, if there is room. Other body: 9.
 pub fn lg_step(t: &[u8], n: usize, told: Told, b: &[u8], l: VoteList) -> Step
     requires { ⌜ Wf (now t) n × TxThere (now b) × (told .f ≤ 5) × (l .count ≤ 26) ⌝ }
-    ensures { λ r. ⌜ ((marks : List ℕ) → r ≡ stepBy (place (stampOf (now (b .entry))) (entries (now (t .entry)) n)) (lgRule told (boxWith (entries (now (t .entry)) n) marks) (now (b .entry)) (listIn l))) ⌝ }
+    ensures { λ r. ⌜ ((marks : List ℕ) (low : ℕ) (folds : List Version) → r ≡ stepBy (place (stampOf (now (b .entry))) (entries (now (t .entry)) n)) (lgRule told (boxWith (entries (now (t .entry)) n) marks low folds) (now (b .entry)) (listIn l))) ⌝ }
 {
     let look = look_up(t, n, b);
     let i = look.place;
@@ -485,7 +497,7 @@ fn dc_other(i: usize, held: Settled, d: Decision) -> Step
 // The list meets its threshold.
 fn dc_proved(t: &[u8], n: usize, told: Told, b: &[u8], d: Decision) -> Step
     requires { ⌜ Wf (now t) n × TxThere (now b) ⌝ }
-    ensures { λ r. ⌜ ((marks : List ℕ) → r ≡ dcProved told (entries (now (t .entry)) n) marks (now (b .entry)) d) ⌝ }
+    ensures { λ r. ⌜ ((marks : List ℕ) (low : ℕ) (folds : List Version) → r ≡ dcProved told (boxWith (entries (now (t .entry)) n) marks low folds) (now (b .entry)) d) ⌝ }
 {
     let look = look_up(t, n, b);
     let i = look.place;
@@ -503,7 +515,7 @@ fn dc_proved(t: &[u8], n: usize, told: Told, b: &[u8], d: Decision) -> Step
 // DC. 11 first.
 pub fn dc_step(t: &[u8], n: usize, told: Told, b: &[u8], l: VoteList) -> Step
     requires { ⌜ Wf (now t) n × TxThere (now b) × (told .f ≤ 5) × (l .count ≤ 26) ⌝ }
-    ensures { λ r. ⌜ ((marks : List ℕ) → r ≡ stepBy (place (stampOf (now (b .entry))) (entries (now (t .entry)) n)) (dcRule told (boxWith (entries (now (t .entry)) n) marks) (now (b .entry)) (listIn l))) ⌝ }
+    ensures { λ r. ⌜ ((marks : List ℕ) (low : ℕ) (folds : List Version) → r ≡ stepBy (place (stampOf (now (b .entry))) (entries (now (t .entry)) n)) (dcRule told (boxWith (entries (now (t .entry)) n) marks low folds) (now (b .entry)) (listIn l))) ⌝ }
 {
     let d = decision_of(l.decision);
     let lacks = lacking(l, proof_need(group_of(told), kind_of(l.kind), d));
@@ -515,15 +527,19 @@ pub fn dc_step(t: &[u8], n: usize, told: Told, b: &[u8], l: VoteList) -> Step
 
 // ---- RD
 
-// RD. Stamp above clock + δ: 15, else what is found, and the key's read mark raised.
-pub fn rd_step(t: &[u8], n: usize, told: Told, k: Key, s: Stamp) -> Step
-    requires { ⌜ Wf (now t) n ⌝ }
-    ensures { λ r. ⌜ ((i : ℕ) (marks : List ℕ) → r ≡ stepBy i (rdRule told (boxWith (entries (now (t .entry)) n) marks) (k .0) (s .0))) ⌝ }
+// RD. Stamp above clock + δ: 15. Stamp at or below the low mark: 18. Else what is found, and the key's read mark raised.
+pub fn rd_step(h: &[u8], t: &[u8], n: usize, told: Told, k: Key, s: Stamp) -> Step
+    requires { ⌜ Wf (now t) n × (headLen ≤ length (now h)) ⌝ }
+    ensures { λ r. ⌜ ((i : ℕ) (marks : List ℕ) → r ≡ stepBy i (rdRule told (boxFrom (now (h .entry)) (entries (now (t .entry)) n) marks) (k .0) (s .0))) ⌝ }
 {
     if scans::ahead(s, told) {
         return Step::refuse(Refusal::Ahead);
     }
-    let answer = scans::found(t, n, k, s);
+    let low = table::low_of(h);
+    if s.0 <= low.0 {
+        return Step::refuse(Refusal::Old);
+    }
+    let answer = scans::found(h, t, n, k, s);
     Step {
         answer,
         change: Change::Raise(k, s),
@@ -647,7 +663,7 @@ fn iv_held(i: usize, e: State, told: Told, b: &[u8], l: ViewList) -> Step
 // IV. Not held: 22. Other body: 9.
 pub fn iv_step(t: &[u8], n: usize, told: Told, b: &[u8], l: ViewList) -> Step
     requires { ⌜ Wf (now t) n × TxThere (now b) × (told .f ≤ 5) × (l .count ≤ 26) ⌝ }
-    ensures { λ r. ⌜ ((marks : List ℕ) → r ≡ stepBy (place (stampOf (now (b .entry))) (entries (now (t .entry)) n)) (ivRule told (boxWith (entries (now (t .entry)) n) marks) (now (b .entry)) (viewsIn VS l))) ⌝ }
+    ensures { λ r. ⌜ ((marks : List ℕ) (low : ℕ) (folds : List Version) → r ≡ stepBy (place (stampOf (now (b .entry))) (entries (now (t .entry)) n)) (ivRule told (boxWith (entries (now (t .entry)) n) marks low folds) (now (b .entry)) (viewsIn VS l))) ⌝ }
 {
     let look = look_up(t, n, b);
     let i = look.place;
@@ -785,7 +801,7 @@ fn ld_held(i: usize, e: State, told: Told, b: &[u8], l: ViewList) -> Step
 // LD. Not held: a new entry with vote none, if there is room. Other body: 9.
 pub fn ld_step(t: &[u8], n: usize, told: Told, b: &[u8], l: ViewList) -> Step
     requires { ⌜ Wf (now t) n × TxThere (now b) × (told .f ≤ 5) × (l .count ≤ 26) ⌝ }
-    ensures { λ r. ⌜ ((marks : List ℕ) → r ≡ stepBy (place (stampOf (now (b .entry))) (entries (now (t .entry)) n)) (ldRule told (boxWith (entries (now (t .entry)) n) marks) (now (b .entry)) (viewsIn EL l))) ⌝ }
+    ensures { λ r. ⌜ ((marks : List ℕ) (low : ℕ) (folds : List Version) → r ≡ stepBy (place (stampOf (now (b .entry))) (entries (now (t .entry)) n)) (ldRule told (boxWith (entries (now (t .entry)) n) marks low folds) (now (b .entry)) (viewsIn EL l))) ⌝ }
 {
     let look = look_up(t, n, b);
     let i = look.place;

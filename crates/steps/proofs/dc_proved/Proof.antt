@@ -38,15 +38,15 @@ dc-other-requires c κs = search needs
 
 returns : tie.Need-returns
 unfolding dcBy
-returns c marks = c .dc-unheld .ensures (boxWith _ marks) _ (tab-length _ _ _) ∙ dc-looked _ _ _ (c .before .before .before .look-up .ensures .0) _ (c .before .enum-told .given .1) _ marks _
+returns c marks low folds = c .dc-unheld .ensures (boxWith _ marks low folds) _ (tab-length _ _ _) ∙ dc-looked (boxWith _ marks low folds) _ _ (c .before .before .before .look-up .ensures .0) _ (c .before .enum-told .given .1) _ _
 
 returns-2 : tie.Need-returns-2
 unfolding dcBy
-returns-2 c marks = c .dc-same .ensures (c .before .before .before .before .before .before .before .args .b .now) ∙ dc-looked _ _ _ (c .before .before .before .before .look-up .ensures .0) _ (c .before .before .held .given .1) _ marks _
+returns-2 c marks low folds = c .dc-same .ensures (c .before .before .before .before .before .before .before .args .b .now) ∙ dc-looked (boxWith _ marks low folds) _ _ (c .before .before .before .before .look-up .ensures .0) _ (c .before .before .held .given .1) _ _
 
 returns-3 : tie.Need-returns-3
 unfolding dcBy
-returns-3 c marks = c .dc-other .ensures (c .before .before .before .before .before .before .before .args .b .now) ∙ dc-looked _ _ _ (c .before .before .before .before .look-up .ensures .0) _ (c .before .before .held2 .given .1) _ marks _
+returns-3 c marks low folds = c .dc-other .ensures (c .before .before .before .before .before .before .before .args .b .now) ∙ dc-looked (boxWith _ marks low folds) _ _ (c .before .before .before .before .look-up .ensures .0) _ (c .before .before .held2 .given .1) _ _
 
 pub dc-proved-spec : {M : Type 1} → statement M
 dc-proved-spec =

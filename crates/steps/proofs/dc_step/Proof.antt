@@ -1,4 +1,5 @@
 use mathlib.Core.Path.{sym, _∙_, ap}
+use Rattle.rules.specs.Table.{boxWith}
 use Rattle.steps.proofs.Tallying.{proof-small}
 use Rattle.steps.proofs.Rules.{dc-few, dc-enough}
 use native.Mathlib.Omega.{arith}
@@ -34,13 +35,13 @@ refuse-requires : tie.Need-refuse-requires
 refuse-requires c κs = search needs
 
 returns : tie.Need-returns
-returns c marks = c .refuse .ensures ∙ dc-few _ _ _ (c .before .before .lacking .ensures) _ _ (c .before .before .before .before .before .before .decision-of .ensures) _ (c .before .before .before .before .kind-of .ensures) (c .before .before .before .proof-need .ensures ∙ (rw (c .before .before .before .before .before .group-of .ensures))) _ marks _ (c .before .if1 .taken)
+returns c marks low folds = c .refuse .ensures ∙ dc-few _ _ _ (c .before .before .lacking .ensures) _ _ (c .before .before .before .before .before .before .decision-of .ensures) _ (c .before .before .before .before .kind-of .ensures) (c .before .before .before .proof-need .ensures ∙ (rw (c .before .before .before .before .before .group-of .ensures))) (boxWith _ marks low folds) _ (c .before .if1 .taken)
 
 dc-proved-requires : tie.Need-dc-proved-requires
 dc-proved-requires c κs = search needs
 
 returns-2 : tie.Need-returns-2
-returns-2 c marks = c .dc-proved .ensures marks ∙ dc-enough _ _ _ (c .before .before .lacking .ensures) _ _ (c .before .before .before .before .before .before .decision-of .ensures) _ (c .before .before .before .before .kind-of .ensures) (c .before .before .before .proof-need .ensures ∙ (rw (c .before .before .before .before .before .group-of .ensures))) _ marks _ (c .before .if1 .left)
+returns-2 c marks low folds = c .dc-proved .ensures marks low folds ∙ dc-enough _ _ _ (c .before .before .lacking .ensures) _ _ (c .before .before .before .before .before .before .decision-of .ensures) _ (c .before .before .before .before .kind-of .ensures) (c .before .before .before .proof-need .ensures ∙ (rw (c .before .before .before .before .before .group-of .ensures))) (boxWith _ marks low folds) _ (c .before .if1 .left)
 
 pub dc-step-spec : {M : Type 1} → statement M
 dc-step-spec =

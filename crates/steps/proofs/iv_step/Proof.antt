@@ -1,4 +1,5 @@
 use mathlib.Core.Path.{_∙_}
+use Rattle.rules.specs.Table.{boxWith}
 use Rattle.steps.specs.Step.{ivBy}
 use Rattle.steps.proofs.Rules.{iv-looked}
 use borrow.Author.Needs.{needs}
@@ -28,14 +29,14 @@ refuse-requires-2 c κs = search needs
 
 returns : tie.Need-returns
 unfolding ivBy
-returns c marks = c .refuse .ensures ∙ iv-looked _ _ _ (c .before .before .before .look-up .ensures .0) _ (c .before .enum-told .given .1) _ marks _
+returns c marks low folds = c .refuse .ensures ∙ iv-looked (boxWith _ marks low folds) _ _ (c .before .before .before .look-up .ensures .0) _ (c .before .enum-told .given .1) _ _
 
 returns-2 : tie.Need-returns-2
-returns-2 c marks = c .iv-held .ensures ∙ iv-looked _ _ _ (c .before .before .before .before .look-up .ensures .0) _ (c .before .before .held .given .1) _ marks _
+returns-2 c marks low folds = c .iv-held .ensures ∙ iv-looked (boxWith _ marks low folds) _ _ (c .before .before .before .before .look-up .ensures .0) _ (c .before .before .held .given .1) _ _
 
 returns-3 : tie.Need-returns-3
 unfolding ivBy
-returns-3 c marks = c .refuse2 .ensures ∙ iv-looked _ _ _ (c .before .before .before .look-up .ensures .0) _ (c .before .enum-told2 .given .1) _ marks _
+returns-3 c marks low folds = c .refuse2 .ensures ∙ iv-looked (boxWith _ marks low folds) _ _ (c .before .before .before .look-up .ensures .0) _ (c .before .enum-told2 .given .1) _ _
 
 pub iv-step-spec : {M : Type 1} → statement M
 iv-step-spec =

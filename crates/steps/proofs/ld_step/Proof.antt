@@ -37,14 +37,14 @@ refuse-requires : tie.Need-refuse-requires
 refuse-requires c κs = search needs
 
 returns : tie.Need-returns
-returns c marks = c .ld-undecided .ensures none (beside-blank _ (c .before .blank .ensures)) ∙ (ld-new _ _ (boxWith _ marks) _ _ _ _ (tab-length _ _ _) (c .before .before .is-full .ensures) ∙ ld-looked _ _ _ (c .before .before .before .before .before .look-up .ensures .0) _ (c .before .before .before .enum-told .given .1) _ marks _)
+returns c marks low folds = c .ld-undecided .ensures none (beside-blank _ (c .before .blank .ensures)) ∙ (ld-new _ _ (boxWith _ marks low folds) _ _ _ _ (tab-length _ _ _) (c .before .before .is-full .ensures) ∙ ld-looked (boxWith _ marks low folds) _ _ (c .before .before .before .before .before .look-up .ensures .0) _ (c .before .before .before .enum-told .given .1) _ _)
 
 returns-2 : tie.Need-returns-2
-returns-2 c marks = c .ld-held .ensures (boxWith _ marks) ∙ ld-looked _ _ _ (c .before .before .before .before .look-up .ensures .0) _ (c .before .before .held .given .1) _ marks _
+returns-2 c marks low folds = c .ld-held .ensures (boxWith _ marks low folds) ∙ ld-looked (boxWith _ marks low folds) _ _ (c .before .before .before .before .look-up .ensures .0) _ (c .before .before .held .given .1) _ _
 
 returns-3 : tie.Need-returns-3
 unfolding ldBy
-returns-3 c marks = c .refuse .ensures ∙ ld-looked _ _ _ (c .before .before .before .look-up .ensures .0) _ (c .before .enum-told2 .given .1) _ marks _
+returns-3 c marks low folds = c .refuse .ensures ∙ ld-looked (boxWith _ marks low folds) _ _ (c .before .before .before .look-up .ensures .0) _ (c .before .enum-told2 .given .1) _ _
 
 pub ld-step-spec : {M : Type 1} → statement M
 ld-step-spec =

@@ -42,14 +42,14 @@ refuse-requires : tie.Need-refuse-requires
 refuse-requires c κs = search needs
 
 returns : tie.Need-returns
-returns c marks = c .lg-unlogged .ensures _ none refl refl ∙ (lg-new _ _ (boxWith _ marks) _ _ _ _ (tab-length _ _ _) (c .before .is-full .ensures) ∙ lg-looked _ _ _ (c .before .before .before .before .look-up .ensures .0) _ (c .before .before .enum-told .given .1) _ marks _)
+returns c marks low folds = c .lg-unlogged .ensures _ none refl refl ∙ (lg-new _ _ (boxWith _ marks low folds) _ _ _ _ (tab-length _ _ _) (c .before .is-full .ensures) ∙ lg-looked (boxWith _ marks low folds) _ _ (c .before .before .before .before .look-up .ensures .0) _ (c .before .before .enum-told .given .1) _ _)
 
 returns-2 : tie.Need-returns-2
-returns-2 c marks = c .lg-held .ensures (boxWith _ marks) _ ∙ lg-looked _ _ _ (c .before .before .before .before .look-up .ensures .0) _ (c .before .before .held .given .1) _ marks _
+returns-2 c marks low folds = c .lg-held .ensures (boxWith _ marks low folds) _ ∙ lg-looked (boxWith _ marks low folds) _ _ (c .before .before .before .before .look-up .ensures .0) _ (c .before .before .held .given .1) _ _
 
 returns-3 : tie.Need-returns-3
 unfolding lgBy
-returns-3 c marks = c .refuse .ensures ∙ lg-looked _ _ _ (c .before .before .before .look-up .ensures .0) _ (c .before .enum-told2 .given .1) _ marks _
+returns-3 c marks low folds = c .refuse .ensures ∙ lg-looked (boxWith _ marks low folds) _ _ (c .before .before .before .look-up .ensures .0) _ (c .before .enum-told2 .given .1) _ _
 
 pub lg-step-spec : {M : Type 1} → statement M
 lg-step-spec =

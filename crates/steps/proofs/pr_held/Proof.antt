@@ -1,4 +1,5 @@
 use mathlib.Core.Path.{sym, _∙_, ap}
+use Rattle.table.specs.Table.{boxFrom}
 use Rattle.steps.proofs.Entries.{pr-decided, pr-open}
 use native.Mathlib.Omega.{arith}
 use borrow.Author.Needs.{needs}
@@ -22,10 +23,10 @@ pr-undecided-requires : tie.Need-pr-undecided-requires
 pr-undecided-requires c κs = search needs
 
 returns : tie.Need-returns
-returns c = c .keep .ensures ∙ pr-decided _ _ _ _ _ _ _ (c .before .before .decided .given .1)
+returns c = c .keep .ensures ∙ pr-decided _ _ (boxFrom _ _ _) _ _ _ (c .before .before .decided .given .1)
 
 returns-2 : tie.Need-returns-2
-returns-2 c = c .pr-undecided .ensures ∙ pr-open _ _ _ _ _ _ (c .before .enum-told .given .1)
+returns-2 c = c .pr-undecided .ensures ∙ pr-open _ _ (boxFrom _ _ _) _ _ (c .before .enum-told .given .1)
 
 pub pr-held-spec : {M : Type 1} → statement M
 pr-held-spec =
