@@ -17,7 +17,7 @@ use Rattle.rules.specs.Table.{Box, Entry, find, live}
 use Rattle.rules.specs.Tests.{foldAbove, isFolded, isLow, liveWriter, names, namesNone, readUndercut, test2, test3, test4, undercut}
 use Rattle.rules.specs.Visits.{fails3, fails4, keyByKey, lookUp, newLast, through, unless, versionUp}
 use Rattle.rules.specs.Visits.{visits2, visits3, visits4, waitingVisits}
-use Rattle.rules.proofs.Laws.{decideT, not-eqb, pick-elim}
+use Rattle.rules.proofs.Laws.{decideT, pick-elim}
 
 true-false : {A : Type 0} → _≡_ {A = Bool} true false → A
 true-false h = let z : _≡_ {A = ℕ} 0 1 = cc in absurd (omega arith)
