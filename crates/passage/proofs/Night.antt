@@ -7,6 +7,7 @@ use Rattle.passage.specs.Passages.{passageWrong, versionsWrong, valuesWr
 use Rattle.passage.specs.Corrections.{turned, passageTx, madeBy, madeAfter, directionCorrected, entered}
 use Rattle.passage.specs.Register.{seenIn, reportIn}
 use Rattle.passage.specs.Night.{takes, detected, evening, night, morning, told, Incident}
+use Rattle.passage.specs.Night.{lifted, eveningGone, nightAfter, nightGone, morningAfter, IncidentLetGo}
 
 unfoldable judging : ℕ
 unfolding passageWrong versionsWrong valuesWrong seenWrong fromLead reported reportedBy reportOf sightBy sightOf reportBy reportFrom
@@ -23,3 +24,11 @@ looking = 0
 pub incident : Incident
 unfolding running judging making looking
 incident = refl
+
+unfoldable letting : ℕ
+unfolding lifted eveningGone nightAfter nightGone morningAfter
+letting = 0
+
+pub incident-let-go : IncidentLetGo
+unfolding running judging making looking letting
+incident-let-go = (refl, refl)

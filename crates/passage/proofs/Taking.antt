@@ -1,9 +1,9 @@
--- What a box has taken by DC stands in it committed, whatever came since.
-use Prim.Native.Nat.{ℕ}
+-- What a box takes by DC is committed in it then, above its low mark; and moves leave it.
+use Prim.Native.Nat.{ℕ, _<_}
 use mathlib.Core.Path.{_≡_, refl, sym, ap, _∙_}
 use mathlib.Core.Logic.{_⊎_, inl, inr}
 use mathlib.Core.Option.{Option, some, none}
-use mathlib.Core.List.{List, [], _∷_}
+use mathlib.Core.List.{List, _∷_}
 use native.Mathlib.Omega.{arith}
 use lib.Dec.{eqb, eqb-refl}
 use Rattle.terms.specs.declared.Refusal.{Refusal}
@@ -20,16 +20,17 @@ use Rattle.rules.specs.Bodies.{Body, stampOf, sameBody}
 use Rattle.rules.specs.Lists.{decisionOf, meets, forProof, kindOf}
 use Rattle.rules.specs.declared.Told.{Told}
 use Rattle.rules.specs.Table.{Box, Entry, find, put}
-use Rattle.rules.specs.Calls.{Act, keep, refuse, castAct, logAct, decideAct, lookAct, needing, roomFor, isFull, sameDecision, dcSame, dcOther, dcByEntry, dcRule}
+use Rattle.rules.specs.Calls.{Act, keep, refuse, castAct, logAct, decideAct, needing, roomFor, isFull, sameDecision, oldWrong}
+use Rattle.rules.specs.Calls.{dcSame, dcOther, dcByEntry, dcRule}
 use Rattle.rules.specs.Fallback.{electAct}
-use Rattle.rules.specs.Act.{EntryPoint, tableAfter, boxAfter, after, rule, dueAct, markedAct, markBy, act}
+use Rattle.rules.specs.Act.{EntryPoint, tableAfter, lowAfter, boxAfter, after, unlessOld, rule, dueAct, markBy, act}
 use Rattle.rules.specs.System.{Event, toldAt, boxAt, answerTo}
-use Rattle.rules.proofs.Laws.{pick-elim, pick-true, sameBody-eq, sameDecision-eq, find-in, find-put-same}
-use Rattle.rules.proofs.Moves.{some-eq, un-settled, Prior, Move, quiet, looks, again, casts, logs-first, decides, replaces, takes, elects}
-use Rattle.rules.proofs.Deeds.{guarded-elim}
+use Rattle.rules.proofs.Laws.{pick-elim, pick-true, sameBody-eq, sameDecision-eq, find-put-same}
+use Rattle.rules.proofs.Moves.{some-eq, un-settled, Prior, Move, quiet, again, casts, logs-first, decides, replaces, takes, elects}
+use Rattle.rules.proofs.Deeds.{guarded-elim, act-marked, not-old}
 use Rattle.rules.proofs.Kept.{put-cases}
-use Rattle.rules.proofs.Trace.{table, Step, still, arrives, step}
-use Rattle.passage.specs.Register.{Takes, Taken, TakenStands}
+use Rattle.rules.proofs.Trace.{table, low}
+use Rattle.passage.specs.Register.{Takes}
 
 -- found by its stamp, committed
 pub record Held (t : List Entry) (b : Body) : Type 0 where
@@ -51,11 +52,10 @@ put-stays t n c e h free = go (put-cases (stampOf c) n t)
 open-there : {t : List Entry} {b : Body} {o : Option Entry} → Prior t b o → (e : Entry) → e.decided ≡ settled commit → find (stampOf b) t ≡ some e → ⊥
 open-there p e d q = un-settled (p .undecided e (sym (p .at) ∙ q)) d
 
-stays : {f : ℕ} {x : Box} {way : EntryPoint} {m : List ℕ} {b : Body} {a : Act} → Move f x way m b a → (c : Body) (e : Entry)
+pub stays : {f : ℕ} {x : Box} {way : EntryPoint} {m : List ℕ} {b : Body} {a : Act} → Move f x way m b a → (c : Body) (e : Entry)
     → find (stampOf c) x.table ≡ some e → e.decided ≡ settled commit → find (stampOf c) (tableAfter x.table (a .change)) ≡ some e
-unfolding castAct logAct electAct decideAct lookAct tableAfter
+unfolding castAct logAct electAct decideAct tableAfter
 stays (quiet n) c e h d = h
-stays (looks k s) c e h d = h
 stays (again w o p g n) c e h d = h
 stays {x = x} (casts v m o p n r cl) c e h d = put-stays x.table _ c e h (open-there p e d)
 stays {x = x} (logs-first l o w k y p n) c e h d = put-stays x.table _ c e h (open-there p e d)
@@ -65,89 +65,80 @@ stays {x = x} (decides l o w p) c e h d = put-stays x.table _ c e h (open-there 
 stays {x = x} (replaces l o w p g) c e h d = put-stays x.table _ c e h (λ q. p .not-committed (rw (some-eq (p .at) q) d))
 
 -- ---- what is taken is held
-module _ (told : Told) (x : Box) (b : Body) where
-  -- an act that answers Done leaves b committed
-  unfoldable Commits : Act → Type 0
-  Commits a = a .answer ≡ Done → Held (tableAfter x.table (a .change)) b
+-- what an act leaves that answers Done: b committed, above the low mark, which stays
+pub record Now (x : Box) (b : Body) (a : Act) : Type 0 where
+  pub high : x.low < stampOf b
+  pub low-same : lowAfter x.low (a .change) ≡ x.low
+  pub held : Held (tableAfter x.table (a .change)) b
 
-  refused : (r : Refusal) → Commits (refuse r)
-  unfolding Commits
-  refused r q = let z : _≡_ {A = ℕ} 0 1 = cc in absurd (omega arith)
+unfoldable Commits : Box → Body → Act → Type 0
+Commits x b a = a .answer ≡ Done → Now x b a
 
-  decided : (o : Option Entry) → Commits (decideAct b commit o)
-  unfolding Commits decideAct tableAfter
-  decided o q = record { entry = _; at = find-put-same _ x.table; body = refl; committed = refl }
+refused : (x : Box) (b : Body) (r : Refusal) → Commits x b (refuse r)
+unfolding Commits
+refused x b r q = let z : _≡_ {A = ℕ} 0 1 = cc in absurd (omega arith)
 
-  again-done : (e : Entry) → find (stampOf b) x.table ≡ some e → e.body ≡ b → e.decided ≡ settled commit → Commits (keep Done)
-  unfolding Commits tableAfter
-  again-done e h s q _ = record { entry = e; at = h; body = s; committed = q }
+module _ (told : Told) (x : Box) (b : Body) (high : x.low < stampOf b) where
+  decided : (o : Option Entry) → Commits x b (decideAct b commit o)
+  unfolding Commits decideAct tableAfter lowAfter
+  decided o q =
+      record { high = high; low-same = refl; held = record { entry = _; at = find-put-same _ x.table; body = refl; committed = refl } }
 
-  same : (e : Entry) → find (stampOf b) x.table ≡ some e → e.body ≡ b → (o : Settled) → e.decided ≡ o → Commits (dcSame b commit e o)
+  again-done : (e : Entry) → find (stampOf b) x.table ≡ some e → e.body ≡ b → e.decided ≡ settled commit → Commits x b (keep Done)
+  unfolding Commits tableAfter lowAfter
+  again-done e h s q _ = record { high = high; low-same = refl; held = record { entry = e; at = h; body = s; committed = q } }
+
+  same : (e : Entry) → find (stampOf b) x.table ≡ some e → e.body ≡ b → (o : Settled) → e.decided ≡ o → Commits x b (dcSame b commit e o)
   unfolding dcSame
   same e h s unsettled q = decided (some e)
   same e h s (settled d) q =
-      pick-elim Commits (sameDecision d commit) (λ k. again-done e h s (q ∙ ap settled (sameDecision-eq d commit k))) (λ k. refused _)
+      pick-elim (Commits x b) (sameDecision d commit) (λ k. again-done e h s (q ∙ ap settled (sameDecision-eq d commit k))) (λ k. refused x b _)
 
-  other : (o : Settled) → Commits (dcOther b commit o)
+  other : (o : Settled) → Commits x b (dcOther b commit o)
   unfolding dcOther
-  other (settled commit) = refused _
+  other (settled commit) = refused x b _
   other (settled abort) = decided none
   other unsettled = decided none
 
-  by-entry : (o : Option Entry) → find (stampOf b) x.table ≡ o → Commits (dcByEntry told x b commit o)
+  by-entry : (o : Option Entry) → find (stampOf b) x.table ≡ o → Commits x b (dcByEntry told x b commit o)
   unfolding dcByEntry roomFor
-  by-entry none h = pick-elim Commits (isFull told x) (λ k. refused _) (λ k. decided none)
+  by-entry none h = pick-elim (Commits x b) (isFull told x) (λ k. refused x b _) (λ k. decided none)
   by-entry (some e) h =
-      pick-elim Commits (sameBody e.body b) (λ k. same e h (sameBody-eq e.body b k) e.decided refl) (λ k. other e.decided)
+      pick-elim (Commits x b) (sameBody e.body b) (λ k. same e h (sameBody-eq e.body b k) e.decided refl) (λ k. other e.decided)
 
-  by-rule : (l : Vl) → decisionOf (l .decision) ≡ commit → Commits (dcRule told x b l)
+  by-rule : (l : Vl) → decisionOf (l .decision) ≡ commit → Commits x b (dcRule told x b l)
   unfolding dcRule needing
   by-rule l e =
-      pick-elim Commits (meets (forProof told.f (kindOf (l .kind)) (decisionOf (l .decision))) l)
+      pick-elim (Commits x b) (meets (forProof told.f (kindOf (l .kind)) (decisionOf (l .decision))) l)
       (λ k. rw e (by-entry (find (stampOf b) x.table) refl))
-      (λ k. refused _)
+      (λ k. refused x b _)
 
-act-commits : (told : Told) (x : Box) (way : EntryPoint) (m : List ℕ) → markBy way m ≡ Is DC → decisionOf (listBehind m .decision) ≡ commit
-    → Commits told x (txPart m) (act way told x m)
-unfolding act markedAct dueAct rule
-act-commits told x way m q e =
-    guarded-elim (Commits told x (txPart m)) _ _
-    (λ _. rw q (guarded-elim (Commits told x (txPart m)) _ _ (λ _. by-rule told x (txPart m) (listBehind m) e) (refused told x (txPart m))))
-    (refused told x (txPart m))
+module _ (told : Told) (x : Box) (way : EntryPoint) (m : List ℕ) where
+  -- 14, the reading, 18
+  young-commits : (l : Vl) → decisionOf (l .decision) ≡ commit → Commits x (txPart m) (unlessOld x (txPart m) (dcRule told x (txPart m) l))
+  unfolding unlessOld
+  young-commits l e =
+      guarded-elim (Commits x (txPart m)) (oldWrong x.low (stampOf (txPart m))) _
+      (λ h. by-rule told x (txPart m) (not-old x.low (stampOf (txPart m)) h) l e)
+      (refused x (txPart m))
 
--- ---- along a trace
+  act-commits : markBy way m ≡ Is DC → decisionOf (listBehind m .decision) ≡ commit → Commits x (txPart m) (act way told x m)
+  unfolding act dueAct rule
+  act-commits q e =
+      guarded-elim (Commits x (txPart m)) _ _
+      (λ _.
+      rw (act-marked told x way m DC q)
+      (guarded-elim (Commits x (txPart m)) _ _ (λ _. young-commits (listBehind m) e) (refused x (txPart m))))
+      (refused x (txPart m))
+
 module _ (f i : ℕ) where
-  taken-now : (b : Body) (e : Event) (es : List Event) → Takes f i b e es → Held (table f i (e ∷ es)) b
-  unfolding Commits table boxAt after boxAfter answerTo
+  pub taken-now : (b : Body) (e : Event) (es : List Event) → Takes f i b e es → (low f i (e ∷ es) < stampOf b) × Held (table f i (e ∷ es)) b
+  unfolding Commits table low boxAt after boxAfter answerTo
   taken-now b e es t =
       let doing = act e.entry (toldAt f e) (boxAt f i es) e.message in
-      let now : table f i (e ∷ es) ≡ tableAfter (table f i es) (doing .change)
-      = ap (λ (x : Box). x.table) (pick-true (eqb e.box i) _ _ (rw (t .here) (eqb-refl i))) in
+      let now : boxAt f i (e ∷ es) ≡ boxAfter (boxAt f i es) (doing .change) = pick-true (eqb e.box i) _ _ (rw (t .here) (eqb-refl i)) in
       let said : doing .answer ≡ Done = sym (ap (λ (j : ℕ). act e.entry (toldAt f e) (boxAt f j es) e.message .answer) (t .here)) ∙ t .done in
-      rw (now, ← t .body) (act-commits (toldAt f e) (boxAt f i es) e.entry e.message (t .mark) (t .names) said)
-
-  still-held : (b : Body) (e : Event) (es : List Event) → Held (table f i es) b → Held (table f i (e ∷ es)) b
-  unfolding table
-  still-held b e es h = go (step f i e es)
-    where
-      go : Step f i e es → Held (table f i (e ∷ es)) b
-      go (still s) = rw (s .table-now) h
-      go (arrives s) =
-          record {
-            entry = h .entry;
-            at = rw (s .table-now) (stays (s .move) b (h .entry) (h .at) (h .committed));
-            body = h .body;
-            committed = h .committed;
-          }
-
-  held : (b : Body) (es : List Event) → Taken f i b es → Held (table f i es) b
-  unfolding Taken
-  held b [] t = absurd t
-  held b (e ∷ es) (inl t) = taken-now b e es t
-  held b (e ∷ es) (inr t) = still-held b e es (held b es t)
-
-pub taken-stands : TakenStands
-unfolding table
-taken-stands f i b es t =
-    let h = held f i b es t in
-    record { entry = h .entry; inside = find-in (stampOf b) (table f i es) (h .entry) (h .at); body = h .body; committed = h .committed }
+      let y : Now (boxAt f i es) b doing
+      = rw (t .body) at (act-commits (toldAt f e) (boxAt f i es) e.entry e.message (t .mark) (t .names) said) in
+      let l : boxAt f i (e ∷ es) .low ≡ boxAt f i es .low = ap (λ (x : Box). x.low) now ∙ y .low-same in
+      (rw l (y .high), rw (ap (λ (x : Box). x.table) now) (y .held))

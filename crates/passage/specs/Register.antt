@@ -7,7 +7,7 @@ use mathlib.Core.List.{List, [], _∷_, List·Memᴰ as In}
 use lib.Dec.{T}
 use Rattle.terms.specs.Group.{boxes}
 use Rattle.records.specs.Tx.{txIn, txOf}
-use Rattle.records.specs.Contents.{rdWrong}
+use Rattle.records.specs.Contents.{largestKey, rdWrong}
 use Rattle.records.specs.Cutting.{txPart}
 use Rattle.records.specs.Messages.{listBehind}
 use Rattle.records.specs.declared.Mark.the-variants.{DC}
@@ -18,7 +18,7 @@ use Rattle.rules.specs.declared.Answer.the-variants.{Done}
 use Rattle.rules.specs.declared.Settled.the-variants.{Is as settled}
 use Rattle.rules.specs.Bodies.{Body, stampOf, writesKey}
 use Rattle.rules.specs.Lists.{decisionOf}
-use Rattle.rules.specs.Table.{Box, Entry}
+use Rattle.rules.specs.Table.{Box, Entry, foldedAt}
 use Rattle.rules.specs.Calls.{rdAnswer, raises}
 use Rattle.rules.specs.Act.{boxAfter, markBy}
 use Rattle.rules.specs.System.{Event, Fair, Proof, answerTo, boxAt, howMany}
@@ -119,9 +119,25 @@ unfoldable pub Taken : ℕ → ℕ → Body → List Event → Type 0
 Taken f i b [] = ⊥
 Taken f i b (e ∷ es) = Takes f i b e es ⊎ Taken f i b es
 
--- what a box has taken stands in it, whatever came since
+-- A11: let go by a raised low mark, and folded: at each key that it writes the folded version is its own or a newer one
+pub record LetGo (x : Box) (b : Body) : Type 0 where
+  pub below : stampOf b ≤ x .low
+  pub folded : (k : ℕ) → k ≤ largestKey → T (writesKey b k) → stampOf b ≤ foldedAt x k
+
+-- what a box has taken stands in it or was let go, whatever came since; and what stands in it committed it has taken
 abbrev pub TakenStands : Type 0
-TakenStands = (f i : ℕ) (b : Body) (es : List Event) → Taken f i b es → Stands (boxAt f i es) b
+TakenStands = (f i : ℕ) (b : Body) (es : List Event) → Taken f i b es → Stands (boxAt f i es) b ⊎ LetGo (boxAt f i es) b
+
+abbrev pub StandsTaken : Type 0
+StandsTaken = (f i : ℕ) (b : Body) (es : List Event) → Stands (boxAt f i es) b → Taken f i b es
+
+-- where no low mark was raised, all that was taken stands
+abbrev pub AllStand : Type 0
+AllStand = (f i : ℕ) (b : Body) (es : List Event) → boxAt f i es .low ≡ 0 → Taken f i b es → Stands (boxAt f i es) b
+
+-- at one box one body is taken under a stamp, though it was let go since
+abbrev pub TakenOnce : Type 0
+TakenOnce = (f i : ℕ) (b c : Body) (es : List Event) → Taken f i b es → Taken f i c es → stampOf b ≡ stampOf c → b ≡ c
 
 -- a passage's transaction that is the last one is what every RD shows: an entry, and the direction's correction
 abbrev pub EntryShown : Type 0
@@ -141,20 +157,42 @@ ReportBack = (x y z : Box) (p q r s : ℕ) (seen : Seen) (v : Values) (b c d : B
     → MadeAs (directionCorrected p (seenIn y p r) (stampOf d)) d → Last z p s d
     → reportIn z p s ≡ reportIn x p q
 
--- "from any two boxes that have taken the same decisions": the same bodies stand committed in them
+-- "from any two boxes that have taken the same decisions": the same bodies, though one has let go what the other holds; at a stamp that neither
+-- refuses as old (18)
+abbrev pub SameTaken : ℕ → ℕ → List Event → ℕ → ℕ → List Event → Type 0
+SameTaken f i es g j ds = (b : Body) → (Taken f i b es → Taken g j b ds) × (Taken g j b ds → Taken f i b es)
+
+abbrev pub SameReports : Type 0
+SameReports = (f g i j : ℕ) (es ds : List Event) → SameTaken f i es g j ds → (p s : ℕ) → boxAt f i es .low < s → boxAt g j ds .low < s
+    → reportIn (boxAt f i es) p s ≡ reportIn (boxAt g j ds) p s
+
+-- and from any two that never raised a low mark and in which the same bodies stand committed
 abbrev pub SameCommitted : Box → Box → Type 0
 SameCommitted x y = (b : Body) → (Stands x b → Stands y b) × (Stands y b → Stands x b)
 
-abbrev pub SameReports : Type 0
-SameReports = (f g i j : ℕ) (es ds : List Event) → SameCommitted (boxAt f i es) (boxAt g j ds) → (p s : ℕ)
-    → reportIn (boxAt f i es) p s ≡ reportIn (boxAt g j ds) p s
+abbrev pub SameStanding : Type 0
+SameStanding = (f g i j : ℕ) (es ds : List Event) → boxAt f i es .low ≡ 0 → boxAt g j ds .low ≡ 0 → SameCommitted (boxAt f i es) (boxAt g j ds)
+    → (p s : ℕ) → reportIn (boxAt f i es) p s ≡ reportIn (boxAt g j ds) p s
 
--- the same on a box that has taken all three, at three moments of its own
+-- b is the last that box i has taken of passage p, looked at from stamp s: "with no other committed writer of the four keys between"; the look is
+-- not refused as old
+pub record LastTaken (f i : ℕ) (es : List Event) (p s : ℕ) (b : Body) : Type 0 where
+  pub taken : Taken f i b es
+  pub below : stampOf b < s
+  pub high : boxAt f i es .low < s
+  pub alone : (c : Body) → Taken f i c es → (n : ℕ) → n < 4 → T (writesKey c (keyAt p n)) → stampOf c < s → stampOf b ≤ stampOf c → c ≡ b
+
+-- where no low mark was raised that is: taken, and alone among what stands
+abbrev pub AloneTaken : Type 0
+AloneTaken = (f i : ℕ) (es : List Event) (p s : ℕ) (b : Body) → boxAt f i es .low ≡ 0 → Taken f i b es → stampOf b < s → Alone (boxAt f i es) p s b
+    → LastTaken f i es p s b
+
+-- the same on a box that has taken all three, at three moments of its own; each may have been let go by then
 abbrev pub BoxBack : Type 0
 BoxBack = (f i : ℕ) (es ds cs : List Event) (p q r s : ℕ) (seen : Seen) (v : Values) (b c d : Body)
-    → MadeAs (entered p seen (stampOf b) v) b → Taken f i b es → stampOf b < q → Alone (boxAt f i es) p q b
-    → MadeAs (directionCorrected p (seenIn (boxAt f i es) p q) (stampOf c)) c → Taken f i c ds → stampOf c < r → Alone (boxAt f i ds) p r c
-    → MadeAs (directionCorrected p (seenIn (boxAt f i ds) p r) (stampOf d)) d → Taken f i d cs → stampOf d < s → Alone (boxAt f i cs) p s d
+    → MadeAs (entered p seen (stampOf b) v) b → LastTaken f i es p q b
+    → MadeAs (directionCorrected p (seenIn (boxAt f i es) p q) (stampOf c)) c → LastTaken f i ds p r c
+    → MadeAs (directionCorrected p (seenIn (boxAt f i ds) p r) (stampOf d)) d → LastTaken f i cs p s d
     → reportIn (boxAt f i cs) p s ≡ reportIn (boxAt f i es) p q
 
 -- made of one look: an entry, a correction, the direction's correction

@@ -26,6 +26,9 @@ number-requires c κs = search needs
 enum-told-6 : tie.Need-enum-told-6
 enum-told-6 c = search needs
 
+enum-told-7 : tie.Need-enum-told-7
+enum-told-7 c = search needs
+
 returns : tie.Need-returns
 returns c = search needs
 
@@ -47,6 +50,9 @@ returns-6 c = rw (c .before .before .a .given .1, c .number .ensures)
 returns-7 : tie.Need-returns-7
 returns-7 c = search needs
 
+returns-8 : tie.Need-returns-8
+returns-8 c = search needs
+
 pub unfound-spec : {M : Type 1} → statement M
 unfound-spec =
     tie.close
@@ -59,10 +65,12 @@ unfound-spec =
     enum-known-a
     number-requires
     enum-told-6
+    enum-told-7
     returns
     returns-2
     returns-3
     returns-4
     returns-5
     returns-6
-    returns-7)
+    returns-7
+    returns-8)
