@@ -110,8 +110,8 @@ module _ (f : ℕ) (faulty : ℕ → Bool) where
   here-or-dead i es R b g l = kept-or-dead i es R b (local f i es .kept b (vote commit) g l)
 
   -- a body that passed the tests, against one accepted before
-  module _ (i : ℕ) (es : List Event) (R : Rests f faulty i es) (P : Parted i es) (b : Body) (high : low f i es < stampOf b) (C : Clear (boxAt f i es) b)
-      where
+  module _ (i : ℕ) (es : List Event) (R : Rests f faulty i es) (P : Parted i es) (b : Body) (high : low f i es < stampOf b)
+      (C : Clear (boxAt f i es) b) where
     under-entry : (c : Body) → T (undercut b c) → Dead es c ⊎ Upright (table f i es) c → Dead es c
     unfolding table
     under-entry c h (inl d) = d

@@ -165,8 +165,11 @@ module _ (l : ℕ) (t : List Entry) (folds : List Version) where
   unfolding foldUpTo isCommitted
   fold-over k h e w =
       rw (fold-is k h)
-      (omega (arith, newest-up k (λ o. isCommitted o.decided) (suc l) t e (w .inside) (rw (w .committed) tt) (w .writes) (omega (arith, w .below)),
-      newer-over k (foldAt folds k) (newest (λ o. isCommitted o.decided) k (suc l) t)))
+      (omega (
+        arith,
+        newest-up k (λ o. isCommitted o.decided) (suc l) t e (w .inside) (rw (w .committed) tt) (w .writes) (omega (arith, w .below)),
+        newer-over k (foldAt folds k) (newest (λ o. isCommitted o.decided) k (suc l) t),
+      ))
 
   -- and is what it was, none, or one of those
   pub data From (k : ℕ) : Type 0 where
