@@ -1,6 +1,9 @@
 //! A transaction from its PR to its decision, by way of records that are written and read back.
 
+mod written;
+
 use stobbarel::*;
+use written::bytes;
 
 fn tx(stamp: u64, reads: &[(u16, u64)], writes: &[(u16, u64)]) -> Transaction {
     Transaction {
@@ -26,12 +29,6 @@ fn views(view: u16, count: u8) -> Vec<(u8, View)> {
 /// So many boxes with one answer for this view.
 fn election(leader: u8, view: u16, decision: Decision, count: u8) -> Election {
     Election { leader, decision, view: View(view), answers: (0..count).map(|number| (number, decision, View(view))).collect() }
-}
-
-fn bytes(write: impl FnOnce(&mut [u8]) -> Result<usize, Refusal>) -> Vec<u8> {
-    let mut buffer = [0; LONGEST];
-    let length = write(&mut buffer).unwrap();
-    buffer[..length].to_vec()
 }
 
 #[test]

@@ -1,16 +1,13 @@
 //! A gateway dies after a split log, and another finishes its transaction: six boxes in memory, by way of this package alone.
 
+mod written;
+
 use stobbarel::*;
 use Decision::{Abort, Commit};
+use written::bytes;
 
 const CLOCK: u64 = 100;
 const DELTA: u64 = 10;
-
-fn bytes(write: impl FnOnce(&mut [u8]) -> Result<usize, Refusal>) -> Vec<u8> {
-    let mut buffer = [0; LONGEST];
-    let length = write(&mut buffer).unwrap();
-    buffer[..length].to_vec()
-}
 
 /// Six boxes beside the line, and the transaction that its gateway leaves: 50 writes 7 at key 3.
 struct Line {

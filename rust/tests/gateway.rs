@@ -1,17 +1,14 @@
 //! Gateways on six boxes in memory, by way of this package alone: each way through, a gateway that dies, and another that finishes for it.
 
+mod written;
+
 use std::collections::BTreeMap;
 use stobbarel::*;
 use Decision::{Abort, Commit};
+use written::bytes;
 
 const CLOCK: u64 = 1000;
 const TIMING: Timing = Timing { patience: 10, first_try: 20, doublings: 8, farewells: 3 };
-
-fn bytes(write: impl FnOnce(&mut [u8]) -> Result<usize, Refusal>) -> Vec<u8> {
-    let mut buffer = [0; LONGEST];
-    let length = write(&mut buffer).unwrap();
-    buffer[..length].to_vec()
-}
 
 fn body(tx: &Transaction) -> Vec<u8> {
     bytes(|out| write_tx(tx, out))

@@ -1,17 +1,14 @@
 //! What a box's host reads off its table: the transaction of a stamp, and what the box holds beside it.
 
+mod written;
+
 use stobbarel::layout::{table_len, BODY_AT, HEAD, KEYS, LOG_AT, LOG_VIEW_AT, ROW, VIEW_AT, VOTE_AT};
 use stobbarel::*;
 use Decision::{Abort, Commit};
+use written::bytes;
 
 const CLOCK: u64 = 100;
 const DELTA: u64 = 10;
-
-fn bytes(write: impl FnOnce(&mut [u8]) -> Result<usize, Refusal>) -> Vec<u8> {
-    let mut buffer = [0; LONGEST];
-    let length = write(&mut buffer).unwrap();
-    buffer[..length].to_vec()
-}
 
 fn group() -> Group {
     Group::of(1).unwrap()

@@ -6,7 +6,7 @@ use mathlib.Core.Path.{_≡_, refl, ap, sym, _∙_}
 use mathlib.Core.List.{List, [], _∷_}
 use lib.ListN.{length, length-replicate}
 use Rattle.terms.specs.Checks.{orElse, ifLess, table}
-use Rattle.terms.specs.Group.{groupWrong}
+use Rattle.terms.specs.Group.{capacityWrong, groupWrong}
 use Rattle.terms.proofs.Checks.{halt, less-no, less-yes, pass}
 use Rattle.rules.specs.Bodies.{stampOf}
 use Rattle.rules.specs.Table.{Box, Entry, empty}
@@ -14,14 +14,14 @@ use Rattle.rules.specs.Calls.{Act}
 use Rattle.rules.specs.Act.{receive, toldWrong}
 use Rattle.rules.specs.Cases.{line}
 use Rattle.rules.specs.Answers.{apartFromNumber}
-use Rattle.rules.specs.Order.{Call, next, replies, reply}
+use Rattle.rules.specs.Order.{Call, NeedsNew, next, ofRules, replies, reply}
 use Rattle.rules.specs.Crossed.{aborting, calls, committing, laterCalls, laterMessages}
 use Rattle.rules.proofs.Room.{never-overfull}
 use Rattle.rules.proofs.Running.{running}
 use Rattle.table.specs.Table.{countOf, entriesOf, tableLen, tableWrong}
 use Rattle.engine.specs.Outcome.{Kept, boxIn, lentWrong}
 use Rattle.engine.specs.Busy.{zeros}
-use Rattle.engine.specs.Order.{NeedsNewBy, nextBy, repliesBy, replyBy}
+use Rattle.engine.specs.Order.{nextBy, ofCalls, replyBy}
 use Rattle.engine.specs.Crossed.{CrossedCalls, laterAnswered, thatWay, thisWay}
 use Rattle.engine.proofs.Safety.{is-refused}
 use Rattle.engine.proofs.Starts.{starts-empty, starts-taken}
@@ -61,8 +61,8 @@ module _ {x : Kept} {y : Box} (h : Holds x y) (c : Call)
   }
 
 -- so are later calls
-follows : {x : Kept} {y : Box} → Holds x y → length (y .table) ≤ 8 → (ms : List (List ℕ)) → repliesBy x (calls ms) ≡ replies y (calls ms)
-unfolding calls repliesBy replies line toldWrong orElse groupWrong ifLess next
+follows : {x : Kept} {y : Box} → Holds x y → length (y .table) ≤ 8 → (ms : List (List ℕ)) → replies ofCalls x (calls ms) ≡ replies ofRules y (calls ms)
+unfolding calls replies line toldWrong orElse groupWrong capacityWrong ifLess next
 follows h n [] = refl
 follows {x} {y} h n (m ∷ ms) =
     let c : Call = record { entry = receive; told = line; message = m } in
@@ -87,20 +87,20 @@ that : Holds thatWay (next (next empty (aborting 5)) (committing 8))
 unfolding running next committing aborting thatWay
 that = kept-on other (committing 8) refl (omega arith) (omega arith)
 
-first-new : NeedsNewBy (zeros 8) (committing 8)
+first-new : NeedsNew ofCalls (zeros 8) (committing 8)
 unfolding running reply committing zeros entriesOf
 first-new = record { new = refl; taken = replied begun (committing 8) refl (omega arith) (omega arith) }
 
-second-new : NeedsNewBy (zeros 8) (aborting 5)
+second-new : NeedsNew ofCalls (zeros 8) (aborting 5)
 unfolding running reply aborting zeros entriesOf
 second-new = record { new = refl; taken = replied begun (aborting 5) refl (omega arith) (omega arith) }
 
 -- with room for one
-one-new : NeedsNewBy (zeros 8) (committing 1)
+one-new : NeedsNew ofCalls (zeros 8) (committing 1)
 unfolding running reply committing zeros entriesOf
 one-new = record { new = refl; taken = replied begun (committing 1) refl (omega arith) (omega arith) }
 
-other-new : NeedsNewBy (zeros 8) (aborting 1)
+other-new : NeedsNew ofCalls (zeros 8) (aborting 1)
 unfolding running reply aborting zeros entriesOf
 other-new = record { new = refl; taken = replied begun (aborting 1) refl (omega arith) (omega arith) }
 
@@ -130,11 +130,11 @@ crowded =
     sym (pass (less-no (length (thisWay .table)) (tableLen 1) table (omega arith))
     (halt _ _ table (less-yes 1 (countOf (thisWay .table)) table (omega arith)) (omega arith)))
 
-answers-this : repliesBy thisWay laterCalls ≡ laterAnswered
+answers-this : replies ofCalls thisWay laterCalls ≡ laterAnswered
 unfolding running reply next replies apartFromNumber calls committing aborting laterMessages laterCalls laterAnswered
 answers-this = follows this (omega arith) laterMessages
 
-answers-that : repliesBy thatWay laterCalls ≡ laterAnswered
+answers-that : replies ofCalls thatWay laterCalls ≡ laterAnswered
 unfolding running reply next replies apartFromNumber calls committing aborting laterMessages laterCalls laterAnswered
 answers-that = follows that (omega arith) laterMessages
 

@@ -21,7 +21,7 @@ use Rattle.rules.specs.Table.{Box}
 use Rattle.rules.specs.Calls.{Act, Change, nothing, puts, raises}
 use Rattle.rules.specs.Act.{act, toldWrong}
 use Rattle.rules.specs.Answers.{apartFromNumber}
-use Rattle.rules.specs.Order.{Call, IsDC, NeedsNew, Room, next, reply, same, stampIn}
+use Rattle.rules.specs.Order.{Call, IsDC, NeedsNew, Room, next, ofRules, replies, reply, same, stampIn}
 use Rattle.rules.proofs.Room.{FitsBy, FitsIn, Fit, act-fits, never-overfull}
 use Rattle.rules.proofs.Reordered.{length-same}
 use Rattle.rules.proofs.Twins.{Twins, after-twins, answer-twins}
@@ -33,7 +33,7 @@ use Rattle.table.proofs.Looking.{entries-count}
 use Rattle.steps.proofs.Stored.{below}
 use Rattle.engine.specs.Outcome.{Kept, boxIn, called, lentWrong, tableBy}
 use Rattle.engine.specs.Safety.{leaves}
-use Rattle.engine.specs.Order.{CallsCommute, NeedsNewBy, OneCallRefused, OneCapacity, RoomBy, nextBy, repliesBy, replyBy}
+use Rattle.engine.specs.Order.{CallsCommute, OneCallRefused, OneCapacity, RoomBy, nextBy, ofCalls, replyBy}
 use Rattle.engine.proofs.Lent.{few, taken}
 use Rattle.engine.proofs.Raised.{body-small}
 use Rattle.engine.proofs.Steps.{Bodied}
@@ -128,11 +128,11 @@ module _ (x : Kept) (c : Call) (lent : lentWrong (c .told) (x .table) ≡ 0) whe
   pub next-long : length (nextBy x c .table) ≡ length (x .table)
   next-long = left-long x c fine
 
-  pub needs-by : NeedsNew (boxIn x) c → NeedsNewBy x c
+  pub needs-by : NeedsNew ofRules (boxIn x) c → NeedsNew ofCalls x c
   unfolding boxIn
   needs-by h = record { new = h .new; taken = same-reply ∙ h .taken }
 
-  by-needs : NeedsNewBy x c → NeedsNew (boxIn x) c
+  by-needs : NeedsNew ofCalls x c → NeedsNew ofRules (boxIn x) c
   unfolding boxIn
   by-needs h = record { new = h .new; taken = sym same-reply ∙ h .taken }
 
@@ -167,15 +167,15 @@ module _ (x : Kept) (p q : Call) (dp : IsDC p) (dq : IsDC q) (apart : stampIn p 
 
   -- p leaves as many entries as there were, or it needs a new one and adds that
   counted : lentWrong (p .told) (x .table) ≡ 0
-      → (countOf (nextBy x p .table) ≡ countOf (x .table)) ⊎ (NeedsNewBy x p × (countOf (nextBy x p .table) ≡ suc (countOf (x .table))))
+      → (countOf (nextBy x p .table) ≡ countOf (x .table)) ⊎ (NeedsNew ofCalls x p × (countOf (nextBy x p .table) ≡ suc (countOf (x .table))))
   counted a = go (grows (boxIn x) p q dp dq apart)
     where
       count-next : countOf (nextBy x p .table) ≡ length (next (boxIn x) p .table)
       count-next = sym (count-is (nextBy x p)) ∙ ap (λ (y : Box). length (y .table)) (same-next x p a)
 
       go : (length (next (boxIn x) p .table) ≡ length (boxIn x .table))
-          ⊎ (NeedsNew (boxIn x) p × (length (next (boxIn x) p .table) ≡ suc (length (boxIn x .table))))
-          → (countOf (nextBy x p .table) ≡ countOf (x .table)) ⊎ (NeedsNewBy x p × (countOf (nextBy x p .table) ≡ suc (countOf (x .table))))
+          ⊎ (NeedsNew ofRules (boxIn x) p × (length (next (boxIn x) p .table) ≡ suc (length (boxIn x .table))))
+          → (countOf (nextBy x p .table) ≡ countOf (x .table)) ⊎ (NeedsNew ofCalls x p × (countOf (nextBy x p .table) ≡ suc (countOf (x .table))))
       go (inl e) = inl (count-next ∙ e ∙ count-is x)
       go (inr h) = inr (needs-by x p a (h .0), count-next ∙ h .1 ∙ ap suc (count-is x))
 
@@ -187,7 +187,7 @@ module _ (x : Kept) (p q : Call) (dp : IsDC p) (dq : IsDC q) (apart : stampIn p 
       grown (q .told .capacity) (x .table) (nextBy x p .table) (next-long x p e) (none-bad _ _ (fine x p e)) (none-bad _ _ (next-fine x p e))
       (longer-by (counted e)) (λ w. k (sym (pass z (sym w)))))
     where
-      longer-by : (countOf (nextBy x p .table) ≡ countOf (x .table)) ⊎ (NeedsNewBy x p × (countOf (nextBy x p .table) ≡ suc (countOf (x .table))))
+      longer-by : (countOf (nextBy x p .table) ≡ countOf (x .table)) ⊎ (NeedsNew ofCalls x p × (countOf (nextBy x p .table) ≡ suc (countOf (x .table))))
           → countOf (x .table) ≤ countOf (nextBy x p .table)
       longer-by (inl h) = omega arith
       longer-by (inr h) = omega (arith, h .1)
@@ -196,7 +196,7 @@ module _ (x : Kept) (p q : Call) (dp : IsDC p) (dq : IsDC q) (apart : stampIn p 
   lent-after u = by (lentWrong (p .told) (x .table)) refl
     where
       fits : lentWrong (q .told) (x .table) ≡ 0
-          → (countOf (nextBy x p .table) ≡ countOf (x .table)) ⊎ (NeedsNewBy x p × (countOf (nextBy x p .table) ≡ suc (countOf (x .table))))
+          → (countOf (nextBy x p .table) ≡ countOf (x .table)) ⊎ (NeedsNew ofCalls x p × (countOf (nextBy x p .table) ≡ suc (countOf (x .table))))
           → countOf (nextBy x p .table) ≤ q .told .capacity
       fits b (inl h) = omega (arith, few (q .told) (x .table) b)
       fits b (inr h) = omega (arith, h .1, u .for-other b (h .0))
@@ -221,7 +221,7 @@ module _ (x : Kept) (p q : Call) (dp : IsDC p) (dq : IsDC q) (apart : stampIn p 
           ∙ sym (as-rules x q f)
 
   -- p's own new entry has room
-  beside : NeedsNewBy x p → countOf (x .table) + 1 ≤ p .told .capacity
+  beside : NeedsNew ofCalls x p → countOf (x .table) + 1 ≤ p .told .capacity
   unfolding next
   beside h =
       let a = is-lent x p (h .taken) in
@@ -230,11 +230,11 @@ module _ (x : Kept) (p q : Call) (dp : IsDC p) (dq : IsDC q) (apart : stampIn p 
       omega (arith, l, o, count-is x)
 
   -- with room for one
-  call-refused : NeedsNewBy x p → NeedsNewBy x q → q .told .capacity ≡ countOf (x .table) + 1 → replyBy (nextBy x p) q ≡ Refused Full
+  call-refused : NeedsNew ofCalls x p → NeedsNew ofCalls x q → q .told .capacity ≡ countOf (x .table) + 1 → replyBy (nextBy x p) q ≡ Refused Full
   call-refused h g c =
       let a = is-lent x p (h .taken) in
       let b = is-lent x q (g .taken) in
-      let n : NeedsNew (boxIn x) p = by-needs x p a h in
+      let n : NeedsNew ofRules (boxIn x) p = by-needs x p a h in
       let more : countOf (nextBy x p .table) ≡ suc (countOf (x .table)) =
       sym (count-is (nextBy x p)) ∙ ap (λ (y : Box). length (y .table)) (same-next x p a) ∙ longer (boxIn x) p q dp dq apart n ∙ ap suc (count-is x) in
       same-reply (nextBy x p) q (lent-by a (λ _. omega arith) ∙ b)
@@ -285,8 +285,8 @@ module _ {x y : Kept} (k : Kin x y) (c : Call) where
           }
       by (suc n) e = rw (stays x c n e, stays y c n (sym kin-lent ∙ e)) k
 
-kin-replies : (x y : Kept) → Kin x y → (cs : List Call) → repliesBy x cs ≡ repliesBy y cs
-unfolding repliesBy
+kin-replies : (x y : Kept) → Kin x y → (cs : List Call) → replies ofCalls x cs ≡ replies ofCalls y cs
+unfolding replies
 kin-replies x y k [] = refl
 kin-replies x y k (c ∷ cs) = λ i. kin-reply k c i ∷ kin-replies _ _ (kin-next k c) cs i
 

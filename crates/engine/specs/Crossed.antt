@@ -8,10 +8,11 @@ use Rattle.rules.specs.declared.Answer.{Answer}
 use Rattle.rules.specs.declared.Answer.the-variants.{Decided, Done, Refused}
 use Rattle.rules.specs.Cases.{aborts, commits, found, logs0}
 use Rattle.rules.specs.Vectors.{elects, logsIn}
+use Rattle.rules.specs.Order.{EitherOrder, NeedsNew, replies}
 use Rattle.rules.specs.Crossed.{aborting, committing, laterCalls}
 use Rattle.engine.specs.Outcome.{Kept}
 use Rattle.engine.specs.Busy.{zeros}
-use Rattle.engine.specs.Order.{EitherOrderBy, NeedsNewBy, nextBy, repliesBy, replyBy}
+use Rattle.engine.specs.Order.{nextBy, ofCalls, replyBy}
 
 -- what the later calls are answered
 unfoldable pub laterAnswered : List Answer
@@ -27,12 +28,12 @@ unfoldable pub thatWay : Kept
 thatWay = nextBy (nextBy (zeros 8) (aborting 5)) (committing 8)
 
 pub record CrossedCalls : Type 0 where
-  pub one-new : NeedsNewBy (zeros 8) (committing 8)
-  pub other-new : NeedsNewBy (zeros 8) (aborting 5)
-  pub either : EitherOrderBy (zeros 8) (committing 8) (aborting 5)
+  pub one-new : NeedsNew ofCalls (zeros 8) (committing 8)
+  pub other-new : NeedsNew ofCalls (zeros 8) (aborting 5)
+  pub either : EitherOrder ofCalls (zeros 8) (committing 8) (aborting 5)
   pub bytes-differ : thisWay .table ≡ thatWay .table → ⊥
-  pub answers-this-way : repliesBy thisWay laterCalls ≡ laterAnswered
-  pub answers-that-way : repliesBy thatWay laterCalls ≡ laterAnswered
+  pub answers-this-way : replies ofCalls thisWay laterCalls ≡ laterAnswered
+  pub answers-that-way : replies ofCalls thatWay laterCalls ≡ laterAnswered
   -- with room for one, the second is refused with 13, whichever it is
   pub other-second : replyBy (nextBy (zeros 8) (committing 1)) (aborting 1) ≡ Refused Full
   pub one-second : replyBy (nextBy (zeros 8) (aborting 1)) (committing 1) ≡ Refused Full

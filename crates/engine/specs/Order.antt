@@ -1,14 +1,10 @@
 -- A9 of the entry points: two decisions in either order on what is kept for a box, whatever bytes it is, and whatever capacity each call is told.
 use Prim.Native.Nat.{_+_, _≤_}
 use mathlib.Core.Path.{_≡_}
-use mathlib.Core.List.{List, [], _∷_}
-use mathlib.Core.Option.{none}
 use Rattle.terms.specs.declared.Refusal.the-variants.{Full}
 use Rattle.rules.specs.declared.Answer.{Answer}
-use Rattle.rules.specs.declared.Answer.the-variants.{Done, Refused}
-use Rattle.rules.specs.Table.{find}
-use Rattle.rules.specs.Answers.{apartFromNumber}
-use Rattle.rules.specs.Order.{Call, IsDC, Reordered, stampIn}
+use Rattle.rules.specs.declared.Answer.the-variants.{Refused}
+use Rattle.rules.specs.Order.{Answering, Call, EitherOrder, IsDC, NeedsNew, stampIn}
 use Rattle.table.specs.Table.{countOf, entriesOf}
 use Rattle.engine.specs.Outcome.{Kept, called, lentWrong}
 use Rattle.engine.specs.Safety.{leaves}
@@ -20,46 +16,30 @@ replyBy x c = called (c .entry) (c .told) x (c .message) .answer
 unfoldable pub nextBy : Kept → Call → Kept
 nextBy x c = leaves (c .entry) (c .told) x (c .message)
 
-unfoldable pub repliesBy : Kept → List Call → List Answer
-repliesBy x [] = []
-repliesBy x (c ∷ cs) = apartFromNumber (replyBy x c) ∷ repliesBy (nextBy x c) cs
-
--- "need a new entry": alone it would be taken, and its stamp is not held
-pub record NeedsNewBy (x : Kept) (c : Call) : Type 0 where
-  pub new : find (stampIn c) (entriesOf (x .table)) ≡ none
-  pub taken : replyBy x c ≡ Done
+abbrev pub ofCalls : Answering Kept
+ofCalls = record { reply = replyBy; next = nextBy; entries = λ x. entriesOf (x .table); marks = λ x. x .marks }
 
 -- "with room for both", by the capacity that p is told: for its new entry beside q's; and where p needs none, for q's alone, since "more entries
 -- than the capacity" is 16. It is asked only where the table is taken: what is refused with 14 or 16 is refused so in either order
 pub record RoomBy (x : Kept) (p q : Call) : Type 0 where
-  pub for-both : NeedsNewBy x p → NeedsNewBy x q → countOf (x .table) + 2 ≤ p .told .capacity
-  pub for-other : lentWrong (p .told) (x .table) ≡ 0 → NeedsNewBy x q → countOf (x .table) + 1 ≤ p .told .capacity
-
-pub record EitherOrderBy (x : Kept) (p q : Call) : Type 0 where
-  -- "made in either order .. give each its same answer"
-  pub one : replyBy (nextBy x q) p ≡ replyBy x p
-  pub other : replyBy (nextBy x p) q ≡ replyBy x q
-  -- "every later call then answers alike, apart from A6's number"
-  pub later : (cs : List Call) → repliesBy (nextBy (nextBy x p) q) cs ≡ repliesBy (nextBy (nextBy x q) p) cs
-  -- and in which way "the boxes then differ"
-  pub tables : Reordered (entriesOf (nextBy (nextBy x p) q .table)) (entriesOf (nextBy (nextBy x q) p .table))
-  pub marks : nextBy (nextBy x p) q .marks ≡ nextBy (nextBy x q) p .marks
+  pub for-both : NeedsNew ofCalls x p → NeedsNew ofCalls x q → countOf (x .table) + 2 ≤ p .told .capacity
+  pub for-other : lentWrong (p .told) (x .table) ≡ 0 → NeedsNew ofCalls x q → countOf (x .table) + 1 ≤ p .told .capacity
 
 -- "two DC calls with different stamps, made in either order on one table with room for both"
 abbrev pub CallsCommute : Type 0
 CallsCommute =
-    (x : Kept) (p q : Call) → IsDC p → IsDC q → (stampIn p ≡ stampIn q → ⊥) → RoomBy x p q → RoomBy x q p → EitherOrderBy x p q
+    (x : Kept) (p q : Call) → IsDC p → IsDC q → (stampIn p ≡ stampIn q → ⊥) → RoomBy x p q → RoomBy x q p → EitherOrder ofCalls x p q
 
 -- of calls that are told one capacity, as one box's are: room matters only where both need a new entry
 abbrev pub OneCapacity : Type 0
 OneCapacity =
     (x : Kept) (p q : Call) → IsDC p → IsDC q → (stampIn p ≡ stampIn q → ⊥) → p .told .capacity ≡ q .told .capacity
-    → (NeedsNewBy x p → NeedsNewBy x q → countOf (x .table) + 2 ≤ p .told .capacity)
-    → EitherOrderBy x p q
+    → (NeedsNew ofCalls x p → NeedsNew ofCalls x q → countOf (x .table) + 2 ≤ p .told .capacity)
+    → EitherOrder ofCalls x p q
 
 -- "Where both need a new entry and there is room for one, the second is refused with 13": whichever it is
 abbrev pub OneCallRefused : Type 0
 OneCallRefused =
-    (x : Kept) (p q : Call) → IsDC p → IsDC q → (stampIn p ≡ stampIn q → ⊥) → NeedsNewBy x p → NeedsNewBy x q
+    (x : Kept) (p q : Call) → IsDC p → IsDC q → (stampIn p ≡ stampIn q → ⊥) → NeedsNew ofCalls x p → NeedsNew ofCalls x q
     → q .told .capacity ≡ countOf (x .table) + 1
     → replyBy (nextBy x p) q ≡ Refused Full

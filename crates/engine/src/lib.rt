@@ -1,4 +1,4 @@
-// The entry points of a box: one for any message, one where a certain mark is due. Each is 14, 16, a reading, then one act of the rules.
+// The entry points of a box: one for any message, one where a certain mark is due. Each is 14, 16, the message's refusal, then one act of the rules.
 ghost use mathlib.Core.Path.{_≡_};
 ghost use Prim.Native.Nat.{_≤_};
 ghost use Rattle.records.specs.Cutting.{txPart};
@@ -22,10 +22,7 @@ pub fn told_wrong(told: Told) -> u8
 {
     terms::first(
         terms::group_wrong(told.f),
-        terms::first(
-            terms::refuse_if(told.capacity < 1, terms::GROUP),
-            terms::refuse_if(255 < told.capacity, terms::GROUP),
-        ),
+        terms::capacity_wrong(told.capacity),
     )
 }
 

@@ -2,16 +2,16 @@
 use mathlib.Core.Path.{refl}
 use native.Mathlib.Omega.{arith}
 use Rattle.rules.specs.Answers.{apartFromNumber}
-use Rattle.rules.specs.Order.{NeedsNew, next, replies, reply}
+use Rattle.rules.specs.Order.{NeedsNew, next, ofRules, replies, reply}
 use Rattle.rules.specs.Crossed.{Crossed, aborted, aborting, calls, committed, committing, laterAnswers, laterCalls, laterMessages, lentThree, three}
 use Rattle.rules.proofs.Running.{running}
 use Rattle.rules.proofs.Order.{decisions-commute}
 
-one : NeedsNew lentThree (committing 8)
+one : NeedsNew ofRules lentThree (committing 8)
 unfolding running reply lentThree three committing
 one = record { new = refl; taken = refl }
 
-other : NeedsNew lentThree (aborting 5)
+other : NeedsNew ofRules lentThree (aborting 5)
 unfolding running reply lentThree three aborting
 other = record { new = refl; taken = refl }
 

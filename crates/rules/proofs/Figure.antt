@@ -1,75 +1,40 @@
 -- A6's figure: the bound of the count, and which answers carry it.
-use Prim.Native.Nat.{ℕ, zero, suc, _+_, _*_, _≤_}
+use Prim.Native.Nat.{ℕ, _+_, _≤_}
 use mathlib.Core.Bool.{Bool, true, false}
-use mathlib.Core.Path.{_≡_, refl, _∙_, sym}
+use mathlib.Core.Path.{_≡_, refl}
 use mathlib.Core.Option.{Option, some, none}
 use mathlib.Core.List.{List, [], _∷_}
 use native.Mathlib.Omega.{arith}
-use lib.Dec.{T, eqb}
 use lib.ListN.{length, take}
 use lib.Seq.{getD-take}
-use Rattle.terms.specs.Choice.{pick}
 use Rattle.terms.specs.declared.Refusal.{Refusal}
 use Rattle.terms.proofs.Checks.{first-none, rest-none, not-less}
 use Rattle.terms.proofs.Scans.{tab-length}
 use Rattle.records.specs.declared.Mark.the-variants.{PR}
 use Rattle.records.specs.declared.Marked.the-variants.{Is}
-use Rattle.records.specs.declared.Read.{Read}
 use Rattle.records.specs.Contents.{countsWrong}
 use Rattle.records.specs.Cutting.{behindMark, messageCut, restCut, txCut, txPart}
 use Rattle.records.specs.Messages.{dueRefusal}
-use Rattle.records.specs.Tx.{rCount, readAt, readVersion, txLen, txOf, wCount, writeAt, writesFrom}
-use Rattle.rules.specs.Answers.{Answer, Decided, Refused, Settled, Vote, Voted, settled, unsettled, unvisited, unvoted, visited, voteAbort, voteCommit, waiting}
+use Rattle.records.specs.Tx.{rCount, readAt, txLen, txOf, wCount, writeAt, writesFrom}
+use Rattle.rules.specs.Answers.{Answer, Settled, Vote, Voted, settled, unsettled, unvisited, unvoted, visited, voteAbort, voteCommit, waiting}
 use Rattle.rules.specs.Bodies.{Body, readsOf, sameBody, stampOf, writesOf}
 use Rattle.rules.specs.Table.{Box, Entry, Told, find}
-use Rattle.rules.specs.Tests.{firstVote, test1, test2, test3, test4, test5, waitingRule}
-use Rattle.rules.specs.Visits.{againVisits, firstVisits, keyByKey, lookUp, newLast, testVisits, unless, versionUp, visits2, visits3, visits4, waitingVisits}
-use Rattle.rules.specs.Calls.{Act, castAct, guarded, isFull, keep, prByDecision, prByEntry, prByVote, prRule, refuse, roomFor}
+use Rattle.rules.specs.Tests.{test1, test2, test3, test4, test5}
+use Rattle.rules.specs.Visits.{againVisits, firstVisits, newLast, testVisits, unless, visits2, visits3, visits4, waitingVisits}
+use Rattle.rules.specs.Calls.{Act, castAct, isFull, keep, prByDecision, prByEntry, prByVote, prRule, refuse, roomFor}
 use Rattle.rules.specs.Act.{EntryPoint, act, dueAct, markBy, markedAct, rule, toldWrong}
-use Rattle.rules.specs.Figure.{Already, Figure, Figures, answered, figureOf, numberIn}
+use Rattle.rules.specs.Figure.{Already, Figures, answered, figureOf, numberIn}
 use Rattle.rules.proofs.Laws.{pick-elim}
 use Rattle.rules.proofs.Moves.{none-some, some-eq}
 use Rattle.rules.proofs.Deeds.{guarded-elim}
-use Rattle.rules.proofs.Visits.{keys-most, through-most}
+use Rattle.rules.proofs.Visits.{four-most, look-most, three-most, two-most, waiting-most}
 
 -- ---- the bound: the own look-up, then four times eight walks; 33 = 1 + 4 × 8
-times-most : (n k h : ℕ) → n ≤ k → n * h ≤ k * h
-times-most zero k h p = omega arith
-times-most (suc n) zero h p = absurd (omega arith)
-times-most (suc n) (suc k) h p = omega (arith, times-most n k h (omega arith))
-
-eight-most : {K : Type 0} (visits : K → ℕ) (fails : K → Bool) (ks : List K) (h : ℕ) → length ks ≤ 8 → ((k : K) → visits k ≤ h) → keyByKey visits fails ks ≤ 8 * h
-eight-most visits fails ks h n m = omega (arith, keys-most visits fails ks h m, times-most (length ks) 8 h n)
-
-look-most : (s : ℕ) (t : List Entry) → lookUp s t ≤ length t
-unfolding lookUp
-look-most s t = through-most _ t
-
-version-most : (t : List Entry) (r : Read) → versionUp t r ≤ length t
-unfolding versionUp
-version-most t r = pick-elim (λ (n : ℕ). n ≤ length t) (eqb (readVersion r) 0) (λ _. omega arith) (λ _. look-most (readVersion r) t)
-
 unless-most : (c : Bool) (n : ℕ) → unless c n ≤ n
 unless-most true n = omega arith
 unless-most false n = omega arith
 
 module _ (told : Told) (x : Box) (b : Body) (r : length (readsOf b) ≤ 8) (w : length (writesOf b) ≤ 8) where
-  waiting-most : (t : List Entry) → waitingVisits t b ≤ 8 * length t
-  unfolding waitingVisits
-  waiting-most t = eight-most (versionUp t) (λ _. false) (readsOf b) (length t) r (version-most t)
-
-  two-most : visits2 x b ≤ 8 * length (x .table)
-  unfolding visits2
-  two-most = eight-most (versionUp (x .table)) _ (readsOf b) (length (x .table)) r (version-most (x .table))
-
-  three-most : visits3 x b ≤ 8 * length (x .table)
-  unfolding visits3
-  three-most = eight-most _ _ (readsOf b) (length (x .table)) r (λ k. through-most _ (x .table))
-
-  four-most : visits4 x b ≤ 8 * length (x .table)
-  unfolding visits4
-  four-most = eight-most _ _ (writesOf b) (length (x .table)) w (λ k. through-most _ (x .table))
-
   tests-most : (t : List Entry) → testVisits told x b t ≤ visits2 x b + visits3 x b + visits4 x b + waitingVisits t b
   unfolding testVisits
   tests-most t =
@@ -82,11 +47,11 @@ module _ (told : Told) (x : Box) (b : Body) (r : length (readsOf b) ≤ 8) (w : 
 
   first-most : (t : List Entry) → length t ≤ length (x .table) + 1 → firstVisits told x b t ≤ figureOf (x .table)
   unfolding firstVisits
-  first-most t h = omega (arith, h, look-most (stampOf b) (x .table), tests-most t, two-most, three-most, four-most, waiting-most t)
+  first-most t h = omega (arith, h, look-most (stampOf b) (x .table), tests-most t, two-most x b r, three-most x b r, four-most x b w, waiting-most t b r)
 
   again-most : againVisits x b ≤ figureOf (x .table)
   unfolding againVisits
-  again-most = omega (arith, look-most (stampOf b) (x .table), waiting-most (x .table))
+  again-most = omega (arith, look-most (stampOf b) (x .table), waiting-most (x .table) b r)
 
 new-last : (b : Body) (t : List Entry) → length (newLast b t) ≤ length t + 1
 new-last b [] = omega arith

@@ -22,7 +22,7 @@ use Rattle.rules.specs.Table.{Box, Entry, Told, find, put}
 use Rattle.rules.specs.Calls.{Act, Change, dcByEntry, dcOther, dcRule, dcSame, decideAct, guarded, isFull, needing, nothing, puts, raises, refuse}
 use Rattle.rules.specs.Calls.{roomFor, sameDecision}
 use Rattle.rules.specs.Act.{act, after, boxAfter, dueAct, markedAct, marksAfter, rule, tableAfter, toldWrong}
-use Rattle.rules.specs.Order.{Call, DecisionsCommute, IsDC, NeedsNew, OneRefused, Reordered, Room, next, reply, same, stampIn}
+use Rattle.rules.specs.Order.{Call, DecisionsCommute, IsDC, NeedsNew, OneRefused, Reordered, Room, next, ofRules, reply, same, stampIn}
 use Rattle.rules.proofs.Laws.{decideT, find-put-other, pick-elim, pick-false, pick-true}
 use Rattle.rules.proofs.Deeds.{guarded-elim}
 use Rattle.rules.proofs.Room.{Fit, FitsBy, FitsIn, act-fits}
@@ -207,23 +207,23 @@ module _ (x : Box) (p q : Call) (dp : IsDC p) (dq : IsDC q) (apart : stampIn p �
       go none r = inr (rw (h .0) at r, k, put-new e x.table r)
       go (some o) r = inl (put-held e x.table o r)
 
-  pub grows : (length (y .table) ≡ length x.table) ⊎ (NeedsNew x p × (length (y .table) ≡ suc (length x.table)))
+  pub grows : (length (y .table) ≡ length x.table) ⊎ (NeedsNew ofRules x p × (length (y .table) ≡ suc (length x.table)))
   unfolding next after boxAfter reply TakesIn
   grows = go (grows-by (actOf x p .change) (actOf x p .answer) (act-puts x p) (act-takes x p dp))
     where
       go : (length (tableAfter x.table (actOf x p .change)) ≡ length x.table)
           ⊎ ((find (stampIn p) x.table ≡ none) × (actOf x p .answer ≡ Done) × (length (tableAfter x.table (actOf x p .change)) ≡ suc (length x.table)))
           → (length (tableAfter x.table (actOf x p .change)) ≡ length x.table)
-          ⊎ (NeedsNew x p × (length (tableAfter x.table (actOf x p .change)) ≡ suc (length x.table)))
+          ⊎ (NeedsNew ofRules x p × (length (tableAfter x.table (actOf x p .change)) ≡ suc (length x.table)))
       go (inl e) = inl e
       go (inr h) = inr (record { new = h .0; taken = h .1 }, h .2)
 
   -- so q finds the room that it found before
-  full-after : Room x p q → (T (not (isFull (q .told) x)) → NeedsNew x q) → isFull (q .told) y ≡ isFull (q .told) x
+  full-after : Room x p q → (T (not (isFull (q .told) x)) → NeedsNew ofRules x q) → isFull (q .told) y ≡ isFull (q .told) x
   unfolding isFull
   full-after room needs = go grows (decideT (leb (q .told .capacity) (length x.table)))
     where
-      go : (length (y .table) ≡ length x.table) ⊎ (NeedsNew x p × (length (y .table) ≡ suc (length x.table)))
+      go : (length (y .table) ≡ length x.table) ⊎ (NeedsNew ofRules x p × (length (y .table) ≡ suc (length x.table)))
           → T (leb (q .told .capacity) (length x.table)) ⊎ T (not (leb (q .told .capacity) (length x.table)))
           → leb (q .told .capacity) (length (y .table)) ≡ leb (q .told .capacity) (length x.table)
       go (inl e) k = rw e
@@ -251,14 +251,14 @@ module _ (x : Box) (p q : Call) (dp : IsDC p) (dq : IsDC q) (apart : stampIn p �
           (full-after room (λ z. record { new = r; taken = ap (λ (a : Act). a .answer) (is-taken x q dq r n m k z) }))
 
   -- where p needs a new entry, there is one entry more
-  pub longer : NeedsNew x p → length (y .table) ≡ suc (length x.table)
+  pub longer : NeedsNew ofRules x p → length (y .table) ≡ suc (length x.table)
   unfolding next after boxAfter tableAfter decideAct
   longer h =
       let k = checks-pass x p dp (h .new) (h .taken) in
       ap (λ (a : Act). length (tableAfter x.table (a .change))) (is-taken x p dp (h .new) (k .0) (k .1) (k .2) (has-room x p dp (h .new) (h .taken)))
       ∙ put-new _ x.table (h .new)
 
-  pub second-refused : NeedsNew x p → NeedsNew x q → q .told .capacity ≡ length x.table + 1 → reply y q ≡ Refused Full
+  pub second-refused : NeedsNew ofRules x p → NeedsNew ofRules x q → q .told .capacity ≡ length x.table + 1 → reply y q ≡ Refused Full
   unfolding reply isFull
   second-refused h g r =
       let k = checks-pass x q dq (g .new) (g .taken) in

@@ -1,7 +1,7 @@
 -- For proofs by computation: `unfolding running` opens all that a box computes with, `unfolding tracing` all that a trace does.
 use Prim.Native.Nat.{ℕ}
 use Rattle.terms.specs.Checks.{orElse, when, ifLess, ifSame, ifOther}
-use Rattle.terms.specs.Group.{groupWrong}
+use Rattle.terms.specs.Group.{groupWrong, capacityWrong}
 use Rattle.terms.specs.Refusals.{refusalOf}
 use Rattle.records.specs.Numbers.{numAt}
 use Rattle.records.specs.Tx.{txOf, txBytes, readAt, writeAt}
@@ -17,7 +17,8 @@ use Rattle.rules.specs.Bodies.{stampOf, readsOf, writesOf, sameBody, wri
 use Rattle.rules.specs.Lists.{kindOf, decisionOf, bit, tally, meets, lacking}
 use Rattle.rules.specs.Table.{empty, find, put, liveBy, live}
 use Rattle.rules.specs.Tests.{test1, liveWriter, test2, undercut, test3, test4, test5, statusBy, statusOf, status, waitingRule, firstVote}
-use Rattle.rules.specs.Visits.{through, lookUp, versionUp, keyByKey, visits2, visits3, visits4, waitingVisits, testVisits, firstVisits, againVisits}
+use Rattle.rules.specs.Visits.{through, lookUp, versionUp, keyByKey, visits2, fails3, fails4, visits3, visits4, waitingVisits, testVisits, firstVisits}
+use Rattle.rules.specs.Visits.{againVisits}
 use Rattle.rules.specs.Calls.{guarded, isFull, roomFor, needing, sameDecision, castAct, prByVote, prByDecision, prByEntry, prRule, logAct, lgByLog}
 use Rattle.rules.specs.Calls.{lgByDecision, lgByEntry, lgRule, decideAct, dcSame, dcOther, dcByEntry, dcRule, better, newest, valueAt}
 use Rattle.rules.specs.Calls.{versionOf, isCommitted, isUndecided, rdAnswer, lookAct, rdRule}
@@ -30,7 +31,7 @@ use Rattle.rules.specs.Cases.{aborts, logs0, lg, dc, iv, ld, logsAt, bal
 use Rattle.rules.specs.Vectors.{group, marked, lent, atFirst, viewed, entry, logsIn, elects, zeros, stores, run, held, wanted}
 
 unfoldable checks : ℕ
-unfolding orElse when ifLess ifSame ifOther refusalOf groupWrong
+unfolding orElse when ifLess ifSame ifOther refusalOf groupWrong capacityWrong
 checks = 0
 
 unfoldable bytes : ℕ
@@ -58,7 +59,7 @@ unfolding test1 liveWriter test2 undercut test3 test4 test5 statusBy statusOf st
 testing = 0
 
 unfoldable visiting : ℕ
-unfolding through lookUp versionUp keyByKey visits2 visits3 visits4 waitingVisits testVisits firstVisits againVisits
+unfolding through lookUp versionUp keyByKey visits2 fails3 fails4 visits3 visits4 waitingVisits testVisits firstVisits againVisits
 visiting = 0
 
 unfoldable calling : ℕ

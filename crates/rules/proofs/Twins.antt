@@ -28,7 +28,7 @@ use Rattle.rules.specs.Calls.{Act, Change, castAct, dcByEntry, dcRule, f
 use Rattle.rules.specs.Calls.{nothing, prByDecision, prByEntry, prByVote, prRule, puts, raises, rdAnswer, rdRule, refuse, roomFor}
 use Rattle.rules.specs.Fallback.{ivByEntry, ivRule, ldByEntry, ldRule, ledAct, takeAct}
 use Rattle.rules.specs.Act.{EntryPoint, act, after, boxAfter, dueAct, markBy, markedAct, rule, tableAfter, toldWrong}
-use Rattle.rules.specs.Order.{Call, Reordered, next, replies, reply}
+use Rattle.rules.specs.Order.{Call, Reordered, next, ofRules, replies, reply}
 use Rattle.rules.proofs.Reordered.{any-same, find-same, length-same, newest-same, put-same}
 
 pub record Twins (x y : Box) : Type 0 where
@@ -204,7 +204,7 @@ module _ {x y : Box} (w : Twins x y) where
     marks = rw (change-twins way told m, w .marks);
   }
 
-pub replies-twins : (x y : Box) → Twins x y → (cs : List Call) → replies x cs ≡ replies y cs
+pub replies-twins : (x y : Box) → Twins x y → (cs : List Call) → replies ofRules x cs ≡ replies ofRules y cs
 unfolding replies reply next
 replies-twins x y w [] = refl
 replies-twins x y w (c ∷ cs) =

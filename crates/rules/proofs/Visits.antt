@@ -2,22 +2,21 @@
 use Prim.Native.Nat.{ℕ, zero, suc, _+_, _*_, _≤_}
 use mathlib.Core.Bool.{Bool, true, false, not, _&&_, _||_}
 use mathlib.Core.Path.{_≡_, refl, sym, _∙_, ap}
-use mathlib.Core.Logic.{_⊎_, inl, inr}
 use mathlib.Core.Option.{Option, some, none}
 use mathlib.Core.List.{List, [], _∷_, _++_}
 use native.Mathlib.Omega.{arith}
-use lib.Dec.{T, eqb, ltb}
+use lib.Dec.{eqb, ltb}
 use lib.ListN.{length}
 use Rattle.terms.specs.Choice.{any, pick}
 use Rattle.records.specs.declared.Read.{Read}
 use Rattle.records.specs.declared.Write.{Write}
 use Rattle.records.specs.Tx.{readKey, readVersion, writeKey}
 use Rattle.rules.specs.Bodies.{Body, readsOf, stampOf, writesKey, writesOf}
-use Rattle.rules.specs.Table.{Box, Entry, Told, find, live}
-use Rattle.rules.specs.Tests.{liveWriter, namesNone, readUndercut, test1, test2, test3, test4, test5, undercut}
-use Rattle.rules.specs.Visits.{againVisits, fails3, fails4, firstVisits, keyByKey, lookUp, newLast, testVisits, through, unless, versionUp, visits2}
+use Rattle.rules.specs.Table.{Box, Entry, find, live}
+use Rattle.rules.specs.Tests.{liveWriter, namesNone, readUndercut, test2, test3, test4, undercut}
+use Rattle.rules.specs.Visits.{fails3, fails4, keyByKey, lookUp, newLast, through, versionUp, visits2}
 use Rattle.rules.specs.Visits.{visits3, visits4, waitingVisits}
-use Rattle.rules.proofs.Laws.{pick-elim, pick-false, pick-true}
+use Rattle.rules.proofs.Laws.{pick-elim}
 
 true-false : {A : Type 0} → _≡_ {A = Bool} true false → A
 true-false h = let z : _≡_ {A = ℕ} 0 1 = cc in absurd (omega arith)
@@ -38,6 +37,14 @@ through-all p (e ∷ es) h = go (p e) (through-all p es) h
     go : (c : Bool) → (any p es ≡ false → through p es ≡ length es) → c || any p es ≡ false → suc (pick c 0 (through p es)) ≡ suc (length es)
     go true l k = true-false k
     go false l k = ap suc (l k)
+
+pub look-most : (s : ℕ) (t : List Entry) → lookUp s t ≤ length t
+unfolding lookUp
+look-most s t = through-most _ t
+
+pub version-most : (t : List Entry) (r : Read) → versionUp t r ≤ length t
+unfolding versionUp
+version-most t r = pick-elim (λ (n : ℕ). n ≤ length t) (eqb (readVersion r) 0) (λ _. omega arith) (λ _. look-most (readVersion r) t)
 
 pub look-all : (s : ℕ) (t : List Entry) → find s t ≡ none → lookUp s t ≡ length t
 unfolding lookUp through find
@@ -92,6 +99,31 @@ module _ {K : Type 0} where
       go true p l q = true-false q
       go false p l q = omega (arith, m k p, l q)
 
+-- eight keys, each at so many entries
+times-most : (n k h : ℕ) → n ≤ k → n * h ≤ k * h
+times-most zero k h p = omega arith
+times-most (suc n) zero h p = absurd (omega arith)
+times-most (suc n) (suc k) h p = omega (arith, times-most n k h (omega arith))
+
+pub eight-most : {K : Type 0} (visits : K → ℕ) (fails : K → Bool) (ks : List K) (h : ℕ) → length ks ≤ 8 → ((k : K) → visits k ≤ h) → keyByKey visits fails ks ≤ 8 * h
+eight-most visits fails ks h n m = omega (arith, keys-most visits fails ks h m, times-most (length ks) 8 h n)
+
+pub waiting-most : (t : List Entry) (b : Body) → length (readsOf b) ≤ 8 → waitingVisits t b ≤ 8 * length t
+unfolding waitingVisits
+waiting-most t b r = eight-most (versionUp t) (λ _. false) (readsOf b) (length t) r (version-most t)
+
+pub two-most : (x : Box) (b : Body) → length (readsOf b) ≤ 8 → visits2 x b ≤ 8 * length (x .table)
+unfolding visits2
+two-most x b r = eight-most (versionUp (x .table)) _ (readsOf b) (length (x .table)) r (version-most (x .table))
+
+pub three-most : (x : Box) (b : Body) → length (readsOf b) ≤ 8 → visits3 x b ≤ 8 * length (x .table)
+unfolding visits3
+three-most x b r = eight-most _ _ (readsOf b) (length (x .table)) r (λ k. through-most _ (x .table))
+
+pub four-most : (x : Box) (b : Body) → length (writesOf b) ≤ 8 → visits4 x b ≤ 8 * length (x .table)
+unfolding visits4
+four-most x b w = eight-most _ _ (writesOf b) (length (x .table)) w (λ k. through-most _ (x .table))
+
 -- ---- row by row is key by key
 module _ {B : Type 0} where
   any-never : (bs : List B) → any (λ (b : B). false) bs ≡ false
@@ -129,7 +161,7 @@ module _ {B : Type 0} where
       go false c u h = h
 
 pub test3-by-key : (x : Box) (b : Body) → test3 x b ≡ any (λ r. any (fails3 b r) (x .table)) (readsOf b)
-unfolding test3 undercut
+unfolding test3 undercut fails3
 test3-by-key x b =
     (λ i. any (λ e. and-any (live e) (readUndercut (stampOf b) (e .body)) (readsOf b) i) (x .table))
     ∙ any-swap (λ (e : Entry) (r : Read). fails3 b r e) (x .table) (readsOf b)
@@ -143,12 +175,12 @@ over-by-key a b =
     (λ i. any (λ r. any-and (ltb (readVersion r) (stampOf b) && ltb (stampOf b) (stampOf a)) (λ w. eqb (writeKey w) (readKey r)) (writesOf b) i) (readsOf a))
     ∙ any-swap (λ (r : Read) (w : Write). eqb (writeKey w) (readKey r) && (ltb (readVersion r) (stampOf b) && ltb (stampOf b) (stampOf a))) (readsOf a) (writesOf b)
 
-pub test4-by-key : (x : Box) (b : Body) → test4 x b ≡ any (λ w. any (fails4 b w) (x .table)) (writesOf b)
-unfolding test4
+pub test4-by-key : (x : Box) (b : Body) → test4 x b ≡ any (λ w. any (fails4 b (writeKey w)) (x .table)) (writesOf b)
+unfolding test4 fails4
 test4-by-key x b =
     (λ i. any (λ e. live e && over-by-key (e .body) b i) (x .table))
     ∙ (λ i. any (λ e. and-any (live e) (λ w. any (λ r. eqb (writeKey w) (readKey r) && (ltb (readVersion r) (stampOf b) && ltb (stampOf b) (stampOf (e .body)))) (readsOf (e .body))) (writesOf b) i) (x .table))
-    ∙ any-swap (λ (e : Entry) (w : Write). fails4 b w e) (x .table) (writesOf b)
+    ∙ any-swap (λ (e : Entry) (w : Write). fails4 b (writeKey w) e) (x .table) (writesOf b)
 
 -- ---- where tests 3 and 4 pass, each key goes through all entries
 pub visits3-all : (x : Box) (b : Body) → test3 x b ≡ false → visits3 x b ≡ length (readsOf b) * length (x .table)
@@ -159,7 +191,7 @@ visits3-all x b h =
 pub visits4-all : (x : Box) (b : Body) → test4 x b ≡ false → visits4 x b ≡ length (writesOf b) * length (x .table)
 unfolding visits4
 visits4-all x b h =
-    keys-all _ _ (writesOf b) (length (x .table)) (sym (test4-by-key x b) ∙ h) (λ w n. through-all (fails4 b w) (x .table) n)
+    keys-all _ _ (writesOf b) (length (x .table)) (sym (test4-by-key x b) ∙ h) (λ w n. through-all (fails4 b (writeKey w)) (x .table) n)
 
 -- ---- where test 2 passes, the waiting rule looks up what test 2 looked up, a new entry behind or not
 named-up : (x : Box) (u : List Entry) (r : Read) → namesNone x r ≡ false → versionUp (x .table ++ u) r ≡ versionUp (x .table) r

@@ -8,7 +8,7 @@ use Rattle.records.specs.declared.Marked.the-variants.{Is}
 use Rattle.rules.specs.Answers.{Answer, Decided, Done, NoVersion, Refused, abort, commit, settled, unsettled, unvoted, voteCommit, votes, waiting}
 use Rattle.rules.specs.Table.{Box, Entry}
 use Rattle.rules.specs.Act.{due, receive}
-use Rattle.rules.specs.Order.{Call, EitherOrder, NeedsNew, next, replies, reply}
+use Rattle.rules.specs.Order.{Call, EitherOrder, NeedsNew, next, ofRules, replies, reply}
 use Rattle.rules.specs.Cases.{DC, LG, PR, RD, aborts, commits, elections, found, iv, ld, line, logs0, reads, seen, write, tx, writes}
 use Rattle.rules.specs.Vectors.{elects, entry, logsIn, marked}
 
@@ -58,15 +58,15 @@ laterAnswers =
 
 pub record Crossed : Type 0 where
   -- both need a new entry, and with capacities of 8 and 5 there is room for both
-  pub one-new : NeedsNew lentThree (committing 8)
-  pub other-new : NeedsNew lentThree (aborting 5)
-  pub either : EitherOrder lentThree (committing 8) (aborting 5)
+  pub one-new : NeedsNew ofRules lentThree (committing 8)
+  pub other-new : NeedsNew ofRules lentThree (aborting 5)
+  pub either : EitherOrder ofRules lentThree (committing 8) (aborting 5)
   -- the tables differ
   pub this-way : next (next lentThree (committing 8)) (aborting 5) .table ≡ three (committed ∷ aborted ∷ [])
   pub that-way : next (next lentThree (aborting 5)) (committing 8) .table ≡ three (aborted ∷ committed ∷ [])
   -- the answers do not
-  pub answers-this-way : replies (next (next lentThree (committing 8)) (aborting 5)) laterCalls ≡ laterAnswers
-  pub answers-that-way : replies (next (next lentThree (aborting 5)) (committing 8)) laterCalls ≡ laterAnswers
+  pub answers-this-way : replies ofRules (next (next lentThree (committing 8)) (aborting 5)) laterCalls ≡ laterAnswers
+  pub answers-that-way : replies ofRules (next (next lentThree (aborting 5)) (committing 8)) laterCalls ≡ laterAnswers
   -- with room for one, the second is refused with 13, whichever it is
   pub one-alone : reply lentThree (committing 4) ≡ Done
   pub other-alone : reply lentThree (aborting 4) ≡ Done

@@ -1,11 +1,10 @@
 -- A6, "Say what one prepare may look at": the entries that a PR visits, counted in 01's order.
 use Prim.Native.Nat.{ℕ, suc, _+_}
-use mathlib.Core.Bool.{Bool, true, false, _&&_}
+use mathlib.Core.Bool.{Bool, false, _&&_}
 use mathlib.Core.List.{List, [], _∷_, _++_}
 use lib.Dec.{eqb, ltb}
 use Rattle.terms.specs.Choice.{any, pick}
 use Rattle.records.specs.declared.Read.{Read}
-use Rattle.records.specs.declared.Write.{Write}
 use Rattle.records.specs.Tx.{readKey, readVersion, writeKey}
 use Rattle.rules.specs.Answers.{unlogged, unsettled, unvoted, viewAs}
 use Rattle.rules.specs.Bodies.{Body, readsOf, stampOf, writesOf}
@@ -36,19 +35,17 @@ unfoldable pub visits2 : Box → Body → ℕ
 visits2 x b = keyByKey (versionUp (x .table)) (namesNone x) (readsOf b)
 
 -- "3 and 4 through the entries": an entry that fails test 3 at one key read here, and one that fails test 4 at one key written here
-abbrev pub fails3 : Body → Read → Entry → Bool
+unfoldable pub fails3 : Body → Read → Entry → Bool
 fails3 b r e = live e && readUndercut (stampOf b) (e .body) r
 
-abbrev pub fails4 : Body → Write → Entry → Bool
-fails4 b w e =
-    live e
-    && any (λ r. eqb (writeKey w) (readKey r) && (ltb (readVersion r) (stampOf b) && ltb (stampOf b) (stampOf (e .body)))) (readsOf (e .body))
+unfoldable pub fails4 : Body → ℕ → Entry → Bool
+fails4 b k e = live e && any (λ r. eqb k (readKey r) && (ltb (readVersion r) (stampOf b) && ltb (stampOf b) (stampOf (e .body)))) (readsOf (e .body))
 
 unfoldable pub visits3 : Box → Body → ℕ
 visits3 x b = keyByKey (λ r. through (fails3 b r) (x .table)) (λ r. any (fails3 b r) (x .table)) (readsOf b)
 
 unfoldable pub visits4 : Box → Body → ℕ
-visits4 x b = keyByKey (λ w. through (fails4 b w) (x .table)) (λ w. any (fails4 b w) (x .table)) (writesOf b)
+visits4 x b = keyByKey (λ w. through (fails4 b (writeKey w)) (x .table)) (λ w. any (fails4 b (writeKey w)) (x .table)) (writesOf b)
 
 -- "the waiting rule looks up every nonzero version": it does not stop early
 unfoldable pub waitingVisits : List Entry → Body → ℕ

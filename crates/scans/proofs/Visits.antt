@@ -1,44 +1,22 @@
 -- The entries visited: a look-up by its place, a test that passes by arithmetic, and the loops that go key by key.
-use Prim.Native.Nat.{ℕ, zero, suc, _+_, _-_, _*_, _<_, _≤_, zero-le}
+use Prim.Native.Nat.{ℕ, suc, _+_, _-_, _<_, _≤_, zero-le}
 use native.Mathlib.Omega.{arith}
-use native.Mathlib.Nat.{sub-zero, suc-mul, mul-le-mul-right}
-use mathlib.Core.Path.{_≡_, refl, sym, ap, _∙_}
-use mathlib.Core.List.{List, [], _∷_, _++_}
-use mathlib.Core.Bool.{Bool, true, false, not, _&&_, _||_, false≢true}
-use mathlib.Core.Option.{Option, none}
+use native.Mathlib.Nat.{sub-zero}
+use mathlib.Core.Path.{_≡_, refl}
+use mathlib.Core.List.{List, [], _∷_}
+use mathlib.Core.Bool.{Bool, true, false, _||_}
 use borrow.Author.Tests.{eq-eqb, ne-eqb}
 use lib.Dec.{eqb}
 use lib.ListN.{length}
 use Rattle.terms.specs.Choice.{pick, tab, any}
 use Rattle.terms.proofs.Scans.{tab-length}
 use Rattle.records.specs.declared.Read.{Read}
-use Rattle.records.specs.Tx.{readKey, readVersion}
+use Rattle.records.specs.Tx.{readVersion}
 use Rattle.rules.specs.Bodies.{stampOf}
-use Rattle.rules.specs.Table.{Entry, find}
-use Rattle.rules.specs.Tests.{liveWriter}
+use Rattle.rules.specs.Table.{Entry}
 use Rattle.rules.specs.Visits.{through, lookUp, versionUp, keyByKey}
+use Rattle.rules.proofs.Visits.{look-most as any-look-most}
 use Rattle.table.specs.Table.{entries, entryAt, place}
-use Rattle.scans.specs.Scans.{unnamed}
-
--- ---- one for each entry up to the first that is looked for
-module _ (p : Entry → Bool) where
-  pub through-most : (es : List Entry) → through p es ≤ length es
-  unfolding through
-  through-most [] = zero-le
-  through-most (e ∷ es) = by (p e) (through-most es)
-    where
-      by : (c : Bool) → through p es ≤ length es → suc (pick c 0 (through p es)) ≤ length (e ∷ es)
-      by true h = omega arith
-      by false h = omega arith
-
-  pub through-all : (es : List Entry) → any p es ≡ false → through p es ≡ length es
-  unfolding through
-  through-all [] h = refl
-  through-all (e ∷ es) h = by (p e) refl (λ z. through-all es z)
-    where
-      by : (c : Bool) → p e ≡ c → (any p es ≡ false → through p es ≡ length es) → suc (pick (p e) 0 (through p es)) ≡ length (e ∷ es)
-      by true q k = absurd (false≢true (sym h ∙ (rw q)))
-      by false q k = rw q (let r = k (rw q at h) in omega arith)
 
 -- ---- a look-up, by the place that it gives
 module _ (s : ℕ) where
@@ -62,18 +40,6 @@ module _ (s : ℕ) where
       by true q k = absurd (let z = rw q at h in omega arith)
       by false q k = rw q (let r = k (let z = rw q at h in omega arith) in omega arith)
 
-  -- what stands behind the entry found is not gone through
-  up-more : (es ys : List Entry) → (find s es ≡ none → ⊥) → lookUp s (es ++ ys) ≡ lookUp s es
-  unfolding lookUp through find
-  up-more [] ys h = absurd (h refl)
-  up-more (e ∷ es) ys h = by (eqb (stampOf (e .body)) s) refl (λ z. up-more es ys z)
-    where
-      by : (c : Bool) → eqb (stampOf (e .body)) s ≡ c → ((find s es ≡ none → ⊥) → lookUp s (es ++ ys) ≡ lookUp s es)
-          → suc (pick (eqb (stampOf (e .body)) s) 0 (through (λ x. eqb (stampOf (x .body)) s) (es ++ ys)))
-          ≡ suc (pick (eqb (stampOf (e .body)) s) 0 (through (λ x. eqb (stampOf (x .body)) s) es))
-      by true q k = rw q
-      by false q k = rw q (ap suc (k (λ z. h (rw q z))))
-
 -- over the rows of a table: one more than its place where it is held, else every row
 module _ (t : List ℕ) (s n i : ℕ) (e : i ≡ place s (entries t n)) where
   pub look-found : i < n → i + 1 ≡ lookUp s (entries t n)
@@ -89,10 +55,9 @@ module _ (t : List ℕ) (s n i : ℕ) (e : i ≡ place s (entries t n)) where
       omega arith
 
 pub look-most : (t : List ℕ) (s n : ℕ) → lookUp s (entries t n) ≤ n
-unfolding lookUp
 look-most t s n =
     let l : length (entries t n) ≡ n = tab-length (entryAt t) 0 n in
-    let r = through-most (λ e. eqb (stampOf (e .body)) s) (entries t n) in
+    let r = any-look-most s (entries t n) in
     omega arith
 
 -- ---- a version read
@@ -110,53 +75,7 @@ module _ (t : List ℕ) (n : ℕ) (r : Read) where
     unfolding versionUp
     version-free l = rw (ne-eqb (readVersion r) 0 h) (look-free t (readVersion r) n i e l)
 
-pub version-most : (es : List Entry) (r : Read) → versionUp es r ≤ length es
-unfolding versionUp lookUp
-version-most es r = by (eqb (readVersion r) 0)
-  where
-    by : (c : Bool) → pick c 0 (through (λ e. eqb (stampOf (e .body)) (readVersion r)) es) ≤ length es
-    by true = zero-le
-    by false = through-most (λ e. eqb (stampOf (e .body)) (readVersion r)) es
-
--- a version that passes test 2 is found, so that nothing behind is gone through
-pub version-more : (es ys : List Entry) (r : Read) → unnamed es r ≡ false → versionUp (es ++ ys) r ≡ versionUp es r
-unfolding versionUp unnamed liveWriter
-version-more es ys r d = by (eqb (readVersion r) 0) refl
-  where
-    by : (c : Bool) → eqb (readVersion r) 0 ≡ c
-        → pick (eqb (readVersion r) 0) 0 (lookUp (readVersion r) (es ++ ys)) ≡ pick (eqb (readVersion r) 0) 0 (lookUp (readVersion r) es)
-    by true q = rw q
-    by false q = rw q (up-more (readVersion r) es ys (λ z. false≢true (sym (rw (q, z) at d))))
-
 -- ---- key by key
-module _ {K : Type 0} where
-  -- so many keys, each at so many entries
-  most : (v : K → ℕ) (f : K → Bool) (n : ℕ) → ((k : K) → v k ≤ n) → (ks : List K) → keyByKey v f ks ≤ length ks * n
-  unfolding keyByKey
-  most v f n h [] = zero-le
-  most v f n h (k ∷ ks) = by (f k) (h k) (most v f n h ks)
-    where
-      by : (c : Bool) → v k ≤ n → keyByKey v f ks ≤ length ks * n → v k + pick c 0 (keyByKey v f ks) ≤ length (k ∷ ks) * n
-      by true p q = rw (suc-mul (length ks) n) (omega arith)
-      by false p q = rw (suc-mul (length ks) n) (omega arith)
-
-  pub most-8 : (v : K → ℕ) (f : K → Bool) (n : ℕ) → ((k : K) → v k ≤ n) → (ks : List K) → length ks ≤ 8 → keyByKey v f ks ≤ 8 * n
-  most-8 v f n h ks l =
-      let a : keyByKey v f ks ≤ length ks * n = most v f n h ks in
-      let d : length ks * n ≤ 8 * n = mul-le-mul-right n l in
-      omega arith
-
-  -- where no key fails, none is left out
-  pub every-key : (v w : K → ℕ) (f : K → Bool) → ((k : K) → f k ≡ false → w k ≡ v k) → (ks : List K) → any f ks ≡ false
-      → keyByKey w (λ _. false) ks ≡ keyByKey v f ks
-  unfolding keyByKey
-  every-key v w f h [] e = refl
-  every-key v w f h (k ∷ ks) e = by (f k) refl (λ z. every-key v w f h ks z)
-    where
-      by : (c : Bool) → f k ≡ c → (any f ks ≡ false → keyByKey w (λ _. false) ks ≡ keyByKey v f ks) → w k + keyByKey w (λ _. false) ks ≡ v k + pick (f k) 0 (keyByKey v f ks)
-      by true q r = absurd (false≢true (sym e ∙ (rw q)))
-      by false q r = rw (q, h k q, r (rw q at e))
-
 -- the loop: x and what is left from key j on are the whole, W
 pub record Keyed {K : Type 0} (v : K → ℕ) (f : K → Bool) (g : ℕ → K) (m W x j : ℕ) : Type 0 where
   pub within : j ≤ m

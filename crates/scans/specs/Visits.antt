@@ -1,29 +1,21 @@
--- What the scans count: tests 3 and 4 at one key and one entry, and what comes behind test 2.
+-- What the scans count: a read of an entry at one key written here, and what comes behind test 2.
 use Prim.Native.Nat.{ℕ, _+_}
 use mathlib.Core.Bool.{Bool, _&&_}
 use lib.Dec.{eqb, ltb}
-use Rattle.terms.specs.Choice.{any, pick}
+use Rattle.terms.specs.Choice.{pick}
 use Rattle.records.specs.declared.Read.{Read}
 use Rattle.records.specs.Tx.{readKey, readVersion}
 use Rattle.rules.specs.declared.Reason.the-variants.{Overwritten, ReadMark, Undercuts}
 use Rattle.rules.specs.declared.Vote.{Vote}
 use Rattle.rules.specs.declared.Vote.the-variants.{Waiting as waiting, Commit as voteCommit, Abort as voteAbort}
-use Rattle.rules.specs.Bodies.{Body, readsOf, stampOf}
-use Rattle.rules.specs.Table.{Box, Entry, live}
+use Rattle.rules.specs.Bodies.{Body}
+use Rattle.rules.specs.Table.{Box}
 use Rattle.rules.specs.Tests.{test3, test4, test5}
-use Rattle.rules.specs.Visits.{fails3, unless, visits3, visits4}
-
--- test 3 at one key read here and one entry
-unfoldable pub clash3 : Body → Read → Entry → Bool
-clash3 b r e = fails3 b r e
+use Rattle.rules.specs.Visits.{unless, visits3, visits4}
 
 -- whether a read is of the key, at a version below the stamp
 unfoldable pub readBelow : ℕ → ℕ → Read → Bool
 readBelow k s r = eqb k (readKey r) && ltb (readVersion r) s
-
--- test 4 at one key written here and one entry
-unfoldable pub clash4 : Body → ℕ → Entry → Bool
-clash4 b k e = live e && any (λ r. eqb k (readKey r) && (ltb (readVersion r) (stampOf b) && ltb (stampOf b) (stampOf (e .body)))) (readsOf (e .body))
 
 -- ---- behind test 2
 -- the waiting rule by what test 2 passed: 1 where a version is undecided

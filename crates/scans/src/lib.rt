@@ -12,10 +12,10 @@ ghost use Rattle.rules.specs.Bodies.{readsOf, writesOf};
 ghost use Rattle.rules.specs.Table.{boxWith, limit};
 ghost use Rattle.rules.specs.Tests.{test1, test3, test4, test5, undercut, statusOf, status, waitingRule, firstVote};
 ghost use Rattle.rules.specs.Calls.{valueAt, rdAnswer};
-ghost use Rattle.rules.specs.Visits.{through, versionUp, visits2, visits3, visits4, waitingVisits, newLast, testVisits};
+ghost use Rattle.rules.specs.Visits.{fails3, fails4, through, versionUp, visits2, visits3, visits4, waitingVisits, newLast, testVisits};
 ghost use Rattle.table.specs.Table.{WfRow, Wf, entryOf, entries};
 ghost use Rattle.scans.specs.Scans.{over, namedBy, named, namedAll, below, older, hit3, hit4, statusNumber, newerBy, nextWriters, newestWriters};
-ghost use Rattle.scans.specs.Visits.{clash3, clash4, readBelow, laterVote, laterVisits, voteAfter};
+ghost use Rattle.scans.specs.Visits.{readBelow, laterVote, laterVisits, voteAfter};
 ghost use Rattle.scans.specs.Keys.{inKeys, withKey, lacks, keysAt, keysRead, keysWritten};
 use records::Read;
 use rules::Answer;
@@ -490,7 +490,7 @@ pub fn waiting_rule(t: &[u8], n: usize, b: &[u8]) -> Cast
 // Test 3 at one key and one row: the stamps first, then the key.
 fn fails_3(e: &[u8], b: &[u8], p: Read) -> bool
     requires { ⌜ WfRow (now e) × TxThere (now b) ⌝ }
-    ensures { λ r. ⌜ r ≡ clash3 (now (b .entry)) p (entryOf (now (e .entry))) ⌝ }
+    ensures { λ r. ⌜ r ≡ fails3 (now (b .entry)) p (entryOf (now (e .entry))) ⌝ }
 {
     let a = table::tx_of(e);
     if table::stamp_of(b).0 <= table::stamp_of(a).0 {
@@ -505,7 +505,7 @@ fn fails_3(e: &[u8], b: &[u8], p: Read) -> bool
 // The rows gone through at one key read here, up to the first that fails test 3.
 fn through_3(t: &[u8], n: usize, b: &[u8], p: Read) -> Gone
     requires { ⌜ Wf (now t) n × TxThere (now b) ⌝ }
-    ensures { λ r. ⌜ (r .fails ≡ any (clash3 (now (b .entry)) p) (entries (now (t .entry)) n)) × (r .visited ≡ through (clash3 (now (b .entry)) p) (entries (now (t .entry)) n)) ⌝ }
+    ensures { λ r. ⌜ (r .fails ≡ any (fails3 (now (b .entry)) p) (entries (now (t .entry)) n)) × (r .visited ≡ through (fails3 (now (b .entry)) p) (entries (now (t .entry)) n)) ⌝ }
 {
     let mut i = 0;
     while i < n {
@@ -574,7 +574,7 @@ fn is_below(p: Read, k: Key, s: Stamp) -> bool
 // Test 4 at one key and one row: the stamps first, then the key.
 fn fails_4(e: &[u8], b: &[u8], k: Key) -> bool
     requires { ⌜ WfRow (now e) × TxThere (now b) ⌝ }
-    ensures { λ r. ⌜ r ≡ clash4 (now (b .entry)) (k .0) (entryOf (now (e .entry))) ⌝ }
+    ensures { λ r. ⌜ r ≡ fails4 (now (b .entry)) (k .0) (entryOf (now (e .entry))) ⌝ }
 {
     let a = table::tx_of(e);
     let s = table::stamp_of(b);
@@ -590,7 +590,7 @@ fn fails_4(e: &[u8], b: &[u8], k: Key) -> bool
 // The rows gone through at one key written here, up to the first that fails test 4.
 fn through_4(t: &[u8], n: usize, b: &[u8], k: Key) -> Gone
     requires { ⌜ Wf (now t) n × TxThere (now b) ⌝ }
-    ensures { λ r. ⌜ (r .fails ≡ any (clash4 (now (b .entry)) (k .0)) (entries (now (t .entry)) n)) × (r .visited ≡ through (clash4 (now (b .entry)) (k .0)) (entries (now (t .entry)) n)) ⌝ }
+    ensures { λ r. ⌜ (r .fails ≡ any (fails4 (now (b .entry)) (k .0)) (entries (now (t .entry)) n)) × (r .visited ≡ through (fails4 (now (b .entry)) (k .0)) (entries (now (t .entry)) n)) ⌝ }
 {
     let mut i = 0;
     while i < n {

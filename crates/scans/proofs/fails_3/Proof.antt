@@ -1,5 +1,5 @@
 use mathlib.Core.Path.{sym, _∙_}
-use Rattle.scans.proofs.Counting.{clash3-late, clash3-under, clash3-clear}
+use Rattle.scans.proofs.Counting.{fails3-late, fails3-under, fails3-clear}
 use native.Mathlib.Omega.{arith}
 use borrow.Author.Needs.{needs}
 use Rattle.scans.proofs.fails_3.Statement.{statement}
@@ -21,7 +21,7 @@ stamp-of-requires-2 : tie.Need-stamp-of-requires-2
 stamp-of-requires-2 c κs = search needs
 
 returns : tie.Need-returns
-returns c = let a = c .before .before .before .before .before .before .before .before .args in clash3-late (a .b .now) (a .e .now) (a .p) (rw (← c .before .before .before .before .before .tx-of .ensures .0, ← c .before .before .before .before .stamp-of .ensures, ← c .before .before .before .stamp-of2 .ensures) (c .if1 .taken))
+returns c = let a = c .before .before .before .before .before .before .before .before .args in fails3-late (a .b .now) (a .e .now) (a .p) (rw (← c .before .before .before .before .before .tx-of .ensures .0, ← c .before .before .before .before .stamp-of .ensures, ← c .before .before .before .stamp-of2 .ensures) (c .if1 .taken))
 
 below-requires : tie.Need-below-requires
 below-requires c κs = search needs
@@ -30,10 +30,10 @@ live-requires : tie.Need-live-requires
 live-requires c κs = search needs
 
 returns-2 : tie.Need-returns-2
-returns-2 c = let a = c .before .before .before .before .before .before .before .before .before .before .before .args in clash3-under (a .b .now) (a .e .now) (a .p) (rw (← c .before .before .before .before .before .before .before .before .tx-of .ensures .0, ← c .before .before .before .before .before .before .before .stamp-of .ensures, ← c .before .before .before .before .before .before .stamp-of2 .ensures) (c .before .before .before .if1 .left)) (c .live .ensures) (rw (← c .before .before .before .before .before .before .before .before .tx-of .ensures .0) (sym (c .before .before .below .ensures) ∙ c .before .if2 .taken))
+returns-2 c = let a = c .before .before .before .before .before .before .before .before .before .before .before .args in fails3-under (a .b .now) (a .e .now) (a .p) (rw (← c .before .before .before .before .before .before .before .before .tx-of .ensures .0, ← c .before .before .before .before .before .before .before .stamp-of .ensures, ← c .before .before .before .before .before .before .stamp-of2 .ensures) (c .before .before .before .if1 .left)) (c .live .ensures) (rw (← c .before .before .before .before .before .before .before .before .tx-of .ensures .0) (sym (c .before .before .below .ensures) ∙ c .before .if2 .taken))
 
 returns-3 : tie.Need-returns-3
-returns-3 c = let a = c .before .before .before .before .before .before .before .before .before .before .args in clash3-clear (a .b .now) (a .e .now) (a .p) (rw (← c .before .before .before .before .before .before .before .tx-of .ensures .0, ← c .before .before .before .before .before .before .stamp-of .ensures, ← c .before .before .before .before .before .stamp-of2 .ensures) (c .before .before .if1 .left)) (rw (← c .before .before .before .before .before .before .before .tx-of .ensures .0) (sym (c .before .below .ensures) ∙ c .if2 .left))
+returns-3 c = let a = c .before .before .before .before .before .before .before .before .before .before .args in fails3-clear (a .b .now) (a .e .now) (a .p) (rw (← c .before .before .before .before .before .before .before .tx-of .ensures .0, ← c .before .before .before .before .before .before .stamp-of .ensures, ← c .before .before .before .before .before .stamp-of2 .ensures) (c .before .before .if1 .left)) (rw (← c .before .before .before .before .before .before .before .tx-of .ensures .0) (sym (c .before .below .ensures) ∙ c .if2 .left))
 
 pub fails-3-spec : {M : Type 1} → statement M
 fails-3-spec =

@@ -3,7 +3,7 @@ use Prim.Native.Nat.{_-_}
 use Rattle.terms.specs.Choice.{any}
 use Rattle.rules.specs.Visits.{through}
 use Rattle.table.specs.Table.{entries, entryAt}
-use Rattle.scans.specs.Visits.{clash3}
+use Rattle.rules.specs.Visits.{fails3}
 use Rattle.scans.proofs.Visits.{Pass, pass-begin, pass-found, pass-go, pass-end}
 use native.Mathlib.Omega.{arith}
 use borrow.Author.Needs.{needs}
@@ -15,7 +15,7 @@ use Rattle.scans.proofs.fails_3.Reads as fails-3-reads
 use Rattle.table.proofs.row.Reads as row-reads
 
 abbrev Inv-loop : tie.InvT-loop
-Inv-loop t n b p i₀ i = Pass (clash3 b p) (entryAt t) n (any (clash3 b p) (entries t n)) (through (clash3 b p) (entries t n)) i
+Inv-loop t n b p i₀ i = Pass (fails3 b p) (entryAt t) n (any (fails3 b p) (entries t n)) (through (fails3 b p) (entries t n)) i
 
 abbrev μ-loop : tie.MeasureT-loop
 μ-loop t n b p i₀ i = n - i

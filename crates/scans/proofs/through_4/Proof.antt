@@ -3,7 +3,7 @@ use Prim.Native.Nat.{_-_}
 use Rattle.terms.specs.Choice.{any}
 use Rattle.rules.specs.Visits.{through}
 use Rattle.table.specs.Table.{entries, entryAt}
-use Rattle.scans.specs.Visits.{clash4}
+use Rattle.rules.specs.Visits.{fails4}
 use Rattle.scans.proofs.Visits.{Pass, pass-begin, pass-found, pass-go, pass-end}
 use native.Mathlib.Omega.{arith}
 use borrow.Author.Needs.{needs}
@@ -15,7 +15,7 @@ use Rattle.scans.proofs.fails_4.Reads as fails-4-reads
 use Rattle.table.proofs.row.Reads as row-reads
 
 abbrev Inv-loop : tie.InvT-loop
-Inv-loop t n b k i₀ i = Pass (clash4 b (k .0)) (entryAt t) n (any (clash4 b (k .0)) (entries t n)) (through (clash4 b (k .0)) (entries t n)) i
+Inv-loop t n b k i₀ i = Pass (fails4 b (k .0)) (entryAt t) n (any (fails4 b (k .0)) (entries t n)) (through (fails4 b (k .0)) (entries t n)) i
 
 abbrev μ-loop : tie.MeasureT-loop
 μ-loop t n b k i₀ i = n - i

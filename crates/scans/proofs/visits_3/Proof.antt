@@ -7,7 +7,7 @@ use Rattle.rules.specs.Bodies.{readsOf}
 use Rattle.rules.specs.Visits.{through, visits3}
 use Rattle.table.specs.Table.{entries}
 use Rattle.scans.specs.Scans.{over}
-use Rattle.scans.specs.Visits.{clash3}
+use Rattle.rules.specs.Visits.{fails3}
 use Rattle.scans.proofs.Visits.{Keyed, keyed-begin, keyed-fits, keyed-stop, keyed-go, keyed-end}
 use Rattle.scans.proofs.Counting.{visits3-most}
 use native.Mathlib.Omega.{arith}
@@ -16,7 +16,7 @@ use Rattle.scans.proofs.visits_3.Statement.{statement}
 use Rattle.scans.proofs.visits_3.Tie as tie
 
 abbrev Inv-loop : tie.InvT-loop
-Inv-loop t n b m visited₀ j₀ visited j = Keyed (λ r. through (clash3 b r) (entries t n)) (λ r. any (clash3 b r) (entries t n)) (readAt b 12) m (visits3 (over (entries t n)) b) visited j
+Inv-loop t n b m visited₀ j₀ visited j = Keyed (λ r. through (fails3 b r) (entries t n)) (λ r. any (fails3 b r) (entries t n)) (readAt b 12) m (visits3 (over (entries t n)) b) visited j
 
 abbrev μ-loop : tie.MeasureT-loop
 μ-loop t n b m visited₀ j₀ visited j = m - j
@@ -25,7 +25,7 @@ read-count-requires : tie.Need-read-count-requires Inv-loop μ-loop
 read-count-requires c κs = search needs
 
 loop-holds : tie.Need-loop-holds Inv-loop μ-loop
-unfolding readsOf txOf visits3 clash3
+unfolding readsOf txOf visits3 fails3
 loop-holds c = keyed-begin (rw (c .read-count .ensures .0))
 
 read-at-requires : tie.Need-read-at-requires Inv-loop μ-loop

@@ -7,7 +7,7 @@ use Rattle.rules.specs.Bodies.{writesOf}
 use Rattle.rules.specs.Visits.{through, visits4}
 use Rattle.table.specs.Table.{entries}
 use Rattle.scans.specs.Scans.{over}
-use Rattle.scans.specs.Visits.{clash4}
+use Rattle.rules.specs.Visits.{fails4}
 use Rattle.scans.proofs.Visits.{Keyed, keyed-begin, keyed-fits, keyed-stop, keyed-go, keyed-end}
 use Rattle.scans.proofs.Counting.{visits4-most}
 use native.Mathlib.Omega.{arith}
@@ -16,7 +16,7 @@ use Rattle.scans.proofs.visits_4.Statement.{statement}
 use Rattle.scans.proofs.visits_4.Tie as tie
 
 abbrev Inv-loop : tie.InvT-loop
-Inv-loop t n b m visited₀ j₀ visited j = Keyed (λ r. through (clash4 b (writeKey r)) (entries t n)) (λ r. any (clash4 b (writeKey r)) (entries t n)) (writeAt b (writesFrom b)) m (visits4 (over (entries t n)) b) visited j
+Inv-loop t n b m visited₀ j₀ visited j = Keyed (λ r. through (fails4 b (writeKey r)) (entries t n)) (λ r. any (fails4 b (writeKey r)) (entries t n)) (writeAt b (writesFrom b)) m (visits4 (over (entries t n)) b) visited j
 
 abbrev μ-loop : tie.MeasureT-loop
 μ-loop t n b m visited₀ j₀ visited j = m - j
@@ -25,7 +25,7 @@ write-count-requires : tie.Need-write-count-requires Inv-loop μ-loop
 write-count-requires c κs = search needs
 
 loop-holds : tie.Need-loop-holds Inv-loop μ-loop
-unfolding writesOf txOf visits4 clash4
+unfolding writesOf txOf visits4 fails4
 loop-holds c = keyed-begin (rw (c .write-count .ensures .0))
 
 write-at-requires : tie.Need-write-at-requires Inv-loop μ-loop
