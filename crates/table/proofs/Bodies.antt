@@ -21,7 +21,7 @@ use Rattle.rules.specs.Table.{liveBy}
 use Rattle.table.specs.Table.{rowLen, bodyAt, rowAt, rowTx, rowBody, entryWith, entryOf, WfRow, Wf}
 
 -- a number that lies in the front of a list
-mid-take : (n p k : ℕ) (s : List ℕ) → p + n ≤ k → take n (drop p (take k s)) ≡ take n (drop p s)
+pub mid-take : (n p k : ℕ) (s : List ℕ) → p + n ≤ k → take n (drop p (take k s)) ≡ take n (drop p s)
 mid-take n zero k s h = take-take n k s (omega arith)
 mid-take n (suc p) zero s h = absurd (omega arith)
 mid-take n (suc p) (suc k) [] h = refl
