@@ -54,8 +54,11 @@ pub fn low_wrong(t: &[u8], low: Stamp) -> u8
     ensures { λ r. ⌜ ((marks : List ℕ) → r ≡ lowWrong (boxFrom (now (t .entry)) (entriesOf (now (t .entry))) marks) (low .0)) ⌝ }
 {
     let old = terms::refuse_if(low.0 <= table::low_of(t).0, terms::OLD);
-    let open = any_open(table::rows(t), table::count_of(t), low);
-    terms::first(old, terms::refuse_if(open, terms::UNDECIDED))
+    let open = terms::refuse_if(
+        any_open(table::rows(t), table::count_of(t), low),
+        terms::UNDECIDED,
+    );
+    terms::first(old, open)
 }
 
 // A number in eight bytes.
