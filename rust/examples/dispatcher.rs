@@ -1,18 +1,20 @@
 //! The incident, as the dispatchers read it.
 //!
-//! Train 7402, 240 axles, has passed a detector, and axle 3 of its order runs hot. The direction that was entered is wrong: the train ran the other way, and the fitter
-//! has to walk to the other end. One dispatcher corrects the direction. Box 5 answers whatever it likes, and answers twice.
+//! Train 7402, 240 axles, has passed a detector, and axle 3 of its order runs hot. The direction that was entered is wrong: the train ran the other way, and
+//! the fitter has to walk to the other end. One dispatcher corrects the direction. Box 5 answers whatever it likes, and answers twice.
 //!
 //! What is printed stands in dispatcher.stdout, and the tests compare it.
 
-use stobbarel::{write_dc, write_lg, write_pr, Answer, Decision, Group, Passage, Refusal, Seen, Sheet, Stamp, Table, Transaction, Values, View, VoteList, LONGEST};
 use Decision::{Abort, Commit};
+use stobbarel::{
+    Answer, Decision, Group, LONGEST, Passage, Refusal, Reply, Seen, Sheet, Stamp, Table, Transaction, Values, View, write_dc, write_lg, write_pr,
+};
 
 const PASSAGE: Passage = Passage(5);
 const CLOCK: u64 = 100;
 const DELTA: u64 = 10;
 const OWNERS: [&str; 5] = ["North Yard", "Canal Bridge", "Quarry Halt", "East Junction", "Harbour"];
-const LIAR: u64 = 5;
+const LIAR: u8 = 5;
 
 /// Five owners with a sound box each; box 5 keeps no table.
 struct Line {
@@ -32,7 +34,7 @@ impl Line {
         PASSAGE.look(&mut self.boxes[owner], CLOCK, DELTA, Stamp(stamp))
     }
 
-    fn send_all(&mut self, message: &[u8]) -> Vec<Answer> {
+    fn send_all(&mut self, message: &[u8]) -> Result<Vec<Answer>, Refusal> {
         self.boxes.iter_mut().map(|one| one.receive(CLOCK, DELTA, message)).collect()
     }
 
@@ -41,23 +43,21 @@ impl Line {
         let mut buffer = [0; LONGEST];
         let mut votes = Sheet::votes(self.group);
         for again in 1..=2 {
-            let reply = votes.take(LIAR, Abort);
-            println!("  box 5 answers abort, time {again}: {}", if reply == stobbarel::Reply::Repeat { "a repeat" } else { "counted" });
+            let reply = votes.take(LIAR, Abort)?;
+            println!("  box 5 answers abort, time {again}: {}", if reply == Reply::Repeat { "a repeat" } else { "counted" });
         }
-        let length = write_pr(tx, &mut buffer)?;
-        for (number, answer) in self.send_all(&buffer[..length]).into_iter().enumerate() {
-            let Answer::Voted(vote, _) = answer else { panic!("a PR was answered {answer:?}") };
-            votes.take_number(number as u64, vote.number());
+        for (number, answer) in (0..).zip(self.send_all(write_pr(tx, &mut buffer)?)?) {
+            let Answer::Voted(vote, _) = answer else { panic!("a PR was answered: {answer}") };
+            votes.take_vote(number, vote)?;
         }
-        let list = list(&votes);
-        let length = write_lg(self.group, tx, &list, &mut buffer)?;
+        let list = votes.counted(Commit);
         let mut logs = Sheet::logs(self.group, View(0));
-        for (number, answer) in self.send_all(&buffer[..length]).into_iter().enumerate() {
-            let Answer::Logged(decision, View(0)) = answer else { panic!("an LG was answered {answer:?}") };
-            logs.take(number as u64, decision);
+        for (number, answer) in (0..).zip(self.send_all(write_lg(self.group, tx, &list, &mut buffer)?)?) {
+            let Answer::Logged(decision, View(0)) = answer else { panic!("an LG was answered: {answer}") };
+            logs.take(number, decision)?;
         }
-        let length = write_dc(self.group, tx, &self::list(&logs), &mut buffer)?;
-        let done = self.send_all(&buffer[..length]).iter().filter(|answer| **answer == Answer::Done).count();
+        let dc = write_dc(self.group, tx, &logs.counted(Commit), &mut buffer)?;
+        let done = self.send_all(dc)?.iter().filter(|answer| **answer == Answer::Done).count();
         println!("  {} votes and {} logs for commit, {done} boxes have taken it", list.pairs.len(), logs.boxes(Commit).len());
         Ok(())
     }
@@ -72,11 +72,6 @@ impl Line {
         }
         Ok(())
     }
-}
-
-/// The boxes that said commit, as a list.
-fn list(sheet: &Sheet) -> VoteList {
-    VoteList { pairs: sheet.boxes(Commit).into_iter().map(|number| (number, Commit)).collect(), ..sheet.list(Commit) }
 }
 
 fn main() -> Result<(), Refusal> {
@@ -101,9 +96,7 @@ fn main() -> Result<(), Refusal> {
 
     println!("a dispatcher who looked before that corrects it once more:");
     let late = line.look(3, 66)?.correct_direction(Stamp(80))?;
-    let mut buffer = [0; LONGEST];
-    let length = write_pr(&late, &mut buffer)?;
-    let Answer::Voted(vote, _) = line.send_all(&buffer[..length])[0] else { panic!("a PR is voted on") };
-    println!("  {:<14} {vote:?}", OWNERS[0]);
+    let Answer::Voted(vote, _) = line.send_all(write_pr(&late, &mut [0; LONGEST])?)?[0] else { panic!("a PR is voted on") };
+    println!("  {:<14} {vote}", OWNERS[0]);
     Ok(())
 }

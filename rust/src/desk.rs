@@ -1,13 +1,24 @@
 //! A gateway's desk: the transactions that it cares for, and under them those of others that stand in their way and are finished first.
 
+use crate::answer::{Answer, Vote};
+use crate::gateway::{Gateway, Letter, Load, Timing};
 use crate::held::Held;
-use crate::records::{read_tx, Transaction};
-use crate::table::{Answer, Vote};
-use crate::{Decision, Gateway, Group, Letter, Load, Refusal, Stamp, Timing, View};
-use std::collections::BTreeMap;
+use crate::records::{Transaction, read_tx};
+use crate::refusal::Refusal;
+use crate::short::Bytes;
+use crate::terms::{Decision, Group, Stamp, View};
+use alloc::collections::BTreeMap;
+use alloc::{vec, vec::Vec};
+use core::fmt;
 
 /// What a gateway asks a box's host, beside the six messages.
-#[derive(Clone, Debug, PartialEq, Eq, PartialOrd, Ord, Hash)]
+///
+/// ```
+/// use stobbarel::{Question, Stamp};
+///
+/// assert_eq!(format!("{:?} {:?}", Question::Held(Stamp(50)), Question::Way(b"TX".to_vec())), "Held(Stamp(50)) Way(2 bytes)");
+/// ```
+#[derive(Clone, PartialEq, Eq, PartialOrd, Ord, Hash)]
 pub enum Question {
     /// What is held under this stamp.
     Held(Stamp),
@@ -15,8 +26,24 @@ pub enum Question {
     Way(Vec<u8>),
 }
 
+impl fmt::Debug for Question {
+    fn fmt(&self, f: &mut fmt::Formatter<'_>) -> fmt::Result {
+        match self {
+            Question::Held(stamp) => f.debug_tuple("Held").field(stamp).finish(),
+            Question::Way(body) => f.debug_tuple("Way").field(&Bytes(body)).finish(),
+        }
+    }
+}
+
 /// What a host tells of an entry.
-#[derive(Clone, Debug, PartialEq, Eq, Hash)]
+///
+/// ```
+/// use stobbarel::Holding;
+///
+/// let holding = Holding { body: b"TX".to_vec(), signed: true, vote: None, logged: None, proof: None };
+/// assert_eq!(format!("{holding:?}"), "Holding { body: 2 bytes, signed: true, vote: None, logged: None, proof: None }");
+/// ```
+#[derive(Clone, PartialEq, Eq, Hash)]
 pub struct Holding {
     /// The TX.
     pub body: Vec<u8>,
@@ -32,16 +59,51 @@ pub struct Holding {
 
 impl Holding {
     /// An entry as it is held, with the DC from the host's file; a host has every body with its writer's signature.
-    pub fn of(held: &Held, proof: Option<Vec<u8>>) -> Holding {
+    ///
+    /// ```
+    /// use stobbarel::{Group, Holding, Key, LONGEST, Stamp, Table, Transaction, Vote, write_pr};
+    ///
+    /// let mut table = Table::new(Group::of(1)?, 8)?;
+    /// let tx = Transaction::new(Stamp(50), [], [(Key(3), 7)]);
+    /// let answer = table.receive(100, 10, write_pr(&tx, &mut [0; LONGEST])?)?;
+    /// let held = table.held(Stamp(50))?.expect("the box voted on it");
+    /// assert_eq!(Holding::of(&held, None).vote, Some(Vote::Commit));
+    /// # let _ = answer;
+    /// # Ok::<(), stobbarel::Refusal>(())
+    /// ```
+    #[must_use]
+    pub fn of(held: &Held<'_>, proof: Option<Vec<u8>>) -> Holding {
         Holding { body: held.body.to_vec(), signed: true, vote: held.vote, logged: held.logged, proof }
     }
 }
 
+impl fmt::Debug for Holding {
+    fn fmt(&self, f: &mut fmt::Formatter<'_>) -> fmt::Result {
+        let mut holding = f.debug_struct("Holding");
+        holding.field("body", &Bytes(&self.body)).field("signed", &self.signed).field("vote", &self.vote);
+        holding.field("logged", &self.logged).field("proof", &self.proof.as_deref().map(Bytes)).finish()
+    }
+}
+
 /// At most so many entries of an answer are looked at.
+///
+/// ```
+/// assert_eq!(stobbarel::MOST_HOLDINGS, 16);
+/// ```
 pub const MOST_HOLDINGS: usize = 16;
 
-/// Whether one transaction, while it is undecided, can keep another from being voted on for commit: it is a version read there; it writes a key read there, between the
-/// version and that stamp; or it has a higher stamp and read a key written there, at a version below.
+/// Whether one transaction, while it is undecided, can keep another from being voted on for commit: it is a version read there; it writes a key read there,
+/// between the version and that stamp; or it has a higher stamp and read a key written there, at a version below.
+///
+/// ```
+/// use stobbarel::{Key, Stamp, Transaction, in_the_way};
+///
+/// let first = Transaction::new(Stamp(50), [], [(Key(3), 7)]);
+/// let second = Transaction::new(Stamp(60), [(Key(3), Stamp(50))], [(Key(3), 8)]);
+/// assert!(in_the_way(&second, &first));
+/// assert!(in_the_way(&Transaction::new(Stamp(55), [], [(Key(3), 9)]), &second));
+/// ```
+#[must_use]
 pub fn in_the_way(of: &Transaction, other: &Transaction) -> bool {
     let read = of.reads.iter().any(|(_, version)| *version == other.stamp);
     let writes = |key| other.writes.iter().any(|(written, _)| *written == key);
@@ -52,7 +114,7 @@ pub fn in_the_way(of: &Transaction, other: &Transaction) -> bool {
 }
 
 /// One transaction on the desk.
-#[derive(Clone, Debug)]
+#[derive(Clone)]
 struct Work {
     gateway: Gateway,
     /// The caller cares for it; else it stood in the way.
@@ -73,18 +135,18 @@ const MOST_ASKED: u32 = 4;
 /// use stobbarel::{Decision, Desk, Group, Key, Load, Stamp, Table, Timing, Transaction};
 ///
 /// let group = Group::of(1)?;
-/// let mut boxes: Vec<Table> = (0..6).map(|_| Table::new(group, 8)).collect::<Result<_, _>>()?;
+/// let mut boxes = vec![Table::new(group, 8)?; 6];
 /// let mut desk = Desk::new(group, Timing { patience: 10, first_try: 20, doublings: 10, farewells: 5 });
 ///
 /// // 50 writes 7 at key 3. The letters go to the boxes, their answers come back, and there are more letters.
-/// let tx = Transaction { stamp: Stamp(50), reads: vec![], writes: vec![(Key(3), 7)] };
+/// let tx = Transaction::new(Stamp(50), [], [(Key(3), 7)]);
 /// let (mut letters, mut now) = (desk.care(tx, 0)?, 0);
 /// let body = desk.gateways().next().expect("it is on the desk").body().to_vec();
 /// while desk.due().is_some() {
 ///     now += 1;
 ///     for letter in std::mem::take(&mut letters) {
 ///         if let Load::Message(message) = letter.load {
-///             let answer = boxes[letter.to as usize].receive(100, 10, &message);
+///             let answer = boxes[usize::from(letter.to)].receive(100, 10, &message);
 ///             letters.extend(desk.hear(letter.to, &body, answer, None, now));
 ///         }
 ///     }
@@ -95,7 +157,7 @@ const MOST_ASKED: u32 = 4;
 /// assert_eq!(now, 2);
 /// # Ok::<(), stobbarel::Refusal>(())
 /// ```
-#[derive(Clone, Debug)]
+#[derive(Clone)]
 pub struct Desk {
     group: Group,
     timing: Timing,
@@ -108,28 +170,83 @@ pub struct Desk {
 
 impl Desk {
     /// A desk with nothing on it.
+    ///
+    /// ```
+    /// # use stobbarel::{Desk, Group, Key, Stamp, Timing, Transaction};
+    /// # let tx = Transaction::new(Stamp(50), [], [(Key(3), 7)]);
+    /// # let timing = Timing { patience: 10, first_try: 20, doublings: 10, farewells: 5 };
+    /// let desk = Desk::new(Group::of(1)?, timing);
+    /// assert_eq!(desk.due(), None);
+    /// # Ok::<(), stobbarel::Refusal>(())
+    /// ```
+    #[must_use]
     pub fn new(group: Group, timing: Timing) -> Desk {
         Desk { group, timing, works: BTreeMap::new(), sought: BTreeMap::new() }
     }
 
     /// Cares for a transaction from now on; refused where it is not in order.
+    ///
+    /// ```
+    /// # use stobbarel::{Desk, Group, Key, Stamp, Timing, Transaction};
+    /// # let tx = Transaction::new(Stamp(50), [], [(Key(3), 7)]);
+    /// # let timing = Timing { patience: 10, first_try: 20, doublings: 10, farewells: 5 };
+    /// let mut desk = Desk::new(Group::of(1)?, timing);
+    /// assert_eq!(desk.care(tx, 0)?.len(), 6, "a PR for each box");
+    /// assert_eq!(desk.care(Transaction::default(), 0), Err(stobbarel::Refusal::Count));
+    /// # Ok::<(), stobbarel::Refusal>(())
+    /// ```
     pub fn care(&mut self, tx: Transaction, now: u64) -> Result<Vec<Letter>, Refusal> {
         self.take_up(tx, true, now)
     }
 
     /// Finishes whatever boxes hold under a stamp, as is due before a low mark is raised above it. Asked once; the caller asks again.
+    ///
+    /// ```
+    /// # use stobbarel::{Desk, Group, Key, Stamp, Timing, Transaction};
+    /// # let tx = Transaction::new(Stamp(50), [], [(Key(3), 7)]);
+    /// # let timing = Timing { patience: 10, first_try: 20, doublings: 10, farewells: 5 };
+    /// let mut desk = Desk::new(Group::of(1)?, timing);
+    /// assert_eq!(desk.sweep(Stamp(50)).len(), 6, "a question for each box");
+    /// # Ok::<(), stobbarel::Refusal>(())
+    /// ```
+    #[must_use = "the letters are to be sent"]
     pub fn sweep(&mut self, stamp: Stamp) -> Vec<Letter> {
         self.sought.entry(stamp).or_default();
         self.ask(Question::Held(stamp))
     }
 
     /// Enough was told of a stamp; what was taken up there goes on.
+    ///
+    /// ```
+    /// # use stobbarel::{Desk, Group, Key, Stamp, Timing, Transaction};
+    /// # let tx = Transaction::new(Stamp(50), [], [(Key(3), 7)]);
+    /// # let timing = Timing { patience: 10, first_try: 20, doublings: 10, farewells: 5 };
+    /// let mut desk = Desk::new(Group::of(1)?, timing);
+    /// let questions = desk.sweep(Stamp(50));
+    /// desk.swept(Stamp(50));
+    /// # let _ = questions;
+    /// # Ok::<(), stobbarel::Refusal>(())
+    /// ```
     pub fn swept(&mut self, stamp: Stamp) {
         self.sought.remove(&stamp);
     }
 
     /// A box answered a message that has this body; with Decided it hands over the DC that it took.
-    pub fn hear(&mut self, from: u8, body: &[u8], answer: Answer, handed: Option<&[u8]>, now: u64) -> Vec<Letter> {
+    ///
+    /// ```
+    /// # use stobbarel::{Desk, Group, Key, Stamp, Timing, Transaction};
+    /// # let tx = Transaction::new(Stamp(50), [], [(Key(3), 7)]);
+    /// # let timing = Timing { patience: 10, first_try: 20, doublings: 10, farewells: 5 };
+    /// let mut desk = Desk::new(Group::of(1)?, timing);
+    /// let prs = desk.care(tx.clone(), 0)?;
+    /// let body = desk.gateways().next().expect("it is on the desk").body().to_vec();
+    /// let answer = Ok(stobbarel::Answer::Voted(stobbarel::Vote::Commit, Some(0)));
+    /// assert!(desk.hear(0, &body, answer, None, 1).is_empty(), "five more are to be heard");
+    /// # let _ = prs;
+    /// # Ok::<(), stobbarel::Refusal>(())
+    /// ```
+    #[must_use = "the letters are to be sent"]
+    pub fn hear(&mut self, from: u8, body: &[u8], answer: Result<Answer, Refusal>, handed: Option<&[u8]>, now: u64) -> Vec<Letter> {
         let Some(work) = self.works.get_mut(body) else { return vec![] };
         let undecided = work.gateway.outcome().is_none();
         let mut out = work.gateway.hear(from, answer, handed, now);
@@ -139,13 +256,26 @@ impl Desk {
         if aborted || left {
             out.extend(self.look(body));
         }
-        if matches!(answer, Answer::Done | Answer::Decided(_)) {
+        if matches!(answer, Ok(Answer::Done | Answer::Decided(_))) {
             out.extend(self.prompt(from, body));
         }
         out
     }
 
     /// A host answered a question.
+    ///
+    /// ```
+    /// # use stobbarel::{Desk, Group, Key, Stamp, Timing, Transaction};
+    /// # let tx = Transaction::new(Stamp(50), [], [(Key(3), 7)]);
+    /// # let timing = Timing { patience: 10, first_try: 20, doublings: 10, farewells: 5 };
+    /// let mut desk = Desk::new(Group::of(1)?, timing);
+    /// let questions = desk.sweep(Stamp(50));
+    /// let none_held = desk.told(0, &stobbarel::Question::Held(Stamp(50)), &[], 1);
+    /// assert!(none_held.is_empty());
+    /// # let _ = questions;
+    /// # Ok::<(), stobbarel::Refusal>(())
+    /// ```
+    #[must_use = "the letters are to be sent"]
     pub fn told(&mut self, from: u8, question: &Question, holdings: &[Holding], now: u64) -> Vec<Letter> {
         let holdings = &holdings[..holdings.len().min(MOST_HOLDINGS)];
         let bodies: Vec<Vec<u8>> = holdings.iter().map(|holding| holding.body.clone()).collect();
@@ -153,14 +283,14 @@ impl Desk {
             Question::Held(stamp) => self.sought.get_mut(stamp),
             Question::Way(body) => self.works.get_mut(body).filter(|work| work.asked > 0).map(|work| &mut work.told),
         };
-        let Some(told) = told.filter(|_| u64::from(from) < self.group.boxes()) else { return vec![] };
+        let Some(told) = told.filter(|_| from < self.group.boxes()) else { return vec![] };
         told.insert(from, bodies);
         let told = told.clone();
-        let alike = |body: &[u8]| told.values().filter(|bodies| bodies.iter().any(|one| one == body)).count() as u64;
+        let alike = |body: &[u8]| told.values().filter(|bodies| bodies.iter().any(|one| one == body)).count();
         let mut out = vec![];
         for holding in holdings {
             let Ok(tx) = read_tx(&holding.body) else { continue };
-            let sure = holding.signed || alike(&holding.body) >= self.group.abort_list();
+            let sure = holding.signed || alike(&holding.body) >= self.group.abort_list().into();
             if sure && self.is_due(question, &tx) {
                 out.extend(self.rescue(from, question, tx, holding, now));
             }
@@ -169,12 +299,23 @@ impl Desk {
     }
 
     /// Time has passed.
+    ///
+    /// ```
+    /// # use stobbarel::{Desk, Group, Key, Stamp, Timing, Transaction};
+    /// # let tx = Transaction::new(Stamp(50), [], [(Key(3), 7)]);
+    /// # let timing = Timing { patience: 10, first_try: 20, doublings: 10, farewells: 5 };
+    /// let mut desk = Desk::new(Group::of(1)?, timing);
+    /// let prs = desk.care(tx.clone(), 0)?;
+    /// assert_eq!(desk.tick(10), prs, "nobody has answered");
+    /// # Ok::<(), stobbarel::Refusal>(())
+    /// ```
+    #[must_use = "the letters are to be sent"]
     pub fn tick(&mut self, now: u64) -> Vec<Letter> {
         let (mut out, mut ask) = (vec![], vec![]);
         for (body, work) in &mut self.works {
             if work.gateway.due().is_some_and(|due| due <= now) {
                 out.extend(work.gateway.tick(now));
-                let clear = work.gateway.outcome().is_none() || work.told.len() as u64 >= self.group.log_proof() || work.asked >= MOST_ASKED;
+                let clear = work.gateway.outcome().is_none() || work.told.len() >= self.group.log_proof().into() || work.asked >= MOST_ASKED;
                 if work.gateway.held_up() || work.own && work.asked > 0 && !clear {
                     ask.push(body.clone());
                 }
@@ -186,28 +327,90 @@ impl Desk {
     }
 
     /// When `tick` has something to do; none where nothing is left to do.
+    ///
+    /// ```
+    /// # use stobbarel::{Desk, Group, Key, Stamp, Timing, Transaction};
+    /// # let tx = Transaction::new(Stamp(50), [], [(Key(3), 7)]);
+    /// # let timing = Timing { patience: 10, first_try: 20, doublings: 10, farewells: 5 };
+    /// let mut desk = Desk::new(Group::of(1)?, timing);
+    /// let prs = desk.care(tx.clone(), 0)?;
+    /// assert_eq!(desk.due(), Some(10));
+    /// # let _ = prs;
+    /// # Ok::<(), stobbarel::Refusal>(())
+    /// ```
+    #[must_use]
     pub fn due(&self) -> Option<u64> {
         self.works.values().filter_map(|work| work.gateway.due()).min()
     }
 
     /// What a transaction has a proof of.
+    ///
+    /// ```
+    /// # use stobbarel::{Desk, Group, Key, Stamp, Timing, Transaction};
+    /// # let tx = Transaction::new(Stamp(50), [], [(Key(3), 7)]);
+    /// # let timing = Timing { patience: 10, first_try: 20, doublings: 10, farewells: 5 };
+    /// let mut desk = Desk::new(Group::of(1)?, timing);
+    /// let prs = desk.care(tx.clone(), 0)?;
+    /// let body = desk.gateways().next().expect("it is on the desk").body().to_vec();
+    /// assert_eq!(desk.outcome(&body), None);
+    /// # let _ = prs;
+    /// # Ok::<(), stobbarel::Refusal>(())
+    /// ```
+    #[must_use]
     pub fn outcome(&self, body: &[u8]) -> Option<Decision> {
         self.works.get(body).and_then(|work| work.gateway.outcome())
     }
 
     /// It is decided, and so is what was found to have stood in its way: an operation that was aborted may be tried again, under a new stamp.
+    ///
+    /// ```
+    /// # use stobbarel::{Desk, Group, Key, Stamp, Timing, Transaction};
+    /// # let tx = Transaction::new(Stamp(50), [], [(Key(3), 7)]);
+    /// # let timing = Timing { patience: 10, first_try: 20, doublings: 10, farewells: 5 };
+    /// let mut desk = Desk::new(Group::of(1)?, timing);
+    /// let prs = desk.care(tx.clone(), 0)?;
+    /// let body = desk.gateways().next().expect("it is on the desk").body().to_vec();
+    /// assert!(!desk.clear(&body));
+    /// # let _ = prs;
+    /// # Ok::<(), stobbarel::Refusal>(())
+    /// ```
+    #[must_use]
     pub fn clear(&self, body: &[u8]) -> bool {
-        let asked = |work: &Work| work.asked == 0 || work.told.len() as u64 >= self.group.log_proof() || work.asked >= MOST_ASKED || work.gateway.finished();
+        let asked = |work: &Work| work.asked == 0 || work.told.len() >= self.group.log_proof().into() || work.asked >= MOST_ASKED || work.gateway.finished();
         let decided = |body: &Vec<u8>| self.works.get(body).is_none_or(|work| work.gateway.outcome().is_some());
         self.works.get(body).is_some_and(|work| work.gateway.outcome().is_some() && asked(work) && work.below.iter().all(decided))
     }
 
     /// The gateways at work, with the caller's own and those of others.
+    ///
+    /// ```
+    /// # use stobbarel::{Desk, Group, Key, Stamp, Timing, Transaction};
+    /// # let tx = Transaction::new(Stamp(50), [], [(Key(3), 7)]);
+    /// # let timing = Timing { patience: 10, first_try: 20, doublings: 10, farewells: 5 };
+    /// let mut desk = Desk::new(Group::of(1)?, timing);
+    /// let prs = desk.care(tx.clone(), 0)?;
+    /// assert_eq!(desk.gateways().count(), 1);
+    /// # let _ = prs;
+    /// # Ok::<(), stobbarel::Refusal>(())
+    /// ```
     pub fn gateways(&self) -> impl Iterator<Item = &Gateway> {
         self.works.values().map(|work| &work.gateway)
     }
 
     /// The caller cares for it no more; what boxes have not taken yet is sent on until it is finished.
+    ///
+    /// ```
+    /// # use stobbarel::{Desk, Group, Key, Stamp, Timing, Transaction};
+    /// # let tx = Transaction::new(Stamp(50), [], [(Key(3), 7)]);
+    /// # let timing = Timing { patience: 10, first_try: 20, doublings: 10, farewells: 5 };
+    /// let mut desk = Desk::new(Group::of(1)?, timing);
+    /// let prs = desk.care(tx.clone(), 0)?;
+    /// let body = desk.gateways().next().expect("it is on the desk").body().to_vec();
+    /// desk.leave(&body);
+    /// assert_eq!(desk.gateways().count(), 1, "it is not finished");
+    /// # let _ = prs;
+    /// # Ok::<(), stobbarel::Refusal>(())
+    /// ```
     pub fn leave(&mut self, body: &[u8]) {
         self.works.get_mut(body).into_iter().for_each(|work| work.own = false);
         self.tidy();
@@ -218,7 +421,7 @@ impl Desk {
 
 impl Desk {
     fn ask(&self, question: Question) -> Vec<Letter> {
-        (0..self.group.boxes() as u8).map(|to| Letter { to, load: Load::Ask(question.clone()) }).collect()
+        self.group.numbers().map(|to| Letter { to, load: Load::Ask(question.clone()) }).collect()
     }
 
     fn look(&mut self, body: &[u8]) -> Vec<Letter> {
@@ -256,10 +459,10 @@ impl Desk {
             }
         }
         if let Some(vote) = holding.vote {
-            out.extend(self.hear(from, &holding.body, Answer::Voted(vote, None), None, now));
+            out.extend(self.hear(from, &holding.body, Ok(Answer::Voted(vote, None)), None, now));
         }
         if let Some((decision, view)) = holding.logged {
-            out.extend(self.hear(from, &holding.body, Answer::Logged(decision, view), None, now));
+            out.extend(self.hear(from, &holding.body, Ok(Answer::Logged(decision, view)), None, now));
         }
         if let Some(dc) = &holding.proof {
             let work = self.works.get_mut(&holding.body).expect("it was taken up");
@@ -276,7 +479,14 @@ impl Desk {
 
     /// What stood in the way and is finished is put away.
     fn tidy(&mut self) {
-        let needed: Vec<Vec<u8>> = self.works.values().filter(|work| work.own || work.gateway.outcome().is_none()).flat_map(|work| work.below.clone()).collect();
+        let needed: Vec<Vec<u8>> =
+            self.works.values().filter(|work| work.own || work.gateway.outcome().is_none()).flat_map(|work| work.below.clone()).collect();
         self.works.retain(|body, work| work.own || !work.gateway.finished() || needed.contains(body));
+    }
+}
+
+impl fmt::Debug for Desk {
+    fn fmt(&self, f: &mut fmt::Formatter<'_>) -> fmt::Result {
+        f.debug_struct("Desk").field("gateways", &self.works.len()).field("sought", &self.sought.len()).field("due", &self.due()).finish_non_exhaustive()
     }
 }

@@ -1,11 +1,26 @@
 //! What a table holds under a stamp.
 
-use crate::c;
-use crate::table::Vote;
-use crate::terms::{Decision, Refusal, Stamp, View};
+use crate::answer::Vote;
+use crate::refusal::Refusal;
+use crate::short::Bytes;
+use crate::terms::{Decision, Stamp, View, coded};
+use core::fmt;
+use stobbarel_sys as c;
 
-/// What a table holds under a stamp: the first entry with it, as every message about that stamp finds it.
-#[derive(Clone, Copy, Debug, PartialEq, Eq, Hash)]
+/// What a table holds under a stamp: the first entry with it, as every message about that stamp finds it. [`Table::held`](crate::Table::held) tells it.
+///
+/// ```
+/// use stobbarel::{Group, Key, LONGEST, Stamp, Table, Transaction, write_pr};
+///
+/// let mut table = Table::new(Group::of(1)?, 8)?;
+/// let tx = Transaction::new(Stamp(50), [], [(Key(3), 7)]);
+/// let answer = table.receive(100, 10, write_pr(&tx, &mut [0; LONGEST])?)?;
+/// let held = table.held(Stamp(50))?.expect("the box voted on it");
+/// assert_eq!(format!("{held:?}"), "Held { body: 22 bytes, vote: Some(Commit), decided: None, logged: None, view: View(0) }");
+/// # let _ = answer;
+/// # Ok::<(), stobbarel::Refusal>(())
+/// ```
+#[derive(Clone, Copy, PartialEq, Eq, Hash)]
 pub struct Held<'a> {
     /// The transaction's bytes (TX), a part of the table; [`read_tx`](crate::read_tx) reads them.
     pub body: &'a [u8],
@@ -23,7 +38,7 @@ impl<'a> Held<'a> {
     /// What these bytes hold as a table of that capacity.
     pub(crate) fn of(table: &'a [u8], capacity: u64, stamp: Stamp) -> Result<Option<Held<'a>>, Refusal> {
         let mut row = [0; 8];
-        // Each pointer is to as many numbers as the function takes, and only the row is lent for writing.
+        // SAFETY: each pointer is to as many numbers as the function takes, and only the row is lent for writing.
         Refusal::or_done(unsafe { c::stobbarel_held(table.as_ptr(), table.len(), capacity, stamp.0, row.as_mut_ptr()) })?;
         let [at, length, vote, reason, decided, logged, logged_in, view] = row;
         // A body has twelve bytes at least.
@@ -34,9 +49,17 @@ impl<'a> Held<'a> {
         Ok(Some(Held {
             body: &table[at as usize..][..length as usize],
             vote: Vote::of(vote, reason),
-            decided: Decision::of(decided),
-            logged: Decision::of(logged).map(|decision| (decision, in_view(logged_in))),
+            decided: coded(decided),
+            logged: coded(logged).map(|decision| (decision, in_view(logged_in))),
             view: in_view(view),
         }))
+    }
+}
+
+impl fmt::Debug for Held<'_> {
+    fn fmt(&self, f: &mut fmt::Formatter<'_>) -> fmt::Result {
+        let mut held = f.debug_struct("Held");
+        held.field("body", &Bytes(self.body)).field("vote", &self.vote).field("decided", &self.decided);
+        held.field("logged", &self.logged).field("view", &self.view).finish()
     }
 }

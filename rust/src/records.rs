@@ -1,20 +1,62 @@
 //! The records: written into a lent buffer, read from any bytes.
 
-use crate::c;
-use crate::terms::{Decision, Group, Key, Kind, Mark, Refusal, Stamp, View};
+use crate::layout::LONGEST;
+use crate::refusal::Refusal;
+use crate::terms::{Decision, Group, Key, Kind, Mark, Stamp, View, coded};
+use crate::upto::UpTo;
+use stobbarel_sys as c;
 
-/// Up to eight reads and up to eight writes, at least one of either; more are refused when it is written.
+/// The views that boxes told, by their numbers, which are strictly rising.
+///
+/// ```
+/// use stobbarel::{View, Views};
+///
+/// assert_eq!(Views::from([(0, View(1))]).len(), 1);
+/// ```
+pub type Views = UpTo<(u8, View), 26>;
+
+/// Up to eight reads and up to eight writes, at least one of either. Whether it is in order is told when it is written.
+///
+/// ```
+/// use stobbarel::{Key, LONGEST, Refusal, Stamp, Transaction, write_pr};
+///
+/// let mut tx = Transaction::new(Stamp(60), [(Key(3), Stamp(50))], [(Key(3), 8)]);
+/// assert!(write_pr(&tx, &mut [0; LONGEST]).is_ok());
+/// tx.reads[0].1 = Stamp(70);
+/// assert_eq!(write_pr(&tx, &mut [0; LONGEST]), Err(Refusal::Misbehaviour));
+/// ```
 #[derive(Clone, Debug, Default, PartialEq, Eq, Hash)]
 pub struct Transaction {
     /// 1 or more.
     pub stamp: Stamp,
     /// Keys, strictly rising, each with the version that was read; version 0 is the start.
-    pub reads: Vec<(Key, Stamp)>,
+    pub reads: UpTo<(Key, Stamp), 8>,
     /// Keys, strictly rising, each with the value to write.
-    pub writes: Vec<(Key, u64)>,
+    pub writes: UpTo<(Key, u64), 8>,
+}
+
+impl Transaction {
+    /// A transaction of these; arrays of up to eight are taken as they are.
+    ///
+    /// ```
+    /// use stobbarel::{Key, Stamp, Transaction};
+    ///
+    /// let tx = Transaction::new(Stamp(50), [], [(Key(3), 7)]);
+    /// assert_eq!((tx.reads.len(), tx.writes.len()), (0, 1));
+    /// ```
+    #[must_use]
+    pub fn new(stamp: Stamp, reads: impl Into<UpTo<(Key, Stamp), 8>>, writes: impl Into<UpTo<(Key, u64), 8>>) -> Transaction {
+        Transaction { stamp, reads: reads.into(), writes: writes.into() }
+    }
 }
 
 /// What boxes answered: 1 to 26 of them, their numbers strictly rising. A tally sheet makes one of its answers ([`Sheet::list`](crate::Sheet::list)).
+///
+/// ```
+/// use stobbarel::{Decision, Kind, VoteList};
+///
+/// assert_eq!(VoteList::votes(Decision::Commit, [(0, Decision::Commit)]).kind, Kind::Votes);
+/// ```
 #[derive(Clone, Debug, PartialEq, Eq, Hash)]
 pub struct VoteList {
     /// Votes or logged decisions.
@@ -24,23 +66,47 @@ pub struct VoteList {
     /// The view that all of the logs were given in. Votes have none: what stands here beside them is not written, and 0 is read.
     pub view: View,
     /// Box numbers and their answers.
-    pub pairs: Vec<(u8, Decision)>,
+    pub pairs: UpTo<(u8, Decision), 26>,
 }
 
 impl VoteList {
     /// A list of votes.
-    pub fn votes(decision: Decision, pairs: Vec<(u8, Decision)>) -> VoteList {
-        VoteList { kind: Kind::Votes, decision, view: View(0), pairs }
+    ///
+    /// ```
+    /// use stobbarel::{Decision, View, VoteList};
+    ///
+    /// assert_eq!(VoteList::votes(Decision::Commit, [(0, Decision::Commit)]).view, View(0));
+    /// ```
+    #[must_use]
+    pub fn votes(decision: Decision, pairs: impl Into<UpTo<(u8, Decision), 26>>) -> VoteList {
+        VoteList { kind: Kind::Votes, decision, view: View(0), pairs: pairs.into() }
     }
 
     /// A list of logged decisions, all of them of this view.
-    pub fn logs(view: View, decision: Decision, pairs: Vec<(u8, Decision)>) -> VoteList {
-        VoteList { kind: Kind::Logs, decision, view, pairs }
+    ///
+    /// ```
+    /// use stobbarel::{Decision, View, VoteList};
+    ///
+    /// assert_eq!(VoteList::logs(View(1), Decision::Commit, [(0, Decision::Commit)]).view, View(1));
+    /// ```
+    #[must_use]
+    pub fn logs(view: View, decision: Decision, pairs: impl Into<UpTo<(u8, Decision), 26>>) -> VoteList {
+        VoteList { kind: Kind::Logs, decision, view, pairs: pairs.into() }
     }
 }
 
-/// What a view's leader decides, and the election answers that it rests on; a box takes it with exactly 4f + 1 of them, all of its view, by the majority of these. A
-/// leader's sheet makes one ([`ElectionSheet::election`](crate::ElectionSheet::election)).
+/// What a view's leader decides, and the election answers that it rests on; a box takes it with exactly 4f + 1 of them, all of its view, by the majority of
+/// these. A leader's sheet makes one ([`ElectionSheet::election`](crate::ElectionSheet::election)).
+///
+/// ```
+/// use stobbarel::{Decision, Election, Group, LONGEST, View, check_el, write_el};
+///
+/// let answers = [0, 1, 2, 3, 4].map(|number| (number, Decision::Commit, View(1)));
+/// let election = Election { leader: 3, decision: Decision::Commit, view: View(1), answers: answers.into() };
+/// let group = Group::of(1)?;
+/// check_el(group, write_el(group, &election, &mut [0; LONGEST])?)?;
+/// # Ok::<(), stobbarel::Refusal>(())
+/// ```
 #[derive(Clone, Debug, PartialEq, Eq, Hash)]
 pub struct Election {
     /// The box that leads the view.
@@ -50,11 +116,20 @@ pub struct Election {
     /// The view that it is for.
     pub view: View,
     /// Box numbers, strictly rising, what each has logged, and the view that it answered for.
-    pub answers: Vec<(u8, Decision, View)>,
+    pub answers: UpTo<(u8, Decision, View), 26>,
 }
 
-/// A message that was read.
+/// A message by its values: what [`read_message`] reads, and [`write_message`] writes.
+///
+/// ```
+/// use stobbarel::{Group, Key, LONGEST, Message, Stamp, read_message, write_message};
+///
+/// let (group, message) = (Group::of(1)?, Message::Read(Key(3), Stamp(60)));
+/// assert_eq!(read_message(group, write_message(group, &message, &mut [0; LONGEST])?)?, message);
+/// # Ok::<(), stobbarel::Refusal>(())
+/// ```
 #[derive(Clone, Debug, PartialEq, Eq, Hash)]
+#[allow(clippy::large_enum_variant)] // there is no heap to put the large ones on
 pub enum Message {
     /// PR: a transaction to vote on.
     Prepare(Transaction),
@@ -65,12 +140,12 @@ pub enum Message {
     /// RD: what stands at a key, below a stamp.
     Read(Key, Stamp),
     /// IV: a transaction to be finished, and the views that boxes told, their numbers strictly rising.
-    Invoke(Transaction, Vec<(u8, View)>),
+    Invoke(Transaction, Views),
     /// LD: what a view's leader decided.
     Lead(Transaction, Election),
 }
 
-/// A transaction as it is lent; a count above eight is lent as it is, and refused.
+/// A transaction as it is lent.
 struct LentTx {
     stamp: u64,
     r: usize,
@@ -83,14 +158,20 @@ struct LentTx {
 
 impl LentTx {
     fn of(tx: &Transaction) -> LentTx {
-        let mut lent = LentTx { stamp: tx.stamp.0, r: tx.reads.len(), w: tx.writes.len(), reads: [0; 8], versions: [0; 8], writes: [0; 8], values: [0; 8] };
-        for (i, (key, version)) in tx.reads.iter().take(8).enumerate() {
+        let (r, w) = (tx.reads.len(), tx.writes.len());
+        let mut lent = LentTx { stamp: tx.stamp.0, r, w, reads: [0; 8], versions: [0; 8], writes: [0; 8], values: [0; 8] };
+        for (i, (key, version)) in tx.reads.iter().enumerate() {
             (lent.reads[i], lent.versions[i]) = (key.0, version.0);
         }
-        for (i, (key, value)) in tx.writes.iter().take(8).enumerate() {
+        for (i, (key, value)) in tx.writes.iter().enumerate() {
             (lent.writes[i], lent.values[i]) = (key.0, *value);
         }
         lent
+    }
+
+    /// Keys and versions read, keys and values written.
+    fn pointers(&self) -> (*const u16, *const u64, *const u16, *const u64) {
+        (self.reads.as_ptr(), self.versions.as_ptr(), self.writes.as_ptr(), self.values.as_ptr())
     }
 }
 
@@ -105,10 +186,10 @@ struct LentList {
 
 impl LentList {
     fn of(list: &VoteList) -> LentList {
-        let mut lent =
-            LentList { kind: list.kind as u8, decision: list.decision as u8, view: list.view.0, count: list.pairs.len(), numbers: [0; 26], answers: [0; 26] };
-        for (i, (number, answer)) in list.pairs.iter().take(26).enumerate() {
-            (lent.numbers[i], lent.answers[i]) = (*number, *answer as u8);
+        let (kind, decision, count) = (list.kind.into(), list.decision.into(), list.pairs.len());
+        let mut lent = LentList { kind, decision, view: list.view.0, count, numbers: [0; 26], answers: [0; 26] };
+        for (i, (number, answer)) in list.pairs.iter().enumerate() {
+            (lent.numbers[i], lent.answers[i]) = (*number, (*answer).into());
         }
         lent
     }
@@ -123,6 +204,7 @@ struct LentViews {
 }
 
 impl LentViews {
+    /// A count above 26 is lent as it is, and refused.
     fn of(listed: impl ExactSizeIterator<Item = (u8, u8, View)>) -> LentViews {
         let mut lent = LentViews { count: listed.len(), numbers: [0; 26], answers: [0; 26], views: [0; 26] };
         for (i, (number, answer, view)) in listed.take(26).enumerate() {
@@ -136,204 +218,372 @@ impl LentViews {
     }
 
     fn elected(election: &Election) -> LentViews {
-        LentViews::of(election.answers.iter().map(|(number, answer, view)| (*number, *answer as u8, *view)))
+        LentViews::of(election.answers.iter().map(|(number, answer, view)| (*number, (*answer).into(), *view)))
+    }
+
+    /// Numbers, answers, views.
+    fn pointers(&self) -> (*const u8, *const u8, *const u16) {
+        (self.numbers.as_ptr(), self.answers.as_ptr(), self.views.as_ptr())
     }
 }
 
-/// A writer's two answers as one.
-fn told(write: impl FnOnce(&mut usize) -> u8) -> Result<usize, Refusal> {
+/// What a writer put down at the front of a buffer.
+fn written(out: &mut [u8], write: impl FnOnce(*mut u8, usize, &mut usize) -> u8) -> Result<&[u8], Refusal> {
     let mut length = 0;
-    Refusal::or_done(write(&mut length))?;
-    Ok(length)
+    Refusal::or_done(write(out.as_mut_ptr(), out.len(), &mut length))?;
+    Ok(&out[..length])
 }
 
-// In each call below a pointer is to as many numbers as the function takes, and only `out` and the length are lent for writing.
+// SAFETY of each call below: a pointer is to as many numbers as the function takes, and only the buffer and the length are lent for writing.
 
-/// A TX by itself. Each writer answers how many bytes it wrote at the front of `out`; a refusal leaves `out` as it was.
-pub fn write_tx(tx: &Transaction, out: &mut [u8]) -> Result<usize, Refusal> {
+/// A TX by itself. Each writer answers what it wrote, at the front of `out`; a refusal leaves `out` as it was.
+///
+/// ```
+/// use stobbarel::{Key, LONGEST, Refusal, Stamp, Transaction, read_tx, write_tx};
+///
+/// let tx = Transaction::new(Stamp(50), [], [(Key(3), 7)]);
+/// assert_eq!(read_tx(write_tx(&tx, &mut [0; LONGEST])?)?, tx);
+/// assert_eq!(write_tx(&tx, &mut [0; 21]), Err(Refusal::Buffer));
+/// # Ok::<(), Refusal>(())
+/// ```
+pub fn write_tx<'a>(tx: &Transaction, out: &'a mut [u8]) -> Result<&'a [u8], Refusal> {
     let x = LentTx::of(tx);
-    told(|length| unsafe {
-        c::stobbarel_write_tx(x.stamp, x.r, x.w, x.reads.as_ptr(), x.versions.as_ptr(), x.writes.as_ptr(), x.values.as_ptr(), out.as_mut_ptr(), out.len(), length)
-    })
+    let (k, v, l, u) = x.pointers();
+    written(out, |o, n, length| unsafe { c::stobbarel_write_tx(x.stamp, x.r, x.w, k, v, l, u, o, n, length) })
 }
 
 /// A VL by itself.
-pub fn write_vl(group: Group, list: &VoteList, out: &mut [u8]) -> Result<usize, Refusal> {
+///
+/// ```
+/// use stobbarel::{Decision, Group, LONGEST, VoteList, write_vl};
+///
+/// let list = VoteList::votes(Decision::Commit, [(4, Decision::Commit)]);
+/// assert_eq!(write_vl(Group::of(1)?, &list, &mut [0; LONGEST])?, [b'V', b'L', 1, 1, 1, 4, 1]);
+/// # Ok::<(), stobbarel::Refusal>(())
+/// ```
+pub fn write_vl<'a>(group: Group, list: &VoteList, out: &'a mut [u8]) -> Result<&'a [u8], Refusal> {
     let l = LentList::of(list);
-    told(|length| unsafe {
-        c::stobbarel_write_vl(group.f(), l.kind, l.decision, l.view, l.count, l.numbers.as_ptr(), l.answers.as_ptr(), out.as_mut_ptr(), out.len(), length)
-    })
+    let (f, b, a) = (group.f().into(), l.numbers.as_ptr(), l.answers.as_ptr());
+    written(out, |o, n, length| unsafe { c::stobbarel_write_vl(f, l.kind, l.decision, l.view, l.count, b, a, o, n, length) })
 }
 
 /// PR.
-pub fn write_pr(tx: &Transaction, out: &mut [u8]) -> Result<usize, Refusal> {
+///
+/// ```
+/// use stobbarel::{Key, LONGEST, Stamp, Transaction, write_pr};
+///
+/// let tx = Transaction::new(Stamp(50), [], [(Key(3), 7)]);
+/// assert!(write_pr(&tx, &mut [0; LONGEST])?.starts_with(b"PRTX"));
+/// # Ok::<(), stobbarel::Refusal>(())
+/// ```
+pub fn write_pr<'a>(tx: &Transaction, out: &'a mut [u8]) -> Result<&'a [u8], Refusal> {
     let x = LentTx::of(tx);
-    told(|length| unsafe {
-        c::stobbarel_write_pr(x.stamp, x.r, x.w, x.reads.as_ptr(), x.versions.as_ptr(), x.writes.as_ptr(), x.values.as_ptr(), out.as_mut_ptr(), out.len(), length)
-    })
+    let (k, v, l, u) = x.pointers();
+    written(out, |o, n, length| unsafe { c::stobbarel_write_pr(x.stamp, x.r, x.w, k, v, l, u, o, n, length) })
 }
 
-fn write_listed(mark: Mark, group: Group, tx: &Transaction, list: &VoteList, out: &mut [u8]) -> Result<usize, Refusal> {
-    let (x, l) = (LentTx::of(tx), LentList::of(list));
-    told(|length| unsafe {
-        c::stobbarel_write_listed(
-            mark as u64, group.f(), x.stamp, x.r, x.w, x.reads.as_ptr(), x.versions.as_ptr(), x.writes.as_ptr(), x.values.as_ptr(),
-            l.kind, l.decision, l.view, l.count, l.numbers.as_ptr(), l.answers.as_ptr(), out.as_mut_ptr(), out.len(), length,
-        )
-    })
+fn write_listed<'a>(mark: Mark, group: Group, tx: &Transaction, list: &VoteList, out: &'a mut [u8]) -> Result<&'a [u8], Refusal> {
+    let (x, y) = (LentTx::of(tx), LentList::of(list));
+    let (mark, f, (k, v, l, u), (b, a)) = (mark as u64, group.f().into(), x.pointers(), (y.numbers.as_ptr(), y.answers.as_ptr()));
+    let (stamp, r, w, kind, decision, view, count) = (x.stamp, x.r, x.w, y.kind, y.decision, y.view, y.count);
+    written(out, |o, n, length| unsafe { c::stobbarel_write_listed(mark, f, stamp, r, w, k, v, l, u, kind, decision, view, count, b, a, o, n, length) })
 }
 
 /// LG: its list is of votes, and has no view.
-pub fn write_lg(group: Group, tx: &Transaction, list: &VoteList, out: &mut [u8]) -> Result<usize, Refusal> {
+///
+/// ```
+/// use stobbarel::{Decision, Group, Key, LONGEST, Refusal, Stamp, Transaction, View, VoteList, write_lg};
+///
+/// let (group, tx) = (Group::of(1)?, Transaction::new(Stamp(50), [], [(Key(3), 7)]));
+/// let logs = VoteList::logs(View(0), Decision::Commit, [(4, Decision::Commit)]);
+/// assert_eq!(write_lg(group, &tx, &logs, &mut [0; LONGEST]), Err(Refusal::Code));
+/// # Ok::<(), Refusal>(())
+/// ```
+pub fn write_lg<'a>(group: Group, tx: &Transaction, list: &VoteList, out: &'a mut [u8]) -> Result<&'a [u8], Refusal> {
     write_listed(Mark::Lg, group, tx, list, out)
 }
 
 /// DC.
-pub fn write_dc(group: Group, tx: &Transaction, list: &VoteList, out: &mut [u8]) -> Result<usize, Refusal> {
+///
+/// ```
+/// use stobbarel::{Decision, Group, Key, LONGEST, Stamp, Transaction, View, VoteList, write_dc};
+///
+/// let (group, tx) = (Group::of(1)?, Transaction::new(Stamp(50), [], [(Key(3), 7)]));
+/// let logs = VoteList::logs(View(0), Decision::Commit, [(4, Decision::Commit)]);
+/// assert!(write_dc(group, &tx, &logs, &mut [0; LONGEST])?.starts_with(b"DCTX"));
+/// # Ok::<(), stobbarel::Refusal>(())
+/// ```
+pub fn write_dc<'a>(group: Group, tx: &Transaction, list: &VoteList, out: &'a mut [u8]) -> Result<&'a [u8], Refusal> {
     write_listed(Mark::Dc, group, tx, list, out)
 }
 
 /// A VS by itself: the views that boxes told.
-pub fn write_vs(group: Group, views: &[(u8, View)], out: &mut [u8]) -> Result<usize, Refusal> {
-    let l = LentViews::told(views);
-    told(|length| unsafe { c::stobbarel_write_vs(group.f(), l.count, l.numbers.as_ptr(), l.views.as_ptr(), out.as_mut_ptr(), out.len(), length) })
+///
+/// ```
+/// use stobbarel::{Group, LONGEST, View, write_vs};
+///
+/// assert_eq!(write_vs(Group::of(1)?, &[(4, View(258))], &mut [0; LONGEST])?, [b'V', b'S', 1, 4, 2, 1]);
+/// # Ok::<(), stobbarel::Refusal>(())
+/// ```
+pub fn write_vs<'a>(group: Group, views: &[(u8, View)], out: &'a mut [u8]) -> Result<&'a [u8], Refusal> {
+    let y = LentViews::told(views);
+    let (f, (b, _, g)) = (group.f().into(), y.pointers());
+    written(out, |o, n, length| unsafe { c::stobbarel_write_vs(f, y.count, b, g, o, n, length) })
 }
 
 /// An EL by itself: election answers, and what their leader decides.
-pub fn write_el(group: Group, election: &Election, out: &mut [u8]) -> Result<usize, Refusal> {
-    let l = LentViews::elected(election);
-    told(|length| unsafe {
-        c::stobbarel_write_el(
-            group.f(), election.leader, election.decision as u8, election.view.0, l.count, l.numbers.as_ptr(), l.answers.as_ptr(), l.views.as_ptr(),
-            out.as_mut_ptr(), out.len(), length,
-        )
-    })
+///
+/// ```
+/// use stobbarel::{Decision, Election, Group, LONGEST, View, write_el};
+///
+/// let election = Election { leader: 3, decision: Decision::Abort, view: View(1), answers: [(4, Decision::Abort, View(1))].into() };
+/// assert_eq!(write_el(Group::of(1)?, &election, &mut [0; LONGEST])?, [b'E', b'L', 3, 2, 1, 0, 1, 4, 2, 1, 0]);
+/// # Ok::<(), stobbarel::Refusal>(())
+/// ```
+pub fn write_el<'a>(group: Group, election: &Election, out: &'a mut [u8]) -> Result<&'a [u8], Refusal> {
+    let y = LentViews::elected(election);
+    let (leader, decision, view) = (election.leader, election.decision.into(), election.view.0);
+    let (f, (b, a, g)) = (group.f().into(), y.pointers());
+    written(out, |o, n, length| unsafe { c::stobbarel_write_el(f, leader, decision, view, y.count, b, a, g, o, n, length) })
 }
 
 /// IV.
-pub fn write_iv(group: Group, tx: &Transaction, views: &[(u8, View)], out: &mut [u8]) -> Result<usize, Refusal> {
-    let (x, l) = (LentTx::of(tx), LentViews::told(views));
-    told(|length| unsafe {
-        c::stobbarel_write_iv(
-            group.f(), x.stamp, x.r, x.w, x.reads.as_ptr(), x.versions.as_ptr(), x.writes.as_ptr(), x.values.as_ptr(),
-            l.count, l.numbers.as_ptr(), l.views.as_ptr(), out.as_mut_ptr(), out.len(), length,
-        )
-    })
+///
+/// ```
+/// use stobbarel::{Group, Key, LONGEST, Stamp, Transaction, View, write_iv};
+///
+/// let (group, tx) = (Group::of(1)?, Transaction::new(Stamp(50), [], [(Key(3), 7)]));
+/// assert!(write_iv(group, &tx, &[(4, View(0))], &mut [0; LONGEST])?.starts_with(b"IVTX"));
+/// # Ok::<(), stobbarel::Refusal>(())
+/// ```
+pub fn write_iv<'a>(group: Group, tx: &Transaction, views: &[(u8, View)], out: &'a mut [u8]) -> Result<&'a [u8], Refusal> {
+    let (x, y) = (LentTx::of(tx), LentViews::told(views));
+    let (f, (k, v, l, u), (b, _, g)) = (group.f().into(), x.pointers(), y.pointers());
+    written(out, |o, n, length| unsafe { c::stobbarel_write_iv(f, x.stamp, x.r, x.w, k, v, l, u, y.count, b, g, o, n, length) })
 }
 
 /// LD.
-pub fn write_ld(group: Group, tx: &Transaction, election: &Election, out: &mut [u8]) -> Result<usize, Refusal> {
-    let (x, l) = (LentTx::of(tx), LentViews::elected(election));
-    told(|length| unsafe {
-        c::stobbarel_write_ld(
-            group.f(), x.stamp, x.r, x.w, x.reads.as_ptr(), x.versions.as_ptr(), x.writes.as_ptr(), x.values.as_ptr(), election.leader,
-            election.decision as u8, election.view.0, l.count, l.numbers.as_ptr(), l.answers.as_ptr(), l.views.as_ptr(), out.as_mut_ptr(), out.len(), length,
-        )
-    })
+///
+/// ```
+/// use stobbarel::{Decision, Election, Group, Key, LONGEST, Stamp, Transaction, View, write_ld};
+///
+/// let (group, tx) = (Group::of(1)?, Transaction::new(Stamp(50), [], [(Key(3), 7)]));
+/// let election = Election { leader: 3, decision: Decision::Abort, view: View(1), answers: [(4, Decision::Abort, View(1))].into() };
+/// assert!(write_ld(group, &tx, &election, &mut [0; LONGEST])?.starts_with(b"LDTX"));
+/// # Ok::<(), stobbarel::Refusal>(())
+/// ```
+pub fn write_ld<'a>(group: Group, tx: &Transaction, election: &Election, out: &'a mut [u8]) -> Result<&'a [u8], Refusal> {
+    let (x, y) = (LentTx::of(tx), LentViews::elected(election));
+    let (leader, decision, view) = (election.leader, election.decision.into(), election.view.0);
+    let (f, (k, v, l, u), (b, a, g)) = (group.f().into(), x.pointers(), y.pointers());
+    written(out, |o, n, length| unsafe { c::stobbarel_write_ld(f, x.stamp, x.r, x.w, k, v, l, u, leader, decision, view, y.count, b, a, g, o, n, length) })
 }
 
 /// RD.
-pub fn write_rd(key: Key, stamp: Stamp, out: &mut [u8]) -> Result<usize, Refusal> {
-    told(|length| unsafe { c::stobbarel_write_rd(key.0, stamp.0, out.as_mut_ptr(), out.len(), length) })
+///
+/// ```
+/// use stobbarel::{Key, LONGEST, Stamp, write_rd};
+///
+/// assert_eq!(write_rd(Key(258), Stamp(60), &mut [0; LONGEST])?, [b'R', b'D', 2, 1, 60, 0, 0, 0, 0, 0, 0, 0]);
+/// # Ok::<(), stobbarel::Refusal>(())
+/// ```
+pub fn write_rd(key: Key, stamp: Stamp, out: &mut [u8]) -> Result<&[u8], Refusal> {
+    written(out, |o, n, length| unsafe { c::stobbarel_write_rd(key.0, stamp.0, o, n, length) })
+}
+
+/// Any of the six messages.
+///
+/// ```
+/// use stobbarel::{Group, Key, LONGEST, Message, Stamp, Transaction, write_message};
+///
+/// let message = Message::Prepare(Transaction::new(Stamp(50), [], [(Key(3), 7)]));
+/// assert!(write_message(Group::of(1)?, &message, &mut [0; LONGEST])?.starts_with(b"PR"));
+/// # Ok::<(), stobbarel::Refusal>(())
+/// ```
+pub fn write_message<'a>(group: Group, message: &Message, out: &'a mut [u8]) -> Result<&'a [u8], Refusal> {
+    match message {
+        Message::Prepare(tx) => write_pr(tx, out),
+        Message::Log(tx, list) => write_lg(group, tx, list, out),
+        Message::Decide(tx, list) => write_dc(group, tx, list, out),
+        Message::Read(key, stamp) => write_rd(*key, *stamp, out),
+        Message::Invoke(tx, views) => write_iv(group, tx, views, out),
+        Message::Lead(tx, election) => write_ld(group, tx, election, out),
+    }
 }
 
 /// Whether these bytes are a TX in order.
+///
+/// ```
+/// use stobbarel::{Refusal, check_tx};
+///
+/// assert_eq!(check_tx(b"TX"), Err(Refusal::Short));
+/// ```
 pub fn check_tx(bytes: &[u8]) -> Result<(), Refusal> {
     Refusal::or_done(unsafe { c::stobbarel_reading_tx(bytes.as_ptr(), bytes.len()) })
 }
 
 /// Whether these bytes are a VL in order.
+///
+/// ```
+/// use stobbarel::{Group, check_vl};
+///
+/// assert_eq!(check_vl(Group::of(1)?, &[b'V', b'L', 1, 1, 1, 4, 1]), Ok(()));
+/// # Ok::<(), stobbarel::Refusal>(())
+/// ```
 pub fn check_vl(group: Group, bytes: &[u8]) -> Result<(), Refusal> {
-    Refusal::or_done(unsafe { c::stobbarel_reading_vl(group.f(), bytes.as_ptr(), bytes.len()) })
+    Refusal::or_done(unsafe { c::stobbarel_reading_vl(group.f().into(), bytes.as_ptr(), bytes.len()) })
 }
 
 /// Whether these bytes are a VS in order.
+///
+/// ```
+/// use stobbarel::{Group, check_vs};
+///
+/// assert_eq!(check_vs(Group::of(1)?, &[b'V', b'S', 1, 4, 2, 1]), Ok(()));
+/// # Ok::<(), stobbarel::Refusal>(())
+/// ```
 pub fn check_vs(group: Group, bytes: &[u8]) -> Result<(), Refusal> {
-    Refusal::or_done(unsafe { c::stobbarel_reading_vs(group.f(), bytes.as_ptr(), bytes.len()) })
+    Refusal::or_done(unsafe { c::stobbarel_reading_vs(group.f().into(), bytes.as_ptr(), bytes.len()) })
 }
 
 /// Whether these bytes are an EL in order. Whether a box would take it depends on the transaction too.
+///
+/// ```
+/// use stobbarel::{Group, check_el};
+///
+/// assert_eq!(check_el(Group::of(1)?, &[b'E', b'L', 3, 2, 1, 0, 1, 4, 2, 1, 0]), Ok(()));
+/// # Ok::<(), stobbarel::Refusal>(())
+/// ```
 pub fn check_el(group: Group, bytes: &[u8]) -> Result<(), Refusal> {
-    Refusal::or_done(unsafe { c::stobbarel_reading_el(group.f(), bytes.as_ptr(), bytes.len()) })
+    Refusal::or_done(unsafe { c::stobbarel_reading_el(group.f().into(), bytes.as_ptr(), bytes.len()) })
 }
 
 /// What an answer that was read says.
-fn answered(code: u8) -> Decision {
-    Decision::of(code.into()).expect("what was read has an answer")
+fn said(code: u64) -> Decision {
+    coded(code).expect("what was read has an answer")
 }
 
-/// The election of a message that was read: an IV's has no leader, decision and answers.
-fn read_views(group: Group, message: &[u8]) -> (u8, u8, View, Vec<(u8, u8, View)>) {
-    let (mut head, mut numbers, mut answers, mut views) = ([0; 5], [0; 26], [0; 26], [0; 26]);
-    // Each pointer is to as many numbers as the function takes, and they do not overlap.
-    unsafe { c::stobbarel_views(group.f(), message.as_ptr(), message.len(), head.as_mut_ptr(), numbers.as_mut_ptr(), answers.as_mut_ptr(), views.as_mut_ptr()) };
-    let [_, leader, decision, view, count] = head;
-    let listed = (0..count as usize).map(|i| (numbers[i], answers[i], View(views[i]))).collect();
-    (leader as u8, decision as u8, View(view as u16), listed)
+/// The head and the answers of a message that was read: an IV's has no leader, decision and answers.
+struct ReadViews {
+    head: [u64; 5],
+    numbers: [u8; 26],
+    answers: [u8; 26],
+    views: [u16; 26],
 }
 
-/// The views of an IV.
-fn read_told(group: Group, message: &[u8]) -> Vec<(u8, View)> {
-    let (_, _, _, listed) = read_views(group, message);
-    listed.into_iter().map(|(number, _, view)| (number, view)).collect()
+impl ReadViews {
+    fn of(group: Group, message: &[u8]) -> ReadViews {
+        let mut read = ReadViews { head: [0; 5], numbers: [0; 26], answers: [0; 26], views: [0; 26] };
+        let (h, b, a, g) = (read.head.as_mut_ptr(), read.numbers.as_mut_ptr(), read.answers.as_mut_ptr(), read.views.as_mut_ptr());
+        // SAFETY: each pointer is to as many numbers as the function takes, and they do not overlap. The refusal was told before.
+        unsafe { c::stobbarel_views(group.f().into(), message.as_ptr(), message.len(), h, b, a, g) };
+        read
+    }
+
+    /// The views of an IV.
+    fn told(&self) -> Views {
+        UpTo::of(self.head[4] as usize, |i| (self.numbers[i], View(self.views[i])))
+    }
+
+    /// The election of an LD.
+    fn election(&self) -> Election {
+        let [_, leader, decision, view, count] = self.head;
+        let answers = UpTo::of(count as usize, |i| (self.numbers[i], said(self.answers[i].into()), View(self.views[i])));
+        Election { leader: leader as u8, decision: said(decision), view: View(view as u16), answers }
+    }
 }
 
-/// The election of an LD.
-fn read_election(group: Group, message: &[u8]) -> Election {
-    let (leader, decision, view, listed) = read_views(group, message);
-    let answers = listed.into_iter().map(|(number, answer, view)| (number, answered(answer), view)).collect();
-    Election { leader, decision: answered(decision), view, answers }
+/// The values of a message that was read.
+#[derive(Default)]
+struct Fields {
+    head: [u64; 9],
+    reads: [u16; 8],
+    versions: [u64; 8],
+    writes: [u16; 8],
+    values: [u64; 8],
+    numbers: [u8; 26],
+    answers: [u8; 26],
+}
+
+impl Fields {
+    fn of(group: Group, message: &[u8]) -> Result<Fields, Refusal> {
+        let mut read = Fields::default();
+        let (m, n, h) = (message.as_ptr(), message.len(), read.head.as_mut_ptr());
+        let (k, v, l, u) = (read.reads.as_mut_ptr(), read.versions.as_mut_ptr(), read.writes.as_mut_ptr(), read.values.as_mut_ptr());
+        let (b, a) = (read.numbers.as_mut_ptr(), read.answers.as_mut_ptr());
+        // SAFETY: each pointer is to as many numbers as the function takes, and they do not overlap.
+        Refusal::or_done(unsafe { c::stobbarel_fields(group.f().into(), m, n, h, k, v, l, u, b, a) })?;
+        Ok(read)
+    }
+
+    fn transaction(&self) -> Transaction {
+        let [_, stamp, r, w, ..] = self.head;
+        let reads = UpTo::of(r as usize, |i| (Key(self.reads[i]), Stamp(self.versions[i])));
+        Transaction { stamp: Stamp(stamp), reads, writes: UpTo::of(w as usize, |i| (Key(self.writes[i]), self.values[i])) }
+    }
+
+    fn list(&self) -> VoteList {
+        let [.., kind, decision, view, count] = self.head;
+        let pairs = UpTo::of(count as usize, |i| (self.numbers[i], said(self.answers[i].into())));
+        VoteList { kind: coded(kind).expect("a list has a kind"), decision: said(decision), view: View(view as u16), pairs }
+    }
 }
 
 /// A message's values. Without a clock, so never [`Refusal::Ahead`].
+///
+/// ```
+/// use stobbarel::{Group, Refusal, read_message};
+///
+/// assert_eq!(read_message(Group::of(1)?, b"PRTX"), Err(Refusal::Short));
+/// # Ok::<(), Refusal>(())
+/// ```
 pub fn read_message(group: Group, message: &[u8]) -> Result<Message, Refusal> {
-    let mut head = [0; 9];
-    let (mut reads, mut versions, mut writes, mut values) = ([0; 8], [0; 8], [0; 8], [0; 8]);
-    let (mut numbers, mut answers) = ([0; 26], [0; 26]);
-    // Each pointer is to as many numbers as the function takes, and they do not overlap.
-    Refusal::or_done(unsafe {
-        c::stobbarel_fields(
-            group.f(), message.as_ptr(), message.len(), head.as_mut_ptr(), reads.as_mut_ptr(), versions.as_mut_ptr(), writes.as_mut_ptr(),
-            values.as_mut_ptr(), numbers.as_mut_ptr(), answers.as_mut_ptr(),
-        )
-    })?;
-    let [mark, stamp, r, w, key, kind, decision, view, count] = head;
-    let tx = Transaction {
-        stamp: Stamp(stamp),
-        reads: (0..r as usize).map(|i| (Key(reads[i]), Stamp(versions[i]))).collect(),
-        writes: (0..w as usize).map(|i| (Key(writes[i]), values[i])).collect(),
-    };
-    let list = || VoteList {
-        kind: if kind == 1 { Kind::Votes } else { Kind::Logs },
-        decision: answered(decision as u8),
-        view: View(view as u16),
-        pairs: (0..count as usize).map(|i| (numbers[i], answered(answers[i]))).collect(),
-    };
-    Ok(match Mark::of(mark).expect("a message that was read has a mark") {
-        Mark::Pr => Message::Prepare(tx),
-        Mark::Lg => Message::Log(tx, list()),
-        Mark::Dc => Message::Decide(tx, list()),
+    let read = Fields::of(group, message)?;
+    let [mark, stamp, _, _, key, ..] = read.head;
+    Ok(match coded(mark).expect("a message that was read has a mark") {
+        Mark::Pr => Message::Prepare(read.transaction()),
+        Mark::Lg => Message::Log(read.transaction(), read.list()),
+        Mark::Dc => Message::Decide(read.transaction(), read.list()),
         Mark::Rd => Message::Read(Key(key as u16), Stamp(stamp)),
-        Mark::Iv => Message::Invoke(tx, read_told(group, message)),
-        Mark::Ld => Message::Lead(tx, read_election(group, message)),
+        Mark::Iv => Message::Invoke(read.transaction(), ReadViews::of(group, message).told()),
+        Mark::Ld => Message::Lead(read.transaction(), ReadViews::of(group, message).election()),
     })
 }
 
 /// A TX by itself, such as a table holds ([`Table::held`](crate::Table::held)), read to its transaction.
+///
+/// ```
+/// use stobbarel::{Key, LONGEST, Stamp, Transaction, read_tx, write_tx};
+///
+/// let tx = Transaction::new(Stamp(50), [], [(Key(3), 7)]);
+/// assert_eq!(read_tx(write_tx(&tx, &mut [0; LONGEST])?)?, tx);
+/// # Ok::<(), stobbarel::Refusal>(())
+/// ```
 pub fn read_tx(bytes: &[u8]) -> Result<Transaction, Refusal> {
     check_tx(bytes)?;
     // A PR is its mark and a TX, and its reading is one in every group.
-    match read_message(Group::of(1)?, &[b"PR", bytes].concat())? {
-        Message::Prepare(tx) => Ok(tx),
-        _ => unreachable!("it has the mark of a PR"),
-    }
+    let mut buffer = [0; LONGEST];
+    let message = &mut buffer[..2 + bytes.len()];
+    message[..2].copy_from_slice(b"PR");
+    message[2..].copy_from_slice(bytes);
+    Ok(Fields::of(Group::of(1)?, message)?.transaction())
 }
 
-/// The transaction's bytes inside a message, as they stand; empty for a refused message or an RD.
-pub fn tx_part(group: Group, message: &[u8]) -> &[u8] {
-    let length = unsafe { c::stobbarel_part(group.f(), message.as_ptr(), message.len()) };
-    if length == 0 {
-        return &[];
-    }
-    &message[2..2 + length]
+/// The transaction's bytes inside a message, as they stand; none of a refused message, or an RD.
+///
+/// ```
+/// use stobbarel::{Group, Key, LONGEST, Stamp, Transaction, tx_part, write_pr};
+///
+/// let (group, tx) = (Group::of(1)?, Transaction::new(Stamp(50), [], [(Key(3), 7)]));
+/// let mut buffer = [0; LONGEST];
+/// let message = write_pr(&tx, &mut buffer)?;
+/// assert_eq!(tx_part(group, message), Some(&message[2..]));
+/// assert_eq!(tx_part(group, b"RD"), None);
+/// # Ok::<(), stobbarel::Refusal>(())
+/// ```
+#[must_use]
+pub fn tx_part(group: Group, message: &[u8]) -> Option<&[u8]> {
+    // SAFETY: the pointer is to the message's bytes.
+    let length = unsafe { c::stobbarel_part(group.f().into(), message.as_ptr(), message.len()) };
+    (length > 0).then(|| &message[2..2 + length])
 }

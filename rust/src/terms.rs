@@ -1,21 +1,121 @@
-//! The papers' words: stamp, key, view, mark, decision, kind, reason, refusal, and the group of boxes.
+//! The papers' words: stamp, key, view, mark, decision, kind, reason, and the group of boxes.
 
-use crate::c;
+use crate::refusal::Refusal;
+use core::fmt;
+use stobbarel_sys as c;
 
 /// A moment and a writer; 1 or more where it is in order.
+///
+/// ```
+/// use stobbarel::Stamp;
+///
+/// assert!(Stamp(50) < Stamp::from(51));
+/// assert_eq!(u64::from(Stamp(50)), 50);
+/// ```
 #[derive(Clone, Copy, Debug, Default, PartialEq, Eq, PartialOrd, Ord, Hash)]
 pub struct Stamp(pub u64);
 
 /// A register place; 0 to 511 where it is in order.
+///
+/// ```
+/// assert_eq!(stobbarel::Key::from(3).to_string(), "3");
+/// ```
 #[derive(Clone, Copy, Debug, Default, PartialEq, Eq, PartialOrd, Ord, Hash)]
 pub struct Key(pub u16);
 
-/// A round of the fallback: the one that a decision was logged in, 0 for what an LG had logged, or the one that a box is in for a transaction. A proof from logs is
-/// of one view.
+/// A round of the fallback: the one that a decision was logged in, 0 for what an LG had logged, or the one that a box is in for a transaction. A proof from
+/// logs is of one view.
+///
+/// ```
+/// assert!(stobbarel::View::default() < stobbarel::View(1));
+/// ```
 #[derive(Clone, Copy, Debug, Default, PartialEq, Eq, PartialOrd, Ord, Hash)]
 pub struct View(pub u16);
 
+/// A number and its word, in both directions, and as the number that it is.
+macro_rules! numbered {
+    ($($word:ident is $number:ty),*) => {$(
+        impl From<$number> for $word {
+            fn from(number: $number) -> $word {
+                $word(number)
+            }
+        }
+
+        impl From<$word> for $number {
+            fn from(word: $word) -> $number {
+                word.0
+            }
+        }
+
+        impl fmt::Display for $word {
+            fn fmt(&self, f: &mut fmt::Formatter<'_>) -> fmt::Result {
+                self.0.fmt(f)
+            }
+        }
+    )*};
+}
+
+numbered!(Stamp is u64, Key is u16, View is u16);
+
+/// A code that stands for nothing here.
+///
+/// ```
+/// use stobbarel::{Decision, NoSuchCode};
+///
+/// assert_eq!(Decision::try_from(3), Err(NoSuchCode(3)));
+/// assert_eq!(NoSuchCode(3).to_string(), "3 is no such code");
+/// ```
+#[derive(Clone, Copy, Debug, PartialEq, Eq, Hash)]
+pub struct NoSuchCode(pub u8);
+
+impl fmt::Display for NoSuchCode {
+    fn fmt(&self, f: &mut fmt::Formatter<'_>) -> fmt::Result {
+        write!(f, "{} is no such code", self.0)
+    }
+}
+
+impl core::error::Error for NoSuchCode {}
+
+/// The codes of a word's cases, in both directions, and each in words.
+macro_rules! coded {
+    ($word:ident: $($case:ident is $says:literal),*) => {
+        impl TryFrom<u8> for $word {
+            type Error = NoSuchCode;
+
+            fn try_from(code: u8) -> Result<$word, NoSuchCode> {
+                [$($word::$case),*].into_iter().find(|one| *one as u8 == code).ok_or(NoSuchCode(code))
+            }
+        }
+
+        impl From<$word> for u8 {
+            fn from(word: $word) -> u8 {
+                word as u8
+            }
+        }
+
+        impl fmt::Display for $word {
+            fn fmt(&self, f: &mut fmt::Formatter<'_>) -> fmt::Result {
+                f.pad(match self {
+                    $($word::$case => $says),*
+                })
+            }
+        }
+    };
+}
+
+/// A code as the engine tells it, among wider numbers.
+pub(crate) fn coded<T: TryFrom<u8>>(number: u64) -> Option<T> {
+    u8::try_from(number).ok()?.try_into().ok()
+}
+
 /// What a message begins with.
+///
+/// ```
+/// use stobbarel::Mark;
+///
+/// assert_eq!(Mark::try_from(1), Ok(Mark::Pr));
+/// assert_eq!(Mark::Pr.to_string(), "PR");
+/// ```
 #[derive(Clone, Copy, Debug, PartialEq, Eq, Hash)]
 pub enum Mark {
     /// 1: vote on a transaction.
@@ -32,13 +132,19 @@ pub enum Mark {
     Ld = 6,
 }
 
-impl Mark {
-    pub(crate) fn of(number: u64) -> Option<Mark> {
-        [Mark::Pr, Mark::Lg, Mark::Dc, Mark::Rd, Mark::Iv, Mark::Ld].into_iter().find(|one| *one as u64 == number)
-    }
-}
+coded!(Mark: Pr is "PR", Lg is "LG", Dc is "DC", Rd is "RD", Iv is "IV", Ld is "LD");
 
 /// What a list names, and what a box answers.
+///
+/// ```
+/// use stobbarel::{Decision, Refusal, Vote};
+///
+/// assert_eq!(Decision::try_from(2), Ok(Decision::Abort));
+/// assert_eq!(Decision::Abort.to_string(), "abort");
+/// // A vote is one too, unless the box waits.
+/// assert_eq!(Decision::try_from(Vote::Commit), Ok(Decision::Commit));
+/// assert_eq!(Decision::try_from(Vote::Waiting), Err(Refusal::Code));
+/// ```
 #[derive(Clone, Copy, Debug, PartialEq, Eq, Hash)]
 pub enum Decision {
     /// 1
@@ -47,13 +153,33 @@ pub enum Decision {
     Abort = 2,
 }
 
+coded!(Decision: Commit is "commit", Abort is "abort");
+
 impl Decision {
-    pub(crate) fn of(number: u64) -> Option<Decision> {
-        [Decision::Commit, Decision::Abort].into_iter().find(|one| *one as u64 == number)
+    /// The one that it is not.
+    ///
+    /// ```
+    /// use stobbarel::Decision;
+    ///
+    /// assert_eq!(Decision::Commit.other(), Decision::Abort);
+    /// ```
+    #[must_use]
+    pub fn other(self) -> Decision {
+        match self {
+            Decision::Commit => Decision::Abort,
+            Decision::Abort => Decision::Commit,
+        }
     }
 }
 
 /// Of what a list or a tally sheet is made.
+///
+/// ```
+/// use stobbarel::Kind;
+///
+/// assert_eq!(Kind::try_from(2), Ok(Kind::Logs));
+/// assert_eq!(Kind::Logs.to_string(), "logs");
+/// ```
 #[derive(Clone, Copy, Debug, PartialEq, Eq, Hash)]
 pub enum Kind {
     /// 1
@@ -62,7 +188,16 @@ pub enum Kind {
     Logs = 2,
 }
 
+coded!(Kind: Votes is "votes", Logs is "logs");
+
 /// Why a box voted abort.
+///
+/// ```
+/// use stobbarel::Reason;
+///
+/// assert_eq!(Reason::try_from(5), Ok(Reason::ReadMark));
+/// assert_eq!(Reason::ReadMark.to_string(), "a written key's read mark is above this stamp");
+/// ```
 #[derive(Clone, Copy, Debug, PartialEq, Eq, Hash)]
 pub enum Reason {
     /// 1: the stamp is above clock + δ.
@@ -79,185 +214,148 @@ pub enum Reason {
     Dependency = 6,
 }
 
-impl Reason {
-    pub(crate) fn of(number: u64) -> Option<Reason> {
-        use Reason::*;
-        [Ahead, NoVersion, Overwritten, Undercuts, ReadMark, Dependency].into_iter().find(|one| *one as u64 == number)
-    }
-}
+coded!(Reason:
+    Ahead is "its stamp is above clock + delta",
+    NoVersion is "a version read is no live entry that writes the key",
+    Overwritten is "a live entry writes a key read here, between the version and this stamp",
+    Undercuts is "a live entry above read a key written here, at a version below",
+    ReadMark is "a written key's read mark is above this stamp",
+    Dependency is "what it waited for is aborted, lacks the key or is not held"
+);
 
-/// Why nothing was done. The numbers are the paper's.
-#[derive(Clone, Copy, Debug, PartialEq, Eq, Hash)]
-pub enum Refusal {
-    /// 1: bytes end inside a record.
-    Short,
-    /// 2: the mark is not the one due.
-    Mark,
-    /// 3: r or w above 8, r + w = 0, list count 0 or above 26.
-    Count,
-    /// 4: bytes after the message.
-    Trailing,
-    /// 5: stamp 0, key above 511, box number n or more.
-    Range,
-    /// 6: keys or box numbers not strictly rising.
-    Order,
-    /// 7: a read version at or above the own stamp.
-    Misbehaviour,
-    /// 8: kind, decision or answer not 1 or 2; kind 2 in an LG.
-    Code,
-    /// 9: another body is held under this stamp.
-    OtherBody,
-    /// 10: no longer given, since an LG for a stamp not held is logged. The number is kept.
-    Unknown,
-    /// 11: the list misses its threshold. It lacks so many counted answers, 1 to the threshold.
-    TooFew(u8),
-    /// 12: the stamp is already decided otherwise.
-    Contradiction,
-    /// 13: a new entry is needed and the table is at capacity.
-    Full,
-    /// 14: f not 1 to 5, or capacity not 1 to 255.
-    Group,
-    /// 15: RD stamp above clock + δ.
-    Ahead,
-    /// 16: a lent table or tally sheet that is not in order.
-    Table,
-    /// 17: the output buffer is shorter than the record.
-    Buffer,
-    /// 21: the box's current view is above that of a leader's decision, or its logged view is not below.
-    Passed,
-    /// 22: the box holds no log for this body, so that it has no election answer to give.
-    NotLogged,
-    /// 23: a leader's decision with a wrong leader, number of answers, view or majority; a leader's sheet with fewer than 4f + 1 answers.
-    Election,
-    /// 24: the new view would pass 65,535.
-    LastView,
-    /// 26: a passage above 127.
-    Passage,
-    /// 27: the committed versions at a passage's four keys are not all equal.
-    Versions,
-    /// 28: a passage's direction is not 0 or 1.
-    Direction,
-    /// 29: a passage's axle count is not 1 to 1000, as where none was ever written.
-    AxleCount,
-    /// 30: a passage's hot axle is above its count.
-    HotAxle,
-}
-
-impl Refusal {
-    /// The paper's number.
-    pub fn number(self) -> u8 {
-        use Refusal::*;
-        match self {
-            Short => 1,
-            Mark => 2,
-            Count => 3,
-            Trailing => 4,
-            Range => 5,
-            Order => 6,
-            Misbehaviour => 7,
-            Code => 8,
-            OtherBody => 9,
-            Unknown => 10,
-            TooFew(_) => 11,
-            Contradiction => 12,
-            Full => 13,
-            Group => 14,
-            Ahead => 15,
-            Table => 16,
-            Buffer => 17,
-            Passed => 21,
-            NotLogged => 22,
-            Election => 23,
-            LastView => 24,
-            Passage => 26,
-            Versions => 27,
-            Direction => 28,
-            AxleCount => 29,
-            HotAxle => 30,
-        }
-    }
-
-    /// How many counted answers a list lacks; none beside any other refusal than [`Refusal::TooFew`].
-    pub fn lacking(self) -> Option<u8> {
-        match self {
-            Refusal::TooFew(lacking) => Some(lacking),
-            _ => None,
-        }
-    }
-
-    /// The refusal of a number that tells no more; 11 does.
-    pub(crate) fn of(number: u64) -> Option<Refusal> {
-        use Refusal::*;
-        let box_and_gateway = [Short, Mark, Count, Trailing, Range, Order, Misbehaviour, Code, OtherBody, Unknown, Contradiction, Full, Group, Ahead, Table, Buffer];
-        let all = box_and_gateway.into_iter().chain([Passed, NotLogged, Election, LastView]).chain([Passage, Versions, Direction, AxleCount, HotAxle]);
-        all.into_iter().find(|one| u64::from(one.number()) == number)
-    }
-
-    /// 0, or the number of a refusal, as the C functions answer.
-    pub(crate) fn or_done(number: u8) -> Result<(), Refusal> {
-        match number {
-            0 => Ok(()),
-            number => Err(Refusal::of(number.into()).expect("the engine tells a number of the paper's")),
-        }
-    }
-}
-
-impl std::fmt::Display for Refusal {
-    fn fmt(&self, f: &mut std::fmt::Formatter) -> std::fmt::Result {
-        write!(f, "refused {}: {self:?}", self.number())
-    }
-}
-
-impl std::error::Error for Refusal {}
-
-/// A group of 5f + 1 boxes, of which at most f are faulty, and how many answers each thing needs.
-#[derive(Clone, Copy, Debug, PartialEq, Eq, Hash)]
+/// A group of 5f + 1 boxes, of which at most f are faulty, and how many answers each thing needs. Its boxes are numbered from 0.
+///
+/// ```
+/// use stobbarel::{Group, Refusal};
+///
+/// let group = Group::of(1)?;
+/// assert_eq!(group.boxes(), 6);
+/// assert_eq!(Group::of(6), Err(Refusal::Group));
+/// # Ok::<(), Refusal>(())
+/// ```
+#[derive(Clone, Copy, PartialEq, Eq, Hash)]
 pub struct Group {
-    f: u64,
-    needed: [u64; 6],
+    f: u8,
+    needed: [u8; 6],
 }
 
 impl Group {
     /// The group of f, which is 1 to 5.
-    pub fn of(f: u64) -> Result<Group, Refusal> {
+    ///
+    /// ```
+    /// use stobbarel::{Group, Refusal};
+    ///
+    /// assert_eq!(Group::of(0), Err(Refusal::Group));
+    /// // A wider number, as a file or a wire has it, is a group or is refused too.
+    /// assert_eq!(Group::try_from(5), Group::of(5));
+    /// assert_eq!(Group::try_from(257), Err(Refusal::Group));
+    /// ```
+    pub fn of(f: u8) -> Result<Group, Refusal> {
         let mut needed = [0; 6];
-        // The pointer is to six numbers.
-        Refusal::or_done(unsafe { c::stobbarel_thresholds(f, needed.as_mut_ptr()) })?;
-        Ok(Group { f, needed })
+        // SAFETY: the pointer is to six numbers.
+        Refusal::or_done(unsafe { c::stobbarel_thresholds(f.into(), needed.as_mut_ptr()) })?;
+        // none of them is above 26
+        Ok(Group { f, needed: needed.map(|number| number as u8) })
     }
 
     /// How many boxes may be faulty.
-    pub fn f(self) -> u64 {
+    ///
+    /// ```
+    /// assert_eq!(stobbarel::Group::of(2)?.f(), 2);
+    /// # Ok::<(), stobbarel::Refusal>(())
+    /// ```
+    #[must_use]
+    pub fn f(self) -> u8 {
         self.f
     }
 
     /// n: boxes are numbered 0 to n - 1.
-    pub fn boxes(self) -> u64 {
+    ///
+    /// ```
+    /// assert_eq!(stobbarel::Group::of(5)?.boxes(), 26);
+    /// # Ok::<(), stobbarel::Refusal>(())
+    /// ```
+    #[must_use]
+    pub fn boxes(self) -> u8 {
         self.needed[0]
     }
 
+    /// The numbers of its boxes.
+    ///
+    /// ```
+    /// assert!(stobbarel::Group::of(1)?.numbers().eq([0, 1, 2, 3, 4, 5]));
+    /// # Ok::<(), stobbarel::Refusal>(())
+    /// ```
+    pub fn numbers(self) -> impl DoubleEndedIterator<Item = u8> + ExactSizeIterator {
+        0..self.boxes()
+    }
+
     /// Commit votes to log commit.
-    pub fn commit_list(self) -> u64 {
+    ///
+    /// ```
+    /// assert_eq!(stobbarel::Group::of(1)?.commit_list(), 4);
+    /// # Ok::<(), stobbarel::Refusal>(())
+    /// ```
+    #[must_use]
+    pub fn commit_list(self) -> u8 {
         self.needed[1]
     }
 
     /// Abort votes to log abort.
-    pub fn abort_list(self) -> u64 {
+    ///
+    /// ```
+    /// assert_eq!(stobbarel::Group::of(1)?.abort_list(), 2);
+    /// # Ok::<(), stobbarel::Refusal>(())
+    /// ```
+    #[must_use]
+    pub fn abort_list(self) -> u8 {
         self.needed[2]
     }
 
     /// Commit votes that prove commit.
-    pub fn commit_proof(self) -> u64 {
+    ///
+    /// ```
+    /// assert_eq!(stobbarel::Group::of(1)?.commit_proof(), 6);
+    /// # Ok::<(), stobbarel::Refusal>(())
+    /// ```
+    #[must_use]
+    pub fn commit_proof(self) -> u8 {
         self.needed[3]
     }
 
     /// Abort votes that prove abort.
-    pub fn abort_proof(self) -> u64 {
+    ///
+    /// ```
+    /// assert_eq!(stobbarel::Group::of(1)?.abort_proof(), 4);
+    /// # Ok::<(), stobbarel::Refusal>(())
+    /// ```
+    #[must_use]
+    pub fn abort_proof(self) -> u8 {
         self.needed[4]
     }
 
     /// Equal logged decisions that prove that decision.
-    pub fn log_proof(self) -> u64 {
+    ///
+    /// ```
+    /// assert_eq!(stobbarel::Group::of(1)?.log_proof(), 5);
+    /// # Ok::<(), stobbarel::Refusal>(())
+    /// ```
+    #[must_use]
+    pub fn log_proof(self) -> u8 {
         self.needed[5]
+    }
+}
+
+impl TryFrom<u64> for Group {
+    type Error = Refusal;
+
+    fn try_from(f: u64) -> Result<Group, Refusal> {
+        Group::of(f.try_into().map_err(|_| Refusal::Group)?)
+    }
+}
+
+impl fmt::Debug for Group {
+    fn fmt(&self, f: &mut fmt::Formatter<'_>) -> fmt::Result {
+        write!(f, "Group of f = {}", self.f)
     }
 }

@@ -1,26 +1,26 @@
 //! Gateways on six boxes in memory, by way of this package alone: each way through, a gateway that dies, and another that finishes for it.
+#![cfg(feature = "alloc")]
 
-mod written;
+mod common;
 
+use Decision::{Abort, Commit};
+use common::{alike, body, bytes};
 use std::collections::BTreeMap;
 use stobbarel::*;
-use Decision::{Abort, Commit};
-use written::bytes;
 
 const CLOCK: u64 = 1000;
 const TIMING: Timing = Timing { patience: 10, first_try: 20, doublings: 8, farewells: 3 };
 
-fn body(tx: &Transaction) -> Vec<u8> {
-    bytes(|out| write_tx(tx, out))
-}
-
 fn writes(stamp: u64, value: u64) -> Transaction {
-    Transaction { stamp: Stamp(stamp), reads: vec![], writes: vec![(Key(3), value)] }
+    Transaction::new(Stamp(stamp), [], [(Key(3), value)])
 }
 
 fn corrects(stamp: u64, version: u64) -> Transaction {
-    Transaction { stamp: Stamp(stamp), reads: vec![(Key(3), Stamp(version))], writes: vec![(Key(3), stamp)] }
+    Transaction::new(Stamp(stamp), [(Key(3), Stamp(version))], [(Key(3), stamp)])
 }
+
+/// A box's answer to a message with this body, and the DC that it hands over.
+type Said = (u8, Vec<u8>, Result<Answer, Refusal>, Option<Vec<u8>>);
 
 /// Six boxes that answer at once; those in `deaf` hear nothing.
 struct Line {
@@ -30,7 +30,7 @@ struct Line {
     proofs: BTreeMap<(u8, Vec<u8>), Vec<u8>>,
     leaders: BTreeMap<(u8, Vec<u8>), Leader>,
     /// What was said to a gateway and not yet heard.
-    said: Vec<(u8, Vec<u8>, Answer, Option<Vec<u8>>)>,
+    said: Vec<Said>,
     told: Vec<(u8, Question, Vec<Holding>)>,
 }
 
@@ -52,13 +52,13 @@ impl Line {
 
     fn message(&mut self, to: u8, message: &[u8]) {
         let answer = self.boxes[to as usize].receive(CLOCK, 0, message);
-        let body = tx_part(self.group, message).to_vec();
-        if answer == Answer::Done {
+        let body = tx_part(self.group, message).unwrap().to_vec();
+        if answer == Ok(Answer::Done) {
             self.proofs.insert((to, body.clone()), message.to_vec());
         }
-        let handed = self.proofs.get(&(to, body.clone())).filter(|_| matches!(answer, Answer::Decided(_))).cloned();
+        let handed = self.proofs.get(&(to, body.clone())).filter(|_| matches!(answer, Ok(Answer::Decided(_)))).cloned();
         self.said.push((to, body.clone(), answer, handed));
-        if let Answer::Elected { decision, view, leader } = answer {
+        if let Ok(Answer::Elected { decision, view, leader }) = answer {
             let one = Leader::new(self.group, leader, &body).unwrap();
             let letters = self.leaders.entry((leader, body)).or_insert(one).hear(to, decision, view);
             self.bring(letters);
@@ -131,11 +131,11 @@ fn a_silent_box_costs_patience_and_a_log() {
 /// Boxes 4 and 5 vote abort, and a dead gateway had commit logged by 0, 1, 2 and abort by the others.
 fn split(line: &mut Line, tx: &Transaction) {
     let read = bytes(|out| write_rd(Key(3), Stamp(60), out));
-    let list = |decision, numbers: std::ops::Range<u8>| VoteList::votes(decision, numbers.map(|number| (number, decision)).collect());
+    let list = |decision, numbers: std::ops::Range<u8>| VoteList::votes(decision, alike(numbers, decision));
     let [commit, abort] = [list(Commit, 0..4), list(Abort, 4..6)].map(|list| bytes(|out| write_lg(line.group, tx, &list, out)));
     for number in 0..6u8 {
         if number > 3 {
-            line.boxes[number as usize].receive(CLOCK, 0, &read);
+            assert!(line.boxes[number as usize].receive(CLOCK, 0, &read).is_ok());
         }
         line.message(number, &bytes(|out| write_pr(tx, out)));
         line.message(number, if number < 3 { &commit } else { &abort });
@@ -182,7 +182,7 @@ fn what_stands_in_the_way_is_finished_first() {
 #[test]
 fn a_proof_that_reached_one_box_is_handed_over() {
     let (mut line, tx) = (Line::new(), writes(50, 7));
-    let list = VoteList::votes(Commit, (0..6).map(|number| (number, Commit)).collect());
+    let list = VoteList::votes(Commit, alike(0..6, Commit));
     line.message(1, &bytes(|out| write_dc(line.group, &tx, &list, out)));
     line.said.clear();
     // all but two boxes hear nothing: no list can be made
@@ -197,19 +197,19 @@ fn a_proof_that_reached_one_box_is_handed_over() {
 #[test]
 fn what_is_handed_over_is_judged() {
     let (line, tx) = (Line::new(), writes(50, 7));
-    let list = |count| VoteList::votes(Commit, (0..count).map(|number| (number, Commit)).collect());
+    let list = |count| VoteList::votes(Commit, alike(0..count, Commit));
     let mut gateway = Gateway::new(line.group, tx.clone(), TIMING).unwrap();
-    gateway.start(0);
+    assert_eq!(gateway.start(0).len(), 6);
     let short = bytes(|out| write_dc(line.group, &tx, &list(5), out));
     let other = bytes(|out| write_dc(line.group, &writes(50, 8), &list(6), out));
     for wrong in [&short[..], &other, b"DC", b""] {
-        assert!(gateway.hear(1, Answer::Decided(Commit), Some(wrong), 1).is_empty());
+        assert!(gateway.hear(1, Ok(Answer::Decided(Commit)), Some(wrong), 1).is_empty());
         assert_eq!(gateway.outcome(), None);
     }
     // nor is a box that is none, nor a second vote of one
-    assert!(gateway.hear(6, Answer::Voted(Vote::Commit, Some(0)), None, 1).is_empty());
+    assert!(gateway.hear(6, Ok(Answer::Voted(Vote::Commit, Some(0))), None, 1).is_empty());
     for _ in 0..9 {
-        gateway.hear(0, Answer::Voted(Vote::Abort(Reason::ReadMark), Some(0)), None, 1);
+        assert!(gateway.hear(0, Ok(Answer::Voted(Vote::Abort(Reason::ReadMark), Some(0))), None, 1).is_empty());
     }
     assert_eq!(gateway.outcome(), None);
 }
@@ -221,11 +221,11 @@ fn a_body_is_taken_up_with_its_writers_signature_or_from_two_boxes() {
     let way = Question::Way(body(&own));
     let unsigned = |body: &[u8]| Holding { body: body.to_vec(), signed: false, vote: None, logged: None, proof: None };
     let mut desk = Desk::new(group, TIMING);
-    desk.care(own.clone(), 0).unwrap();
+    assert_eq!(desk.care(own.clone(), 0).unwrap().len(), 6);
     // nothing was asked yet
     assert!(desk.told(0, &way, &[Holding { signed: true, ..unsigned(&left) }], 1).is_empty());
-    desk.hear(0, &body(&own), Answer::Voted(Vote::Waiting, Some(2)), None, 1);
-    desk.tick(10);
+    assert!(desk.hear(0, &body(&own), Ok(Answer::Voted(Vote::Waiting, Some(2))), None, 1).is_empty());
+    assert!(!desk.tick(10).is_empty());
     assert!(desk.told(0, &way, &[unsigned(&left)], 11).is_empty());
     assert!(desk.told(0, &way, &[unsigned(&left), unsigned(&left)], 11).is_empty());
     // 40 does not stand in its way, signed or not
@@ -275,5 +275,5 @@ fn a_question_moves_nobody() {
     let (mut line, tx) = (Line::new(), writes(50, 7));
     split(&mut line, &tx);
     let ask = question(line.group, &tx).unwrap();
-    assert_eq!(line.boxes[0].receive(CLOCK, 0, &ask), Answer::Elected { decision: Commit, view: View(0), leader: 2 });
+    assert_eq!(line.boxes[0].receive(CLOCK, 0, &ask), Ok(Answer::Elected { decision: Commit, view: View(0), leader: 2 }));
 }

@@ -1,11 +1,12 @@
 //! What a box's host reads off its table: the transaction of a stamp, and what the box holds beside it.
+#![cfg(feature = "alloc")]
 
-mod written;
+mod common;
 
-use stobbarel::layout::{table_len, BODY_AT, HEAD, KEYS, LOG_AT, LOG_VIEW_AT, ROW, VIEW_AT, VOTE_AT};
-use stobbarel::*;
 use Decision::{Abort, Commit};
-use written::bytes;
+use common::{alike, body, bytes};
+use stobbarel::layout::{BODY_AT, HEAD, KEYS, LOG_AT, LOG_VIEW_AT, ROW, VIEW_AT, VOTE_AT, table_len};
+use stobbarel::*;
 
 const CLOCK: u64 = 100;
 const DELTA: u64 = 10;
@@ -16,16 +17,12 @@ fn group() -> Group {
 
 /// A transaction that writes a value at key 3.
 fn writes(stamp: u64, value: u64) -> Transaction {
-    Transaction { stamp: Stamp(stamp), reads: vec![], writes: vec![(Key(3), value)] }
+    Transaction::new(Stamp(stamp), [], [(Key(3), value)])
 }
 
 /// A list of votes of the first boxes, all of them for this.
 fn votes(decision: Decision, count: u8) -> VoteList {
-    VoteList::votes(decision, (0..count).map(|number| (number, decision)).collect())
-}
-
-fn body(tx: &Transaction) -> Vec<u8> {
-    bytes(|out| write_tx(tx, out))
+    VoteList::votes(decision, alike(0..count, decision))
 }
 
 #[test]
@@ -33,7 +30,7 @@ fn nothing_is_held() {
     let mut table = Table::new(group(), 8).unwrap();
     assert_eq!(table.held(Stamp(50)), Ok(None));
     assert_eq!(table.held(Stamp(0)), Ok(None));
-    table.receive(CLOCK, DELTA, &bytes(|out| write_pr(&writes(50, 7), out)));
+    assert!(table.receive(CLOCK, DELTA, &bytes(|out| write_pr(&writes(50, 7), out))).is_ok());
     assert_eq!(table.held(Stamp(51)), Ok(None));
 }
 
@@ -41,12 +38,12 @@ fn nothing_is_held() {
 fn each_vote() {
     let mut table = Table::new(group(), 8).unwrap();
     let (written, ahead) = (writes(50, 7), writes(111, 7));
-    let reader = Transaction { stamp: Stamp(60), reads: vec![(Key(3), Stamp(50))], writes: vec![(Key(4), 8)] };
+    let reader = Transaction::new(Stamp(60), [(Key(3), Stamp(50))], [(Key(4), 8)]);
     let only_logged = writes(70, 9);
     for tx in [&written, &ahead, &reader] {
-        table.prepare(CLOCK, DELTA, &bytes(|out| write_pr(tx, out)));
+        assert!(table.prepare(CLOCK, DELTA, &bytes(|out| write_pr(tx, out))).is_ok());
     }
-    table.log(CLOCK, DELTA, &bytes(|out| write_lg(group(), &only_logged, &votes(Abort, 2), out)));
+    assert!(table.log(CLOCK, DELTA, &bytes(|out| write_lg(group(), &only_logged, &votes(Abort, 2), out))).is_ok());
     let due = [
         (&written, Some(Vote::Commit), None),
         (&ahead, Some(Vote::Abort(Reason::Ahead)), None),
@@ -63,13 +60,13 @@ fn each_vote() {
 fn logged_in_a_view_and_decided() {
     let mut table = Table::new(group(), 8).unwrap();
     let tx = writes(50, 7);
-    let election = Election { leader: 3, decision: Abort, view: View(1), answers: (0..5).map(|number| (number, Abort, View(1))).collect() };
-    assert_eq!(table.lead(CLOCK, DELTA, &bytes(|out| write_ld(group(), &tx, &election, out))), Answer::Logged(Abort, View(1)));
+    let election = Election { leader: 3, decision: Abort, view: View(1), answers: [0, 1, 2, 3, 4].map(|number| (number, Abort, View(1))).into() };
+    assert_eq!(table.lead(CLOCK, DELTA, &bytes(|out| write_ld(group(), &tx, &election, out))), Ok(Answer::Logged(Abort, View(1))));
     let told = [(4, View(9)), (5, View(9))];
-    table.invoke(CLOCK, DELTA, &bytes(|out| write_iv(group(), &tx, &told, out)));
+    assert!(table.invoke(CLOCK, DELTA, &bytes(|out| write_iv(group(), &tx, &told, out))).is_ok());
     let due = Held { body: &body(&tx), vote: None, decided: None, logged: Some((Abort, View(1))), view: View(9) };
     assert_eq!(table.held(Stamp(50)), Ok(Some(due)));
-    table.decide(CLOCK, DELTA, &bytes(|out| write_dc(group(), &tx, &votes(Abort, 4), out)));
+    assert_eq!(table.decide(CLOCK, DELTA, &bytes(|out| write_dc(group(), &tx, &votes(Abort, 4), out))), Ok(Answer::Done));
     assert_eq!(table.held(Stamp(50)), Ok(Some(Held { decided: Some(Abort), ..due })));
 }
 
@@ -77,8 +74,8 @@ fn logged_in_a_view_and_decided() {
 fn a_body_that_replaced_another() {
     let mut table = Table::new(group(), 8).unwrap();
     let (first, other) = (writes(50, 7), writes(50, 8));
-    table.prepare(CLOCK, DELTA, &bytes(|out| write_pr(&first, out)));
-    table.decide(CLOCK, DELTA, &bytes(|out| write_dc(group(), &other, &votes(Commit, 6), out)));
+    assert!(table.prepare(CLOCK, DELTA, &bytes(|out| write_pr(&first, out))).is_ok());
+    assert_eq!(table.decide(CLOCK, DELTA, &bytes(|out| write_dc(group(), &other, &votes(Commit, 6), out))), Ok(Answer::Done));
     let due = Held { body: &body(&other), vote: None, decided: Some(Commit), logged: None, view: View(0) };
     assert_eq!(table.held(Stamp(50)), Ok(Some(due)));
 }
@@ -133,7 +130,7 @@ fn refused() {
 
 #[test]
 fn a_tx_read() {
-    let tx = Transaction { stamp: Stamp(60), reads: vec![(Key(3), Stamp(50)), (Key(511), Stamp(0))], writes: vec![(Key(4), 8)] };
+    let tx = Transaction::new(Stamp(60), [(Key(3), Stamp(50)), (Key(511), Stamp(0))], [(Key(4), 8)]);
     let whole = body(&tx);
     assert_eq!(read_tx(&whole), Ok(tx));
     for length in 0..whole.len() {

@@ -1,10 +1,12 @@
 //! The passage register by way of the package: what is refused, and in which order; reports; corrections; entries.
+#![cfg(feature = "alloc")]
 
-use stobbarel::{write_pr, Answer, Group, Key, Passage, Refusal, Report, Stamp, Table, Values, Version, Vote, LONGEST};
+use stobbarel::{Answer, Group, Key, LONGEST, Passage, Refusal, Report, Stamp, Table, Values, Version, Vote, write_pr};
 
-fn found(stamp: u64, value: u64) -> Answer {
-    let none = Version { stamp: Stamp(0), value: 0 };
-    Answer::Found(Version { stamp: Stamp(stamp), value }, none)
+/// What stands there, committed by this stamp; 0 is none.
+fn found(stamp: u64, value: u64) -> Result<Answer, Refusal> {
+    let committed = (stamp > 0).then_some(Version { stamp: Stamp(stamp), value });
+    Ok(Answer::Found { committed, undecided: None })
 }
 
 /// What four answers of one writer report of passage 5.
@@ -44,8 +46,8 @@ fn refusals_come_in_their_order() {
     assert_eq!(report(1, u64::MAX, u64::MAX, u64::MAX), Err(Refusal::Direction));
     assert_eq!(report(1, 0, u64::MAX, u64::MAX), Err(Refusal::AxleCount));
     assert_eq!(asks.report([found(0, 0); 4]), Err(Refusal::AxleCount), "as at a passage never written");
-    assert_eq!(asks.report([found(50, 1), found(50, 1), Answer::Refused(Refusal::Ahead), found(50, 1)]), Err(Refusal::Ahead));
-    assert_eq!(asks.report([found(50, 1), Answer::Done, found(50, 1), found(50, 1)]), Err(Refusal::Mark));
+    assert_eq!(asks.report([found(50, 1), found(50, 1), Err(Refusal::Ahead), found(50, 1)]), Err(Refusal::Ahead));
+    assert_eq!(asks.report([found(50, 1), Ok(Answer::Done), found(50, 1), found(50, 1)]), Err(Refusal::Mark));
 }
 
 #[test]
@@ -93,11 +95,10 @@ fn of_two_entries_of_one_look_one_is_voted_for() {
     let mut table = Table::new(Group::of(1).unwrap(), 8).unwrap();
     let seen = Passage(5).look(&mut table, 100, 10, Stamp(40)).unwrap();
     let mut vote = |stamp, train| {
-        let mut buffer = [0; LONGEST];
-        let length = write_pr(&seen.enter(Stamp(stamp), Values { train, direction: 0, axles: 8, hot: 0 }).unwrap(), &mut buffer).unwrap();
-        table.receive(100, 10, &buffer[..length])
+        let entry = seen.enter(Stamp(stamp), Values { train, direction: 0, axles: 8, hot: 0 }).unwrap();
+        table.receive(100, 10, write_pr(&entry, &mut [0; LONGEST]).unwrap())
     };
-    assert_eq!(vote(50, 1), Answer::Voted(Vote::Commit, Some(0)));
-    assert!(matches!(vote(60, 2), Answer::Voted(Vote::Abort(_), Some(_))));
-    assert!(matches!(vote(45, 3), Answer::Voted(Vote::Abort(_), Some(_))));
+    assert_eq!(vote(50, 1), Ok(Answer::Voted(Vote::Commit, Some(0))));
+    assert!(matches!(vote(60, 2), Ok(Answer::Voted(Vote::Abort(_), Some(_)))));
+    assert!(matches!(vote(45, 3), Ok(Answer::Voted(Vote::Abort(_), Some(_)))));
 }

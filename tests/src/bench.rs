@@ -236,7 +236,26 @@ fn wrong_bytes() -> Vec<Vec<u8>> {
     let body = tx(70, &[], &[(3, 7)]);
     let mut inputs = Vec::new();
     // TX: mark, r, w, stamp; VL behind the 22 bytes of the body: mark, kind, decision, count, a view of logs, box, answer
-    for (place, byte) in [(2, b'V'), (3, 0), (4, 9), (5, 9), (5, 0), (6, 0), (15, 2), (24, b'T'), (26, 2), (26, 1), (26, 3), (27, 3), (28, 0), (28, 27), (29, 26), (30, 0), (31, 26), (32, 0)] {
+    for (place, byte) in [
+        (2, b'V'),
+        (3, 0),
+        (4, 9),
+        (5, 9),
+        (5, 0),
+        (6, 0),
+        (15, 2),
+        (24, b'T'),
+        (26, 2),
+        (26, 1),
+        (26, 3),
+        (27, 3),
+        (28, 0),
+        (28, 27),
+        (29, 26),
+        (30, 0),
+        (31, 26),
+        (32, 0),
+    ] {
         for (mark, kind) in [(b"LG", Kind::Votes), (b"DC", Kind::Votes), (b"LG", Kind::Logs), (b"DC", Kind::Logs)] {
             let mut message = with_view(mark, &body, kind, Decision::Commit, 0x0102, &[(0, Decision::Commit)]);
             message.get_mut(place).into_iter().for_each(|at| *at = byte);

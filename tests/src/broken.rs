@@ -5,7 +5,9 @@ use crate::cluster::{self, Counts, Plan};
 use crate::compare::{first_difference, first_difference_in_ballots, first_difference_in_tally};
 use crate::engine::Entrance;
 use crate::member::{Engine, Member, Model};
-use crate::model::{self, row_at, Answer, Decision, Election, ElectionReply, ElectionSheet, Holding, Reply, Rule, Rules, Settings, Sheet, ViewSheet, Vote, PAPER};
+use crate::model::{
+    self, row_at, Answer, Decision, Election, ElectionReply, ElectionSheet, Holding, Reply, Rule, Rules, Settings, Sheet, ViewSheet, Vote, PAPER,
+};
 use crate::order;
 use crate::records;
 use stobbarel::layout::{BODY_AT, HEAD, REASON_AT, ROW, VOTE_AT};
@@ -202,7 +204,8 @@ fn recorded(what: &str, clerk: &dyn records::Clerk, seed: u64, wrong: bool) -> b
 fn only_with_the_rule(event: &str, what: &str, broken: Rules, search: Search) -> bool {
     let times = |one: &mut dyn Member, rules: Rules| {
         let mut counts = Counts::new();
-        let held = (0..HELD).all(|number| cluster::run(one, Plan { seed: search.seed + number, rules, too_many: 0, slips: true, told: false }, &mut counts).is_ok());
+        let held =
+            (0..HELD).all(|number| cluster::run(one, Plan { seed: search.seed + number, rules, too_many: 0, slips: true, told: false }, &mut counts).is_ok());
         (held, counts.times(event))
     };
     let (ours, theirs) = (times(&mut Engine, PAPER), times(&mut Model(broken), broken));
@@ -347,13 +350,15 @@ impl Member for Bad {
             Bad::ListsThemAll => {
                 let last = made.answers.last().map_or(0, |one| one.0 + 1);
                 let others = (last..32).filter(|number| (sheet.commits | sheet.aborts) >> number & 1 != 0);
-                made.answers.extend(others.map(|number| (number, if sheet.commits >> number & 1 != 0 { Decision::Commit } else { Decision::Abort }, sheet.view)));
+                made.answers
+                    .extend(others.map(|number| (number, if sheet.commits >> number & 1 != 0 { Decision::Commit } else { Decision::Abort }, sheet.view)));
             }
             Bad::LeadsToCommit if u64::from(sheet.commits.count_ones()) > 2 * f => {
                 let aborts = sheet.commits.count_ones() as usize;
                 let named = |number: &u8| sheet.commits >> number & 1 != 0;
                 let boxes = (0..32).filter(named).chain((0..32).filter(|number| sheet.aborts >> number & 1 != 0)).take(made.answers.len());
-                made.answers = boxes.enumerate().map(|(place, number)| (number, if place < aborts { Decision::Commit } else { Decision::Abort }, sheet.view)).collect();
+                made.answers =
+                    boxes.enumerate().map(|(place, number)| (number, if place < aborts { Decision::Commit } else { Decision::Abort }, sheet.view)).collect();
                 made.answers.sort_unstable();
                 made.decision = Decision::Commit;
             }
@@ -375,8 +380,8 @@ impl Member for Bad {
         match self {
             Bad::HoldsTheLast => {
                 let held = own()?;
-                let places = (0..table[0].into()).filter(|place| table[row_at(*place) + BODY_AT + 4..][..8] == stamp.to_le_bytes());
-                let Some(last) = places.last() else { return Ok(held) };
+                let mut places = (0..table[0].into()).filter(|place| table[row_at(*place) + BODY_AT + 4..][..8] == stamp.to_le_bytes());
+                let Some(last) = places.next_back() else { return Ok(held) };
                 let alone = [&[1], &table[row_at(last)..row_at(last + 1)]].concat();
                 Ok(model::held(&alone, 1, stamp)?.map(|held| Holding { at: row_at(last) + BODY_AT, ..held }))
             }
@@ -395,7 +400,13 @@ impl Bad {
         let (kind, decision, logging) = (message[list + 2], message[list + 3], message.starts_with(b"LG"));
         let row = PAPER.row(f);
         let (logged, proof) = if decision == 1 { (row[0], row[2]) } else { (row[1], row[3]) };
-        let needed = if logging { logged } else if kind == 1 { proof } else { row[4] };
+        let needed = if logging {
+            logged
+        } else if kind == 1 {
+            proof
+        } else {
+            row[4]
+        };
         let counted = needed - usize::from(lacking);
         Answer::TooFew(match self {
             Bad::LacksTheProof if logging => (proof - counted) as u8,

@@ -392,7 +392,28 @@ impl<'a> Cluster<'a> {
         judge.slips = plan.slips;
         let (most_bodies, quiet) = (random.between(2, 9) as usize, random.chance(30));
         let window = random.one_of(&[3, 12, 100]);
-        Cluster { one, counts, plan, random, f, liars, boxes, judge, seen: Vec::new(), gateways: Vec::new(), leaders: BTreeMap::new(), current: BTreeMap::new(), letters: Vec::new(), script: VecDeque::new(), keys, base, spread, most_bodies, quiet, window }
+        Cluster {
+            one,
+            counts,
+            plan,
+            random,
+            f,
+            liars,
+            boxes,
+            judge,
+            seen: Vec::new(),
+            gateways: Vec::new(),
+            leaders: BTreeMap::new(),
+            current: BTreeMap::new(),
+            letters: Vec::new(),
+            script: VecDeque::new(),
+            keys,
+            base,
+            spread,
+            most_bodies,
+            quiet,
+            window,
+        }
     }
 
     fn lies(&self, number: usize) -> bool {
@@ -676,7 +697,8 @@ impl Cluster<'_> {
 
     /// Learnt through an RD, from what other gateways wrote, or guessed.
     fn version_to_read(&mut self, key: u16, stamp: u64) -> Result<u64, String> {
-        let mut writers: Vec<u64> = self.judge.bodies.iter().filter(|body| body.tx.writes.iter().any(|write| write.0 == key)).map(|body| body.tx.stamp).collect();
+        let mut writers: Vec<u64> =
+            self.judge.bodies.iter().filter(|body| body.tx.writes.iter().any(|write| write.0 == key)).map(|body| body.tx.stamp).collect();
         writers.push(0);
         let newest = writers.iter().copied().filter(|written| *written < stamp).max().unwrap_or(0);
         let latest = writers.iter().copied().max().unwrap_or(0);
@@ -1002,7 +1024,14 @@ impl Cluster<'_> {
             }
         };
         let tx = &self.judge.bodies[body].tx;
-        println!("  box {}: {} body {body} (stamp {}, reads {:?}, writes {:?}){list}: {answer:?}", letter.to, String::from_utf8_lossy(&letter.mark), tx.stamp, tx.reads, tx.writes);
+        println!(
+            "  box {}: {} body {body} (stamp {}, reads {:?}, writes {:?}){list}: {answer:?}",
+            letter.to,
+            String::from_utf8_lossy(&letter.mark),
+            tx.stamp,
+            tx.reads,
+            tx.writes
+        );
     }
 
     /// A liar says either, to each gateway what it likes, whatever it was asked.

@@ -153,7 +153,7 @@ fn told(message: &[u8], refused: u8) -> Option<&'static str> {
         (b"LD", b"EL") => (true, 7, 4),
         _ => return None,
     };
-    let short = refused == 1 && listed.get(head - 1).map_or(true, |count| listed.len() < head + each * usize::from(*count));
+    let short = refused == 1 && listed.get(head - 1).is_none_or(|count| listed.len() < head + each * usize::from(*count));
     match refused {
         1 if short => Some(CIRCUMSTANCES[15 + usize::from(election)]),
         3 | 4 => Some(CIRCUMSTANCES[17]),
@@ -362,7 +362,11 @@ pub fn first_difference(one: &mut dyn Member, count: u64, seed: u64) -> Option<(
         let agreed = copies.call(one, call, &mut Vec::new()).1;
         let agreed = agreed.and_then(|()| Asked::after(&copies.got, capacity, message).compare(one, &mut Vec::new()));
         first = agreed.err().map(|how| (done, how));
-        if first.is_none() { Then::GoOn } else { Then::Stop }
+        if first.is_none() {
+            Then::GoOn
+        } else {
+            Then::Stop
+        }
     });
     first
 }
@@ -395,7 +399,8 @@ fn for_each_slip(random: &mut Random, count: u64, mut act: impl FnMut(Slip)) {
                 _ => lent = Sheet { kind: 1, commits: random.next() as u32, aborts: random.next() as u32 },
             }
         }
-        let number = if random.chance(96) { random.below(5 * f + 1) } else { random.one_of(&[5 * f + 1, 5 * f + 2, 26, 31, 32, 64, 255, 256, 1 << 32, u64::MAX]) };
+        let number =
+            if random.chance(96) { random.below(5 * f + 1) } else { random.one_of(&[5 * f + 1, 5 * f + 2, 26, 31, 32, 64, 255, 256, 1 << 32, u64::MAX]) };
         let answer = if random.chance(96) { 2 - u64::from(random.chance(lean)) } else { random.one_of(&[0, 3, 255, 256 + 1, (1 << 32) + 2, u64::MAX]) };
         let given_f = if random.chance(99) { f } else { random.one_of(&[0, 6, 255, 257, u64::MAX]) };
         act(Slip { lent, f: given_f, number, answer });
@@ -446,7 +451,10 @@ fn told_by_a_box(one: &mut dyn Member, f: u64, sheet: &Sheet, reply: Reply) -> R
         let message = with_view(mark, &body, kind, decision, view, &answers);
         let given = one.call(Entrance::Receive, &mut vec![0; table_len(1)], &mut vec![0; 512], &settings, &message)?;
         if given != due {
-            return Err(format!("f {f}, {sheet:?} says {reply:?}, and of its list in a {} for {decision:?} the box says {given:?}", String::from_utf8_lossy(mark)));
+            return Err(format!(
+                "f {f}, {sheet:?} says {reply:?}, and of its list in a {} for {decision:?} the box says {given:?}",
+                String::from_utf8_lossy(mark)
+            ));
         }
         told[usize::from(*lacking > 0)] += 1;
     }
@@ -495,7 +503,8 @@ fn for_each_ballot(random: &mut Random, count: u64, mut act: impl FnMut(Ballot))
                 _ => lent_views.told |= 1 << random.below(32),
             }
         }
-        let number = if random.chance(96) { random.below(5 * f + 1) } else { random.one_of(&[5 * f + 1, 5 * f + 2, 26, 31, 32, 64, 255, 256, 1 << 32, u64::MAX]) };
+        let number =
+            if random.chance(96) { random.below(5 * f + 1) } else { random.one_of(&[5 * f + 1, 5 * f + 2, 26, 31, 32, 64, 255, 256, 1 << 32, u64::MAX]) };
         let answer = if random.chance(96) { random.between(1, 2) } else { random.one_of(&[0, 3, 255, 256 + 1, (1 << 32) + 2, u64::MAX]) };
         let own = u64::from(sheet.view);
         let view = if random.chance(80) { own } else { random.one_of(&[own ^ 1, own + 1, own + 65536, 0, 255, 256, 65535, 65536, u64::MAX]) };
@@ -531,7 +540,9 @@ fn ballot(one: &mut dyn Member, ballot: Ballot) -> (ElectionSheet, [String; 4], 
         named("told", told_due.as_ref().err().copied()),
     ];
     let same = reply == Ok(reply_due) && got == due && made == made_due && tell == tell_due && told == told_due && got_views == due_views;
-    let how = || format!("{ballot:?}: box {reply:?} {got:?} {made:?} {tell:?} {told:?} {got_views:?}, model {reply_due:?} {due:?} {made_due:?} {tell_due:?} {told_due:?} {due_views:?}");
+    let how = || {
+        format!("{ballot:?}: box {reply:?} {got:?} {made:?} {tell:?} {told:?} {got_views:?}, model {reply_due:?} {due:?} {made_due:?} {tell_due:?} {told_due:?} {due_views:?}")
+    };
     (due, names, if same { Ok(()) } else { Err(how()) })
 }
 
@@ -587,7 +598,8 @@ pub fn first_difference_in_ballots(one: &mut dyn Member, count: u64, seed: u64) 
 }
 
 /// What becomes of a list made from a sheet.
-const SHEET_AND_BOX: [&str; 2] = ["the list of a sheet that has reached the threshold, taken", "the list of a sheet that has not, refused for what the sheet lacks"];
+const SHEET_AND_BOX: [&str; 2] =
+    ["the list of a sheet that has reached the threshold, taken", "the list of a sheet that has not, refused for what the sheet lacks"];
 
 /// What one PR may visit with so many entries held.
 fn bound(held: u64) -> u64 {

@@ -1,36 +1,15 @@
 //! The engine's C functions, and one call of them on copies between guards.
 
-use crate::model::{Answer, Decision, Draft, Election, ElectionReply, ElectionSheet, Holding, ListDraft, Record, Reply, Settings, Sheet, ViewSheet, ViewsDraft, Vote, MARKS};
+use crate::model::{
+    Answer, Decision, Draft, Election, ElectionReply, ElectionSheet, Holding, ListDraft, Record, Reply, Settings, Sheet, ViewSheet, ViewsDraft, Vote, MARKS,
+};
 
-#[allow(improper_ctypes)]
-extern "C" {
-    fn stobbarel_receive(table: *mut u8, table_len: usize, marks: *mut u64, f: u64, capacity: u64, clock: u64, delta: u64, message: *const u8, message_len: usize, out: *mut u64);
-    fn stobbarel_due(mark: u64, table: *mut u8, table_len: usize, marks: *mut u64, f: u64, capacity: u64, clock: u64, delta: u64, message: *const u8, message_len: usize, out: *mut u64);
-    fn stobbarel_held(table: *const u8, table_len: usize, capacity: u64, stamp: u64, out: *mut u64) -> u8;
-    fn stobbarel_reading(f: u64, message: *const u8, message_len: usize) -> u8;
-    fn stobbarel_part(f: u64, message: *const u8, message_len: usize) -> usize;
-    fn stobbarel_take(kind: u8, commits: *mut u32, aborts: *mut u32, f: u64, number: u64, answer: u64, reply: *mut u8);
-    fn stobbarel_reading_tx(bytes: *const u8, bytes_len: usize) -> u8;
-    fn stobbarel_reading_vl(f: u64, bytes: *const u8, bytes_len: usize) -> u8;
-    fn stobbarel_reading_vs(f: u64, bytes: *const u8, bytes_len: usize) -> u8;
-    fn stobbarel_reading_el(f: u64, bytes: *const u8, bytes_len: usize) -> u8;
-    fn stobbarel_views(f: u64, message: *const u8, message_len: usize, head: *mut u64, numbers: *mut u8, answers: *mut u8, views: *mut u16) -> u8;
-    fn stobbarel_fields(f: u64, message: *const u8, message_len: usize, head: *mut u64, reads: *mut u16, versions: *mut u64, writes: *mut u16, values: *mut u64, numbers: *mut u8, answers: *mut u8) -> u8;
-    fn stobbarel_write_tx(stamp: u64, r: usize, w: usize, reads: *const u16, versions: *const u64, writes: *const u16, values: *const u64, out: *mut u8, out_len: usize, length: *mut usize) -> u8;
-    fn stobbarel_write_vl(f: u64, kind: u8, decision: u8, view: u16, count: usize, numbers: *const u8, answers: *const u8, out: *mut u8, out_len: usize, length: *mut usize) -> u8;
-    fn stobbarel_write_pr(stamp: u64, r: usize, w: usize, reads: *const u16, versions: *const u64, writes: *const u16, values: *const u64, out: *mut u8, out_len: usize, length: *mut usize) -> u8;
-    fn stobbarel_write_listed(mark: u64, f: u64, stamp: u64, r: usize, w: usize, reads: *const u16, versions: *const u64, writes: *const u16, values: *const u64, kind: u8, decision: u8, view: u16, count: usize, numbers: *const u8, answers: *const u8, out: *mut u8, out_len: usize, length: *mut usize) -> u8;
-    fn stobbarel_write_vs(f: u64, count: usize, numbers: *const u8, views: *const u16, out: *mut u8, out_len: usize, length: *mut usize) -> u8;
-    fn stobbarel_write_el(f: u64, leader: u8, decision: u8, view: u16, count: usize, numbers: *const u8, answers: *const u8, views: *const u16, out: *mut u8, out_len: usize, length: *mut usize) -> u8;
-    fn stobbarel_write_iv(f: u64, stamp: u64, r: usize, w: usize, reads: *const u16, versions: *const u64, writes: *const u16, values: *const u64, count: usize, numbers: *const u8, views: *const u16, out: *mut u8, out_len: usize, length: *mut usize) -> u8;
-    fn stobbarel_write_ld(f: u64, stamp: u64, r: usize, w: usize, reads: *const u16, versions: *const u64, writes: *const u16, values: *const u64, leader: u8, decision: u8, view: u16, count: usize, numbers: *const u8, answers: *const u8, views: *const u16, out: *mut u8, out_len: usize, length: *mut usize) -> u8;
-    fn stobbarel_write_rd(key: u16, stamp: u64, out: *mut u8, out_len: usize, length: *mut usize) -> u8;
-    fn stobbarel_thresholds(f: u64, out: *mut u64) -> u8;
-    fn stobbarel_elect(view: u16, commits: *mut u32, aborts: *mut u32, f: u64, number: u64, answer: u64, answer_view: u64, reply: *mut u8);
-    fn stobbarel_election(view: u16, commits: u32, aborts: u32, f: u64, stamp: u64, head: *mut u64, numbers: *mut u8, answers: *mut u8, views: *mut u16) -> u8;
-    fn stobbarel_tell(told: *mut u32, views: *mut u16, f: u64, number: u64, view: u64) -> u8;
-    fn stobbarel_told(told: u32, views: *const u16, f: u64, count: *mut usize, numbers: *mut u8, listed: *mut u16) -> u8;
-}
+use stobbarel_sys::{
+    stobbarel_due, stobbarel_elect, stobbarel_election, stobbarel_fields, stobbarel_held, stobbarel_part, stobbarel_reading, stobbarel_reading_el,
+    stobbarel_reading_tx, stobbarel_reading_vl, stobbarel_reading_vs, stobbarel_receive, stobbarel_take, stobbarel_tell, stobbarel_thresholds, stobbarel_told,
+    stobbarel_views, stobbarel_write_el, stobbarel_write_iv, stobbarel_write_ld, stobbarel_write_listed, stobbarel_write_pr, stobbarel_write_rd,
+    stobbarel_write_tx, stobbarel_write_vl, stobbarel_write_vs,
+};
 
 /// By which function a message comes.
 #[derive(Clone, Copy, Debug, PartialEq, Eq)]
@@ -116,7 +95,7 @@ pub fn answer_of(out: [u64; 5]) -> Option<Answer> {
 const GUARD: usize = 64;
 
 /// One call. Table and marks become what the engine left; a byte written outside them is an error.
-pub fn call(entrance: Entrance, table: &mut Vec<u8>, marks: &mut Vec<u64>, s: &Settings, message: &[u8]) -> Result<[u64; 5], String> {
+pub fn call(entrance: Entrance, table: &mut [u8], marks: &mut [u64], s: &Settings, message: &[u8]) -> Result<[u64; 5], String> {
     assert_eq!(marks.len(), 512);
     let mut room = vec![0xa5u8; table.len() + 2 * GUARD];
     room[GUARD..GUARD + table.len()].copy_from_slice(table);
@@ -272,7 +251,7 @@ fn drafts(record: &Record) -> (Draft, ListDraft, ViewsDraft) {
 }
 
 /// One writer on a copy of the buffer between guards, which becomes what the engine left: the number and the length.
-pub fn write(record: &Record, f: u64, out: &mut Vec<u8>) -> Result<(u8, usize), String> {
+pub fn write(record: &Record, f: u64, out: &mut [u8]) -> Result<(u8, usize), String> {
     let mut room = vec![0xa5u8; out.len() + 2 * GUARD];
     room[GUARD..GUARD + out.len()].copy_from_slice(out);
     let mut length = usize::MAX;
@@ -292,7 +271,9 @@ pub fn write(record: &Record, f: u64, out: &mut Vec<u8>) -> Result<(u8, usize), 
             Record::Tx(_) => stobbarel_write_tx(s, r, w, k, v, l, u, o, n, &mut length),
             Record::Vl(_) => stobbarel_write_vl(f, list.kind, list.decision, list.view, list.count, b, a, o, n, &mut length),
             Record::Pr(_) => stobbarel_write_pr(s, r, w, k, v, l, u, o, n, &mut length),
-            Record::Listed(mark, ..) => stobbarel_write_listed(*mark, f, s, r, w, k, v, l, u, list.kind, list.decision, list.view, list.count, b, a, o, n, &mut length),
+            Record::Listed(mark, ..) => {
+                stobbarel_write_listed(*mark, f, s, r, w, k, v, l, u, list.kind, list.decision, list.view, list.count, b, a, o, n, &mut length)
+            }
             Record::Rd { key, stamp } => stobbarel_write_rd(*key, *stamp, o, n, &mut length),
             Record::Vs(_) => stobbarel_write_vs(f, count, c, g, o, n, &mut length),
             Record::El(_) => stobbarel_write_el(f, leader, decision, view, count, c, e, g, o, n, &mut length),
@@ -336,7 +317,8 @@ pub type Views = (u8, u64, ViewsDraft);
 /// A message's views, over what stood there before; 255 where a number behind the fifth was written.
 pub fn views(message: &[u8], f: u64) -> Views {
     let (mut head, mut numbers, mut answers, mut views) = ([99; 6], [99; 26], [99; 26], [99; 26]);
-    let number = unsafe { stobbarel_views(f, message.as_ptr(), message.len(), head.as_mut_ptr(), numbers.as_mut_ptr(), answers.as_mut_ptr(), views.as_mut_ptr()) };
+    let number =
+        unsafe { stobbarel_views(f, message.as_ptr(), message.len(), head.as_mut_ptr(), numbers.as_mut_ptr(), answers.as_mut_ptr(), views.as_mut_ptr()) };
     let [mark, leader, decision, view, count, behind] = head;
     let told = ViewsDraft {
         leader: leader as u8,
@@ -357,7 +339,18 @@ pub fn fields(message: &[u8], f: u64) -> Fields {
     let (mut head, mut reads, mut versions, mut writes, mut values) = ([99; 10], [99; 8], [99; 8], [99; 8], [99; 8]);
     let (mut numbers, mut answers) = ([99; 26], [99; 26]);
     let number = unsafe {
-        stobbarel_fields(f, message.as_ptr(), message.len(), head.as_mut_ptr(), reads.as_mut_ptr(), versions.as_mut_ptr(), writes.as_mut_ptr(), values.as_mut_ptr(), numbers.as_mut_ptr(), answers.as_mut_ptr())
+        stobbarel_fields(
+            f,
+            message.as_ptr(),
+            message.len(),
+            head.as_mut_ptr(),
+            reads.as_mut_ptr(),
+            versions.as_mut_ptr(),
+            writes.as_mut_ptr(),
+            values.as_mut_ptr(),
+            numbers.as_mut_ptr(),
+            answers.as_mut_ptr(),
+        )
     };
     let draft = Draft {
         stamp: head[1],

@@ -63,7 +63,9 @@ fn worlds(first: u64, count: u64, without: Option<Habit>) -> Vec<u64> {
         ended.met.into_iter().for_each(|(what, times)| *met.entry(what).or_default() += times);
     }
     let [near, far] = longest;
-    println!("{count} worlds from seed {first}: the longest took {near} ticks from the calm on, {far} where boxes are far from each other; at most {falls} tries");
+    println!(
+        "{count} worlds from seed {first}: the longest took {near} ticks from the calm on, {far} where boxes are far from each other; at most {falls} tries"
+    );
     for what in MET {
         let times = met.get(what).copied().unwrap_or(0);
         println!("{times:9}  {what}{}", if times == 0 { "  DID NOT OCCUR" } else { "" });

@@ -67,7 +67,11 @@ impl<'a> Asked<'a> {
             return Ok(());
         }
         let Asked { table, capacity, stamp } = self;
-        Err(format!("held under {stamp}, capacity {capacity}, a table of {} bytes with {:?} entries\n  box   {given:?}\n  model {due:?}", table.len(), table.first()))
+        Err(format!(
+            "held under {stamp}, capacity {capacity}, a table of {} bytes with {:?} entries\n  box   {given:?}\n  model {due:?}",
+            table.len(),
+            table.first()
+        ))
     }
 
     fn names(&self, due: &Result<Option<Holding>, u8>, met: &mut Vec<&'static str>) {

@@ -28,8 +28,9 @@ use crate::judge::{Judge, Word};
 use crate::member::{Engine, Member, Model};
 use crate::messages::{iv, ld, pr, rd, transaction, with_list, with_view};
 use crate::model::{transaction_bytes, Answer, Decision, ElectionReply, ElectionSheet, Kind, Reply, Rule, Rules, Settings, Sheet, Transaction, Vote, PAPER};
+use crate::passages::version;
 use stobbarel::layout::table_len;
-use stobbarel::{Passage, Report, Seen, Stamp, Values, Version, LONGEST};
+use stobbarel::{Passage, Report, Seen, Stamp, Values, LONGEST};
 use Decision::{Abort, Commit};
 use Kind::{Logs, Votes};
 
@@ -282,7 +283,7 @@ fn look(line: &mut Line, number: usize, stamp: u64) -> Seen {
     let asks = Passage(5).asks(Stamp(stamp)).expect("a passage of the line");
     let found = asks.messages().map(|message| match line.send(number, &message) {
         Answer::Found { committed: (stamp, value), undecided: (below, live) } => {
-            stobbarel::Answer::Found(Version { stamp: Stamp(stamp), value }, Version { stamp: Stamp(below), value: live })
+            Ok(stobbarel::Answer::Found { committed: version(stamp, value), undecided: version(below, live) })
         }
         other => panic!("an RD was answered {other:?}"),
     });
@@ -295,9 +296,7 @@ fn views(line: &mut Line, stamp: u64) -> Vec<Report> {
 }
 
 fn bytes_of(tx: &stobbarel::Transaction) -> Vec<u8> {
-    let mut buffer = [0; LONGEST];
-    let length = stobbarel::write_tx(tx, &mut buffer).expect("a transaction in order");
-    buffer[..length].to_vec()
+    stobbarel::write_tx(tx, &mut [0; LONGEST]).expect("a transaction in order").to_vec()
 }
 
 /// Decided with the liar beside it: it tells the gateway abort, twice, and it is one box of six.

@@ -119,22 +119,38 @@ impl Member for Beside {
     /// 255 where they differ.
     fn election(&mut self, sheet: &ElectionSheet, f: u64, stamp: u64) -> Result<Election, u8> {
         let (given, due) = (engine::election(sheet, f, stamp), model::election(sheet, f, stamp));
-        if given == due { given } else { Err(255) }
+        if given == due {
+            given
+        } else {
+            Err(255)
+        }
     }
 
     fn tell(&mut self, sheet: &mut ViewSheet, f: u64, number: u64, view: u64) -> Result<(), u8> {
         let mut due_sheet = *sheet;
         let (given, due) = (Engine.tell(sheet, f, number, view), model::tell(&mut due_sheet, f, number, view));
-        if given == due && *sheet == due_sheet { given } else { Err(255) }
+        if given == due && *sheet == due_sheet {
+            given
+        } else {
+            Err(255)
+        }
     }
 
     fn told(&mut self, sheet: &ViewSheet, f: u64) -> Result<Vec<(u8, u16)>, u8> {
         let (given, due) = (engine::told(sheet, f), model::told(sheet, f));
-        if given == due { given } else { Err(255) }
+        if given == due {
+            given
+        } else {
+            Err(255)
+        }
     }
 
     fn held(&mut self, table: &[u8], capacity: u64, stamp: u64) -> Result<Option<Holding>, u8> {
         let (given, due) = (engine::held(table, capacity, stamp), model::held(table, capacity, stamp));
-        if given == due { given } else { Err(255) }
+        if given == due {
+            given
+        } else {
+            Err(255)
+        }
     }
 }

@@ -88,7 +88,11 @@ impl Run {
         let most = if random.chance(15) { 8 } else { 3 };
         let mut reads = Vec::new();
         for key in self.some_keys(random, most) {
-            let writers: Vec<u64> = held.iter().filter(|entry| entry.body.stamp < stamp && entry.body.writes.iter().any(|(written, _)| *written == key)).map(|entry| entry.body.stamp).collect();
+            let writers: Vec<u64> = held
+                .iter()
+                .filter(|entry| entry.body.stamp < stamp && entry.body.writes.iter().any(|(written, _)| *written == key))
+                .map(|entry| entry.body.stamp)
+                .collect();
             let newest = held.iter().filter(|entry| entry.live() && writers.contains(&entry.body.stamp)).map(|entry| entry.body.stamp).max();
             let version = match random.below(20) {
                 0..=11 => newest.unwrap_or(0),
@@ -218,7 +222,11 @@ impl Run {
 
     /// f as lists have it: in order, be the settings not.
     fn f(&self) -> u64 {
-        if (1..=5).contains(&self.settings.f) { self.settings.f } else { 1 }
+        if (1..=5).contains(&self.settings.f) {
+            self.settings.f
+        } else {
+            1
+        }
     }
 
     /// A VS for a box in this view: about f + 1, or about 3f + 1, are at or above one beside it, the others below.
@@ -380,11 +388,8 @@ impl Run {
     /// A DC, by what the table holds and what was sent before; now and then damaged.
     pub fn decision(&mut self, random: &mut Random) -> Vec<u8> {
         let held = self.held();
-        let body = if !held.is_empty() && random.chance(30) {
-            held[random.below(held.len() as u64) as usize].body.clone()
-        } else {
-            self.known_or_new(random, 50)
-        };
+        let body =
+            if !held.is_empty() && random.chance(30) { held[random.below(held.len() as u64) as usize].body.clone() } else { self.known_or_new(random, 50) };
         let mut message = [b"DC".to_vec(), transaction_bytes(&body), self.list(random, false)].concat();
         if random.chance(self.damage / 3) {
             self.spoil(random, &mut message);

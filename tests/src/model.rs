@@ -18,13 +18,7 @@ use std::cmp::Ordering;
 use stobbarel::layout::{table_len, BODY_AT, DECIDED_AT, HEAD, LOG_AT, LOG_VIEW_AT, REASON_AT, ROW, VIEW_AT, VOTE_AT};
 
 /// For each f from 1 on: commit list, abort list, commit proof, abort proof, proof from logs.
-pub const THRESHOLDS: [[usize; 5]; 5] = [
-    [4, 2, 6, 4, 5],
-    [7, 3, 11, 7, 9],
-    [10, 4, 16, 10, 13],
-    [13, 5, 21, 13, 17],
-    [16, 6, 26, 16, 21],
-];
+pub const THRESHOLDS: [[usize; 5]; 5] = [[4, 2, 6, 4, 5], [7, 3, 11, 7, 9], [10, 4, 16, 10, 13], [13, 5, 21, 13, 17], [16, 6, 26, 16, 21]];
 
 /// A rule that can be broken, and what a box does then.
 #[derive(Clone, Copy, Debug, PartialEq, Eq)]
@@ -299,7 +293,10 @@ pub enum Message {
     Prepare(Transaction),
     Log(Transaction, List),
     Decide(Transaction, List),
-    Read { key: u16, stamp: u64 },
+    Read {
+        key: u16,
+        stamp: u64,
+    },
     /// Boxes with the views that they told.
     Invoke(Transaction, Vec<(u8, u16)>),
     Lead(Transaction, Election),
@@ -334,9 +331,16 @@ pub enum Answer {
     /// With the view that it was logged in.
     Logged(Decision, u16),
     /// An election answer: the logged decision, the current view, and the box that leads it.
-    Elected { decision: Decision, view: u16, leader: u8 },
+    Elected {
+        decision: Decision,
+        view: u16,
+        leader: u8,
+    },
     Done,
-    Found { committed: (u64, u64), undecided: (u64, u64) },
+    Found {
+        committed: (u64, u64),
+        undecided: (u64, u64),
+    },
     /// 11, with how many counted answers are lacking.
     TooFew(u8),
     /// Any other refusal, by its number.
@@ -1192,7 +1196,7 @@ impl Store {
                     Ordering::Equal => !self.rules.hold(Rule::FirstAmongEquals),
                     Ordering::Greater => true,
                 };
-                if best.map_or(true, higher) {
+                if best.is_none_or(higher) {
                     best = Some((entry.body.stamp, *value));
                 }
             }
@@ -1275,7 +1279,10 @@ pub enum Record {
     Pr(Draft),
     /// An LG or a DC, by the number of the mark; there is a writer for any number.
     Listed(u64, Draft, ListDraft),
-    Rd { key: u16, stamp: u64 },
+    Rd {
+        key: u16,
+        stamp: u64,
+    },
     Vs(ViewsDraft),
     El(ViewsDraft),
     Iv(Draft, ViewsDraft),
@@ -1506,7 +1513,10 @@ pub fn fields_by(rules: Rules, message: &[u8], f: u64) -> Result<Record, u8> {
         }
         Message::Lead(tx, led) => {
             let ballots: Vec<(u8, u8, u16)> = led.answers.iter().map(|(number, answer, view)| (*number, code(*answer), *view)).collect();
-            Record::Ld(draft(&tx), ViewsDraft { leader: led.leader, decision: code(led.decision), view: led.view, count: ballots.len(), ballots: front(&ballots) })
+            Record::Ld(
+                draft(&tx),
+                ViewsDraft { leader: led.leader, decision: code(led.decision), view: led.view, count: ballots.len(), ballots: front(&ballots) },
+            )
         }
     })
 }
@@ -1618,12 +1628,8 @@ fn entry_of(row: &[u8]) -> Option<Entry> {
         (3, 0) => Vote::Waiting,
         _ => return None,
     };
-    let body = Transaction {
-        mark: [tx[0], tx[1]],
-        stamp: little(&tx[4..12]),
-        reads: pairs(&tx[12..12 + 10 * r]),
-        writes: pairs(&tx[12 + 10 * r..12 + 10 * (r + w)]),
-    };
+    let body =
+        Transaction { mark: [tx[0], tx[1]], stamp: little(&tx[4..12]), reads: pairs(&tx[12..12 + 10 * r]), writes: pairs(&tx[12 + 10 * r..12 + 10 * (r + w)]) };
     let two = |at: usize| little(&row[at..at + 2]) as u16;
     // a view beside no log is no part of the entry
     let log = settled(row[LOG_AT])?.map(|decision| (decision, two(LOG_VIEW_AT)));
@@ -1677,7 +1683,9 @@ pub fn call(table: &mut [u8], marks: &mut Vec<u64>, settings: &Settings, message
 }
 
 /// The same with rules that may be broken.
-pub fn call_by(rules: Rules, table: &mut [u8], marks: &mut Vec<u64>, settings: &Settings, message: &[u8], due: &[&[u8; 2]], met: &mut Vec<&'static str>) -> Answer {
+pub fn call_by(
+    rules: Rules, table: &mut [u8], marks: &mut Vec<u64>, settings: &Settings, message: &[u8], due: &[&[u8; 2]], met: &mut Vec<&'static str>,
+) -> Answer {
     if !settings.in_order() {
         return Answer::Refused(GROUP);
     }

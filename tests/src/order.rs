@@ -213,7 +213,11 @@ fn meets(pair: &Pair, made: &Made, counts: &mut Counts) {
 /// The two tables hold the same entries, of one stamp in one order, and the marks are equal.
 fn alike(left: &[Kept; 2]) -> Result<(), String> {
     let same = left[0] == left[1] || left[0].by_stamp().is_some() && left[0].by_stamp() == left[1].by_stamp() && left[0].marks == left[1].marks;
-    if same { Ok(()) } else { Err(format!("other entries are held, or other marks:\n  {}\n  {}", hex(&left[0].table), hex(&left[1].table))) }
+    if same {
+        Ok(())
+    } else {
+        Err(format!("other entries are held, or other marks:\n  {}\n  {}", hex(&left[0].table), hex(&left[1].table)))
+    }
 }
 
 /// So many calls of the mixture, each on both tables.

@@ -1,8 +1,8 @@
 //! The passage register against a model of its own: reports, corrections and entries of random looks, most of them nearly in order.
 
 use crate::random::Random;
-use stobbarel::{Answer, Key, Passage, Refusal, Report, Stamp, Transaction, Values, Version};
 use std::collections::BTreeMap;
+use stobbarel::{Answer, Key, Passage, Refusal, Report, Stamp, Transaction, Values, Version};
 
 /// What a dispatcher's program would do with four versions and four values, in the paper's words.
 struct Look {
@@ -10,6 +10,9 @@ struct Look {
     versions: [u64; 4],
     values: [u64; 4],
 }
+
+/// Keys read with their versions, keys written with their values.
+type Pairs = (Vec<(u16, u64)>, Vec<(u16, u64)>);
 
 fn judged([_, direction, count, hot]: [u64; 4]) -> Result<(), u8> {
     match () {
@@ -37,8 +40,7 @@ impl Look {
         Ok([train, direction, count, hot])
     }
 
-    /// Keys read with their versions, keys written with their values.
-    fn transaction(&self, stamp: u64, new: [u64; 4]) -> Result<(Vec<(u16, u64)>, Vec<(u16, u64)>), u8> {
+    fn transaction(&self, stamp: u64, new: [u64; 4]) -> Result<Pairs, u8> {
         match () {
             _ if stamp == 0 => Err(5),
             _ if self.versions.iter().any(|version| *version >= stamp) => Err(7),
@@ -49,19 +51,19 @@ impl Look {
         }
     }
 
-    fn correct_direction(&self, stamp: u64) -> Result<(Vec<(u16, u64)>, Vec<(u16, u64)>), u8> {
+    fn correct_direction(&self, stamp: u64) -> Result<Pairs, u8> {
         self.in_order()?;
         let [train, direction, count, hot] = self.values;
         self.transaction(stamp, [train, u64::from(direction == 0), count, hot])
     }
 
-    fn correct(&self, stamp: u64, new: [u64; 4]) -> Result<(Vec<(u16, u64)>, Vec<(u16, u64)>), u8> {
+    fn correct(&self, stamp: u64, new: [u64; 4]) -> Result<Pairs, u8> {
         self.in_order()?;
         judged(new)?;
         self.transaction(stamp, new)
     }
 
-    fn enter(&self, stamp: u64, new: [u64; 4]) -> Result<(Vec<(u16, u64)>, Vec<(u16, u64)>), u8> {
+    fn enter(&self, stamp: u64, new: [u64; 4]) -> Result<Pairs, u8> {
         judged(new)?;
         self.transaction(stamp, new)
     }
@@ -71,9 +73,14 @@ fn told<T, U>(answer: Result<T, Refusal>, of: impl Fn(T) -> U) -> Result<U, u8> 
     answer.map(of).map_err(Refusal::number)
 }
 
-fn made(tx: Transaction) -> (Vec<(u16, u64)>, Vec<(u16, u64)>) {
+fn made(tx: Transaction) -> Pairs {
     let reads = tx.reads.into_iter().map(|(Key(key), Stamp(version))| (key, version)).collect();
     (reads, tx.writes.into_iter().map(|(Key(key), value)| (key, value)).collect())
+}
+
+/// A version as an RD shows it, none by two zeros.
+pub fn version(stamp: u64, value: u64) -> Option<Version> {
+    ((stamp, value) != (0, 0)).then_some(Version { stamp: Stamp(stamp), value })
 }
 
 fn values(r: &mut Random) -> [u64; 4] {
@@ -98,8 +105,7 @@ pub fn check(count: u64, seed: u64) -> bool {
     for _ in 0..count {
         let model = look(r);
         let (stamp, new) = (if r.chance(95) { r.between(50, 90) } else { r.below(3) }, values(r));
-        let none = Version { stamp: Stamp(0), value: 0 };
-        let answers = [0, 1, 2, 3].map(|i| Answer::Found(Version { stamp: Stamp(model.versions[i]), value: model.values[i] }, none));
+        let answers = [0, 1, 2, 3].map(|i| Ok(Answer::Found { committed: version(model.versions[i], model.values[i]), undecided: None }));
         let seen = Passage(model.passage).asks(Stamp(1)).and_then(|asks| asks.seen(answers)).expect("a passage and four halves");
         let lent = Values { train: new[0], direction: new[1], axles: new[2], hot: new[3] };
         let report = told(seen.report(), |Report { train, direction, axles, hot }| [train, direction, axles, hot]);
@@ -109,7 +115,10 @@ pub fn check(count: u64, seed: u64) -> bool {
         for number in [report.as_ref().err(), turned.as_ref().err(), corrected.as_ref().err(), entered.as_ref().err()].into_iter().flatten() {
             *seen_numbers.entry(*number).or_default() += 1;
         }
-        let same = report == model.report() && turned == model.correct_direction(stamp) && corrected == model.correct(stamp, new) && entered == model.enter(stamp, new);
+        let same = report == model.report()
+            && turned == model.correct_direction(stamp)
+            && corrected == model.correct(stamp, new)
+            && entered == model.enter(stamp, new);
         disagreements += u64::from(!same);
     }
     let above = (128..140).chain([1 << 14, 1 << 62, u64::MAX]).all(|passage| Passage(passage).asks(Stamp(1)) == Err(Refusal::Passage));

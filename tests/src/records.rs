@@ -435,7 +435,9 @@ fn compare_written(outcome: &mut Outcome, clerk: &dyn Clerk, random: &mut Random
 /// Where the list of these bytes begins, as far as their counts can be believed.
 fn list_in(bytes: &[u8]) -> usize {
     match bytes {
-        [b'L', b'G', ..] | [b'D', b'C', ..] | [b'I', b'V', ..] | [b'L', b'D', ..] if bytes.len() > 5 => 14 + 10 * (usize::from(bytes[4]) + usize::from(bytes[5])),
+        [b'L', b'G', ..] | [b'D', b'C', ..] | [b'I', b'V', ..] | [b'L', b'D', ..] if bytes.len() > 5 => {
+            14 + 10 * (usize::from(bytes[4]) + usize::from(bytes[5]))
+        }
         _ => 0,
     }
 }

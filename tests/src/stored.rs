@@ -48,7 +48,7 @@ fn cases(text: &str) -> Result<Vec<Case>, String> {
         }
         let words = line.split('#').next().unwrap_or("");
         // a record goes on over lines until what it prints
-        if !words.trim().is_empty() && records.last().map_or(true, |record| record.due.is_some()) {
+        if !words.trim().is_empty() && records.last().is_none_or(|record| record.due.is_some()) {
             records.push(Record { bytes: Vec::new(), due: None });
         }
         for word in words.split_whitespace() {

@@ -393,32 +393,9 @@ struct Scene {
 }
 
 const SCENES: [Scene; 25] = [
-    Scene {
-        what: "stored with vote none, not live",
-        capacity: 8,
-        told: &[
-            (&[b"LG", BODY, COMMITS], LOGGED),
-            (&[RD], NOTHING_FOUND),
-        ],
-        rows: &[[0, 0, 1, 0]],
-    },
-    Scene {
-        what: "logged abort",
-        capacity: 8,
-        told: &[
-            (&[b"LG", BODY, ABORTS], LOGGED_ABORT),
-        ],
-        rows: &[[0, 0, 2, 0]],
-    },
-    Scene {
-        what: "11, nothing stored",
-        capacity: 8,
-        told: &[
-            (&[b"LG", BODY, THREE], too_few(1)),
-            (&[b"LG", BODY, ONE], too_few(1)),
-        ],
-        rows: &[],
-    },
+    Scene { what: "stored with vote none, not live", capacity: 8, told: &[(&[b"LG", BODY, COMMITS], LOGGED), (&[RD], NOTHING_FOUND)], rows: &[[0, 0, 1, 0]] },
+    Scene { what: "logged abort", capacity: 8, told: &[(&[b"LG", BODY, ABORTS], LOGGED_ABORT)], rows: &[[0, 0, 2, 0]] },
+    Scene { what: "11, nothing stored", capacity: 8, told: &[(&[b"LG", BODY, THREE], too_few(1)), (&[b"LG", BODY, ONE], too_few(1))], rows: &[] },
     Scene {
         what: "11 before 13, then 13",
         capacity: 1,
@@ -434,91 +411,50 @@ const SCENES: [Scene; 25] = [
     Scene {
         what: "9 before 11",
         capacity: 1,
-        told: &[
-            (&[b"LG", BODY, COMMITS], LOGGED),
-            (&[b"LG", OTHER, ONE], refused(9)),
-            (&[b"PR", OTHER], refused(9)),
-        ],
+        told: &[(&[b"LG", BODY, COMMITS], LOGGED), (&[b"LG", OTHER, ONE], refused(9)), (&[b"PR", OTHER], refused(9))],
         rows: &[[0, 0, 1, 0]],
     },
     Scene {
         what: "that same log again, be the list too few",
         capacity: 1,
-        told: &[
-            (&[b"LG", BODY, COMMITS], LOGGED),
-            (&[b"LG", BODY, ABORTS], LOGGED),
-            (&[b"LG", BODY, ONE], LOGGED),
-        ],
+        told: &[(&[b"LG", BODY, COMMITS], LOGGED), (&[b"LG", BODY, ABORTS], LOGGED), (&[b"LG", BODY, ONE], LOGGED)],
         rows: &[[0, 0, 1, 0]],
     },
     Scene {
         what: "a later PR keeps the log, in a full table",
         capacity: 1,
-        told: &[
-            (&[b"LG", BODY, ABORTS], LOGGED_ABORT),
-            (&[b"PR", BODY], COMMIT),
-            (&[b"LG", BODY, COMMITS], LOGGED_ABORT),
-            (&[b"PR", BODY], COMMIT),
-        ],
+        told: &[(&[b"LG", BODY, ABORTS], LOGGED_ABORT), (&[b"PR", BODY], COMMIT), (&[b"LG", BODY, COMMITS], LOGGED_ABORT), (&[b"PR", BODY], COMMIT)],
         rows: &[[1, 0, 2, 0]],
     },
     Scene {
         what: "a later PR keeps the place",
         capacity: 2,
-        told: &[
-            (&[b"LG", BODY, COMMITS], LOGGED),
-            (&[b"PR", AHEAD], abort(1)),
-            (&[b"PR", BODY], COMMIT),
-        ],
+        told: &[(&[b"LG", BODY, COMMITS], LOGGED), (&[b"PR", AHEAD], abort(1)), (&[b"PR", BODY], COMMIT)],
         rows: &[[1, 0, 1, 0], [2, 1, 0, 0]],
     },
     Scene {
         what: "a later PR, test 1; the vote stays",
         capacity: 8,
-        told: &[
-            (&[b"LG", AHEAD, COMMITS], LOGGED),
-            (&[b"PR", AHEAD], abort(1)),
-            (&[b"PR", AHEAD], abort(1)),
-        ],
+        told: &[(&[b"LG", AHEAD, COMMITS], LOGGED), (&[b"PR", AHEAD], abort(1)), (&[b"PR", AHEAD], abort(1))],
         rows: &[[2, 1, 1, 0]],
     },
-    Scene {
-        what: "a later PR, test 2",
-        capacity: 8,
-        told: &[
-            (&[b"LG", READS_40, COMMITS], LOGGED),
-            (&[b"PR", READS_40], abort(2)),
-        ],
-        rows: &[[2, 2, 1, 0]],
-    },
+    Scene { what: "a later PR, test 2", capacity: 8, told: &[(&[b"LG", READS_40, COMMITS], LOGGED), (&[b"PR", READS_40], abort(2))], rows: &[[2, 2, 1, 0]] },
     Scene {
         what: "a later PR, test 3",
         capacity: 8,
-        told: &[
-            (&[b"PR", BODY], COMMIT),
-            (&[b"LG", READS_START, COMMITS], LOGGED),
-            (&[b"PR", READS_START], abort(3)),
-        ],
+        told: &[(&[b"PR", BODY], COMMIT), (&[b"LG", READS_START, COMMITS], LOGGED), (&[b"PR", READS_START], abort(3))],
         rows: &[[1, 0, 0, 0], [2, 3, 1, 0]],
     },
     Scene {
         what: "a later PR, test 4",
         capacity: 8,
-        told: &[
-            (&[b"PR", READS_START], COMMIT),
-            (&[b"LG", BODY, COMMITS], LOGGED),
-            (&[b"PR", BODY], abort(4)),
-        ],
+        told: &[(&[b"PR", READS_START], COMMIT), (&[b"LG", BODY, COMMITS], LOGGED), (&[b"PR", BODY], abort(4))],
         rows: &[[1, 0, 0, 0], [2, 4, 1, 0]],
     },
     Scene {
         what: "a later PR, test 5",
         capacity: 8,
-        told: &[
-            (&[b"LG", BODY, COMMITS], LOGGED),
-            (&[RD], NOTHING_FOUND),
-            (&[b"PR", BODY], abort(5)),
-        ],
+        told: &[(&[b"LG", BODY, COMMITS], LOGGED), (&[RD], NOTHING_FOUND), (&[b"PR", BODY], abort(5))],
         rows: &[[2, 5, 1, 0]],
     },
     Scene {
@@ -559,52 +495,31 @@ const SCENES: [Scene; 25] = [
     Scene {
         what: "a reader before the PR: reason 2",
         capacity: 8,
-        told: &[
-            (&[b"LG", BODY, COMMITS], LOGGED),
-            (&[b"PR", READER], abort(2)),
-            (&[b"PR", BODY], COMMIT),
-            (&[b"PR", READER], abort(2)),
-        ],
+        told: &[(&[b"LG", BODY, COMMITS], LOGGED), (&[b"PR", READER], abort(2)), (&[b"PR", BODY], COMMIT), (&[b"PR", READER], abort(2))],
         rows: &[[1, 0, 1, 0], [2, 2, 0, 0]],
     },
     Scene {
         what: "a reader after the PR waits",
         capacity: 8,
-        told: &[
-            (&[b"LG", BODY, COMMITS], LOGGED),
-            (&[b"PR", BODY], COMMIT),
-            (&[b"PR", READER], WAIT),
-        ],
+        told: &[(&[b"LG", BODY, COMMITS], LOGGED), (&[b"PR", BODY], COMMIT), (&[b"PR", READER], WAIT)],
         rows: &[[1, 0, 1, 0], [3, 0, 0, 0]],
     },
     Scene {
         what: "no clash by test 3 before the PR",
         capacity: 8,
-        told: &[
-            (&[b"LG", BODY, COMMITS], LOGGED),
-            (&[b"PR", READS_START], COMMIT),
-            (&[b"PR", BODY], abort(4)),
-        ],
+        told: &[(&[b"LG", BODY, COMMITS], LOGGED), (&[b"PR", READS_START], COMMIT), (&[b"PR", BODY], abort(4))],
         rows: &[[2, 4, 1, 0], [1, 0, 0, 0]],
     },
     Scene {
         what: "no clash by test 4 before the PR",
         capacity: 8,
-        told: &[
-            (&[b"LG", READS_START, COMMITS], LOGGED),
-            (&[b"PR", BODY], COMMIT),
-            (&[b"PR", READS_START], abort(3)),
-        ],
+        told: &[(&[b"LG", READS_START, COMMITS], LOGGED), (&[b"PR", BODY], COMMIT), (&[b"PR", READS_START], abort(3))],
         rows: &[[2, 3, 1, 0], [1, 0, 0, 0]],
     },
     Scene {
         what: "a clash by test 4 after the PR",
         capacity: 8,
-        told: &[
-            (&[b"LG", READS_START, COMMITS], LOGGED),
-            (&[b"PR", READS_START], COMMIT),
-            (&[b"PR", BODY], abort(4)),
-        ],
+        told: &[(&[b"LG", READS_START, COMMITS], LOGGED), (&[b"PR", READS_START], COMMIT), (&[b"PR", BODY], abort(4))],
         rows: &[[1, 0, 1, 0], [2, 4, 0, 0]],
     },
     Scene {
@@ -632,10 +547,7 @@ const SCENES: [Scene; 25] = [
     Scene {
         what: "a DC abort of another body",
         capacity: 1,
-        told: &[
-            (&[b"LG", BODY, COMMITS], LOGGED),
-            (&[b"DC", OTHER, PROVES_ABORT], refused(9)),
-        ],
+        told: &[(&[b"LG", BODY, COMMITS], LOGGED), (&[b"DC", OTHER, PROVES_ABORT], refused(9))],
         rows: &[[0, 0, 1, 0]],
     },
     Scene {
@@ -658,7 +570,9 @@ fn rows(table: &[u8]) -> Vec<[u8; 4]> {
 }
 
 /// One message to the engine's box and to the model's, by receive.
-fn sent(tried: &mut Tried, what: &str, by_engine: &mut (Vec<u8>, Vec<u64>), by_model: &mut (Vec<u8>, Vec<u64>), settings: &Settings, message: &[u8], due: Answer) {
+fn sent(
+    tried: &mut Tried, what: &str, by_engine: &mut (Vec<u8>, Vec<u64>), by_model: &mut (Vec<u8>, Vec<u64>), settings: &Settings, message: &[u8], due: Answer,
+) {
     let answer = engine::call(Entrance::Receive, &mut by_engine.0, &mut by_engine.1, settings, message).ok().and_then(engine::answer_of);
     let modelled = model::call(&mut by_model.0, &mut by_model.1, settings, message, Entrance::Receive.taken(), &mut Vec::new());
     tried.one(what, Some(due), answer.map(Answer::apart_from_number), Some(modelled.apart_from_number()));
@@ -729,7 +643,9 @@ fn lists(tried: &mut Tried) {
         let row = THRESHOLDS[f as usize - 1];
         let every: Vec<u8> = (0..=5 * f as u8).collect();
         let proof = [&[b'V', b'L', 1, 1, every.len() as u8][..], &every.iter().flat_map(|number| [*number, 1]).collect::<Vec<u8>>()].concat();
-        for (log, kind, decided, needed) in [(true, 1, 1, row[0]), (true, 1, 2, row[1]), (false, 1, 1, row[2]), (false, 1, 2, row[3]), (false, 2, 1, row[4]), (false, 2, 2, row[4])] {
+        for (log, kind, decided, needed) in
+            [(true, 1, 1, row[0]), (true, 1, 2, row[1]), (false, 1, 1, row[2]), (false, 1, 2, row[3]), (false, 2, 1, row[4]), (false, 2, 2, row[4])]
+        {
             for (counted, others) in (0..=every.len()).flat_map(|counted| [(counted, false), (counted, true)]) {
                 let Some(list) = list_of(f, kind, decided, counted, others) else { continue };
                 for before in BEFORE {
@@ -746,7 +662,8 @@ fn lists(tried: &mut Tried) {
                     let (mut by_engine, mut by_model) = (stood.clone(), stood.clone());
                     let due = due_of(log, decided, needed.saturating_sub(counted) as u8, before);
                     let mark: &[u8] = if log { b"LG" } else { b"DC" };
-                    let what = format!("{}, f {f}, kind {kind}, {counted} of {needed} for {decided}, others {others}, {before:?}", String::from_utf8_lossy(mark));
+                    let what =
+                        format!("{}, f {f}, kind {kind}, {counted} of {needed} for {decided}, others {others}, {before:?}", String::from_utf8_lossy(mark));
                     sent(tried, &what, &mut by_engine, &mut by_model, &settings, &[mark, BODY, &list].concat(), due);
                     let left = if matches!(due, Answer::TooFew(_) | Answer::Refused(_)) { stood } else { by_model.clone() };
                     tried.one(&format!("{what}: table and read marks"), left, by_engine, by_model);
@@ -781,7 +698,7 @@ const fn of_view(kind: u8, view: u16, decision: u8, count: usize, number: u8, an
 /// A record for a group of f and a buffer of so many bytes: the refusal's number, or the bytes that are written.
 type Written = (&'static str, u64, Record, usize, Result<&'static [&'static [u8]], u8>);
 
-const WRITTEN: [Written; 98] = [
+static WRITTEN: [Written; 98] = [
     ("a TX", 1, Record::Tx(both(50, 3, 40)), 40, Ok(&[BOTH])),
     ("a TX into its own length", 1, Record::Tx(both(50, 3, 40)), 32, Ok(&[BOTH])),
     ("a TX, one byte short", 1, Record::Tx(both(50, 3, 40)), 31, Err(17)),
@@ -962,7 +879,11 @@ fn walk(tried: &mut Tried, walk: &Walk) {
     let (n, other) = (5 * f + 1, 3 - answer);
     let after = |count: u64| {
         let mask = (1u32 << count) - 1;
-        if *answer == 1 { sheet(*kind, mask, 0) } else { sheet(*kind, 0, mask) }
+        if *answer == 1 {
+            sheet(*kind, mask, 0)
+        } else {
+            sheet(*kind, 0, mask)
+        }
     };
     for number in 0..n {
         let given = number + 1;

@@ -4,7 +4,6 @@ use crate::line::pack_line;
 use crate::record::{cut, group_behind, read};
 use crate::run::run;
 use crate::table::{aligned, capacity_by_length, read_marks, readable};
-use crate::words;
 use std::io;
 use stobbarel::{Group, Refusal};
 
@@ -114,8 +113,8 @@ impl<'a> Words<'a> {
 
 /// The group of the records before any GP: the largest, unless --f names one. None where that is no f.
 fn group_told(words: &Words) -> Option<Group> {
-    let f = words.value("--f").map_or(Some(5), |f| f.parse().ok())?;
-    Group::of(f).ok()
+    let f = words.value("--f").map_or(Some(5), |f| f.parse::<u64>().ok())?;
+    f.try_into().ok()
 }
 
 /// The line, and a caret under the column.
@@ -179,7 +178,7 @@ fn unpack(mut group: Group, input: &[u8]) -> Outcome {
 }
 
 fn no_record(number: usize, at: usize, refusal: Refusal) -> String {
-    format!("record {number}, at byte {at}: refused {}, {}", refusal.number(), words::refusal(refusal))
+    format!("record {number}, at byte {at}: {refusal}")
 }
 
 fn ran(words: &Words, input: &[u8]) -> Outcome {

@@ -14,5 +14,5 @@ pub use commands::{told, Outcome};
 pub use line::{pack_line, Wrong};
 pub use record::{cut, group_behind, read, write, Record};
 pub use run::{run, Line};
-pub use table::{capacity_by_length, readable, read_marks};
-pub use words::{answer, reason, refusal};
+pub use table::{capacity_by_length, read_marks, readable};
+pub use words::{answer, refusal};

@@ -1,9 +1,8 @@
 //! A line of text as its record. What is wrong is told with its column, from 1; what the line cannot show is the writer's to refuse.
 
 use crate::record::{write, Record};
-use crate::words;
 use stobbarel::layout::KEYS;
-use stobbarel::{Decision, Election, Group, Key, Message, Stamp, Transaction, View, VoteList};
+use stobbarel::{Decision, Election, Group, Key, Message, Refusal, Stamp, Transaction, UpTo, View, Views, VoteList};
 
 /// Where a line goes wrong, and why.
 #[derive(Clone, Debug, PartialEq, Eq)]
@@ -54,7 +53,7 @@ struct Rest<'a> {
     tokens: Vec<Token<'a>>,
     at: usize,
     end: usize,
-    boxes: u64,
+    boxes: u8,
 }
 
 /// A number's name and range.
@@ -139,7 +138,7 @@ impl Rest<'_> {
     }
 
     fn box_range(&self, what: &'static str) -> Range {
-        range(what, 0, self.boxes - 1)
+        range(what, 0, u64::from(self.boxes) - 1)
     }
 
     /// `commit` or `abort`.
@@ -171,19 +170,16 @@ impl Rest<'_> {
     }
 
     /// Up to eight pairs with a sign between, behind their word; none without it.
-    fn pairs(&mut self, word: &str, sign: &str, second: Range) -> Heard<Vec<(Key, u64)>> {
+    fn pairs(&mut self, word: &str, sign: &str, second: Range) -> Heard<UpTo<(Key, u64), MOST>> {
         if !self.takes(word) {
-            return Ok(Vec::new());
+            return Ok(UpTo::new());
         }
         let columns: Vec<usize> = self.tokens[self.at..].iter().map(|token| token.column).collect();
         let pairs = self.rising(KEY, |rest, key| {
             rest.word(sign)?;
             Ok((Key(key as u16), rest.number(second)?))
         })?;
-        match pairs.len() > MOST {
-            true => Err(Wrong { column: columns[3 * MOST], why: format!("{MOST} {word} at most") }),
-            false => Ok(pairs),
-        }
+        UpTo::gather(pairs).map_err(|_| Wrong { column: columns[3 * MOST], why: format!("{MOST} {word} at most") })
     }
 
     /// A stamp, then reads, then writes.
@@ -194,13 +190,19 @@ impl Rest<'_> {
         if reads.is_empty() && writes.is_empty() {
             return self.wrong("reads or writes is due".into());
         }
-        let reads = reads.into_iter().map(|(key, version)| (key, Stamp(version))).collect();
+        let reads = self.fits(UpTo::gather(reads.into_iter().map(|(key, version)| (key, Stamp(version)))))?;
         Ok(Transaction { stamp: Stamp(stamp), reads, writes })
     }
 
-    fn listed(&mut self) -> Heard<Vec<(u8, Decision)>> {
+    /// There are no more boxes than a list has places, so that those of a group always fit.
+    fn fits<T>(&self, list: Result<T, Refusal>) -> Heard<T> {
+        list.or_else(|refusal| self.wrong(refusal.to_string()))
+    }
+
+    fn listed(&mut self) -> Heard<UpTo<(u8, Decision), 26>> {
         let numbers = self.box_range("a box number");
-        self.rising(numbers, |rest, number| Ok((number as u8, rest.answer()?)))
+        let listed = self.rising(numbers, |rest, number| Ok((number as u8, rest.answer()?)))?;
+        self.fits(UpTo::gather(listed))
     }
 
     /// `votes` or `logs`, the decision, the view of logs, and each box's answer.
@@ -213,13 +215,14 @@ impl Rest<'_> {
         Ok(VoteList::logs(self.view()?, decision, self.listed()?))
     }
 
-    fn views(&mut self) -> Heard<Vec<(u8, View)>> {
+    fn views(&mut self) -> Heard<Views> {
         self.word("views")?;
         let numbers = self.box_range("a box number");
-        self.rising(numbers, |rest, number| {
+        let views = self.rising(numbers, |rest, number| {
             rest.word(":")?;
             Ok((number as u8, rest.view()?))
-        })
+        })?;
+        self.fits(Views::gather(views))
     }
 
     fn election(&mut self) -> Heard<Election> {
@@ -232,6 +235,7 @@ impl Rest<'_> {
         self.word("answers")?;
         let numbers = self.box_range("a box number");
         let answers = self.rising(numbers, |rest, number| Ok((number as u8, rest.answer()?, rest.view()?)))?;
+        let answers = self.fits(UpTo::gather(answers))?;
         Ok(Election { leader, decision, view, answers })
     }
 
@@ -295,6 +299,6 @@ pub fn pack_line(group: Group, line: &str) -> Result<Option<(Record, Vec<u8>)>, 
     // The writer has the last word.
     match write(group, &record) {
         Ok(bytes) => Ok(Some((record, bytes))),
-        Err(refusal) => Err(Wrong { column: first, why: format!("refused {}, {}", refusal.number(), words::refusal(refusal)) }),
+        Err(refusal) => Err(Wrong { column: first, why: refusal.to_string() }),
     }
 }

@@ -1,9 +1,11 @@
 //! The twelve records: read from any bytes, written in their one form. The bench's own two, GP and CK, are read and written here, all others by the package.
 
-use stobbarel::{check_el, check_vl, check_vs, read_message, read_tx, write_tx, Election, Group, Message, Refusal, Table, Transaction, View, VoteList, LONGEST};
+use stobbarel::{check_el, check_vl, check_vs, read_message, read_tx, write_el, write_message, write_tx, write_vl, write_vs};
+use stobbarel::{Election, Group, Key, Message, Refusal, Stamp, Table, Transaction, Views, VoteList, LONGEST};
 
 /// A record by itself.
 #[derive(Clone, Debug, PartialEq, Eq)]
+#[allow(clippy::large_enum_variant)] // as the package has its messages
 pub enum Record {
     /// GP: what the bench is told first.
     Gp {
@@ -23,7 +25,7 @@ pub enum Record {
     /// VL.
     Vl(VoteList),
     /// VS.
-    Vs(Vec<(u8, View)>),
+    Vs(Views),
     /// EL.
     El(Election),
 }
@@ -46,7 +48,7 @@ fn length_is(length: usize, bytes: &[u8]) -> Result<(), Refusal> {
 
 /// 14 where f or the capacity is none, as an empty table of them says.
 fn told_right(f: u8, capacity: u8) -> Result<(), Refusal> {
-    Table::new(Group::of(f.into())?, capacity.into()).map(|_| ())
+    Table::new(Group::of(f)?, capacity.into()).map(|_| ())
 }
 
 fn read_gp(bytes: &[u8]) -> Result<Record, Refusal> {
@@ -63,10 +65,8 @@ fn read_ck(bytes: &[u8]) -> Result<Record, Refusal> {
 
 /// A message of this mark: a transaction in order, and behind it a list by itself. The package reads a list's values inside a message only.
 fn around(group: Group, mark: &[u8; 2], list: &[u8]) -> Result<Message, Refusal> {
-    let tx = Transaction { stamp: stobbarel::Stamp(1), reads: vec![], writes: vec![(stobbarel::Key(0), 0)] };
-    let mut buffer = [0; LONGEST];
-    let length = write_tx(&tx, &mut buffer)?;
-    read_message(group, &[&mark[..], &buffer[..length], list].concat())
+    let tx = Transaction::new(Stamp(1), [], [(Key(0), 0)]);
+    read_message(group, &[&mark[..], write_tx(&tx, &mut [0; LONGEST])?, list].concat())
 }
 
 fn read_vl(group: Group, bytes: &[u8]) -> Result<Record, Refusal> {
@@ -122,50 +122,38 @@ pub fn cut<T>(bytes: &[u8], read: impl Fn(&[u8]) -> Result<T, Refusal>) -> Resul
     Ok(low)
 }
 
-fn write_gp(f: u8, capacity: u8, delta: u64, out: &mut [u8]) -> Result<usize, Refusal> {
+fn write_gp(f: u8, capacity: u8, delta: u64, out: &mut [u8]) -> Result<&[u8], Refusal> {
     told_right(f, capacity)?;
     out[..4].copy_from_slice(&[b'G', b'P', f, capacity]);
     out[4..GP].copy_from_slice(&delta.to_le_bytes());
-    Ok(GP)
+    Ok(&out[..GP])
 }
 
-fn write_ck(clock: u64, out: &mut [u8]) -> Result<usize, Refusal> {
+fn write_ck(clock: u64, out: &mut [u8]) -> &[u8] {
     out[..2].copy_from_slice(b"CK");
     out[2..CK].copy_from_slice(&clock.to_le_bytes());
-    Ok(CK)
-}
-
-fn write_message(group: Group, message: &Message, out: &mut [u8]) -> Result<usize, Refusal> {
-    match message {
-        Message::Prepare(tx) => stobbarel::write_pr(tx, out),
-        Message::Log(tx, list) => stobbarel::write_lg(group, tx, list, out),
-        Message::Decide(tx, list) => stobbarel::write_dc(group, tx, list, out),
-        Message::Read(key, stamp) => stobbarel::write_rd(*key, *stamp, out),
-        Message::Invoke(tx, views) => stobbarel::write_iv(group, tx, views, out),
-        Message::Lead(tx, election) => stobbarel::write_ld(group, tx, election, out),
-    }
+    &out[..CK]
 }
 
 /// The record's bytes, or the writer's refusal.
 pub fn write(group: Group, record: &Record) -> Result<Vec<u8>, Refusal> {
-    let mut buffer = [0; LONGEST];
-    let out = &mut buffer[..];
-    let length = match record {
-        Record::Gp { f, capacity, delta } => write_gp(*f, *capacity, *delta, out),
+    let out = &mut [0; LONGEST][..];
+    let written = match record {
+        Record::Gp { f, capacity, delta } => write_gp(*f, *capacity, *delta, out)?,
         Record::Ck(clock) => write_ck(*clock, out),
-        Record::Message(message) => write_message(group, message, out),
-        Record::Tx(tx) => write_tx(tx, out),
-        Record::Vl(list) => stobbarel::write_vl(group, list, out),
-        Record::Vs(views) => stobbarel::write_vs(group, views, out),
-        Record::El(election) => stobbarel::write_el(group, election, out),
-    }?;
-    Ok(buffer[..length].to_vec())
+        Record::Message(message) => write_message(group, message, out)?,
+        Record::Tx(tx) => write_tx(tx, out)?,
+        Record::Vl(list) => write_vl(group, list, out)?,
+        Record::Vs(views) => write_vs(group, views, out)?,
+        Record::El(election) => write_el(group, election, out)?,
+    };
+    Ok(written.to_vec())
 }
 
 /// The group of the records behind this one: a GP tells it.
 pub fn group_behind(group: Group, record: &Record) -> Group {
     match record {
-        Record::Gp { f, .. } => Group::of((*f).into()).unwrap_or(group),
+        Record::Gp { f, .. } => Group::of(*f).unwrap_or(group),
         _ => group,
     }
 }

@@ -35,7 +35,7 @@ struct Turn {
 
 impl Turn {
     fn stop(refusal: Refusal) -> Turn {
-        let said = words::answer(Answer::Refused(refusal));
+        let said = words::answer(Err(refusal));
         Turn { said, words: format!("# {}", words::refusal(refusal)), taken: None }
     }
 
@@ -44,11 +44,11 @@ impl Turn {
     }
 
     /// A message's answer. A message that is refused as it is read has no words of its own.
-    fn answered(answer: Answer, record: Option<Record>, taken: usize) -> Turn {
+    fn answered(answer: Result<Answer, Refusal>, record: Option<Record>, taken: usize) -> Turn {
         let record = record.map(|record| record.to_string());
         let why = words::why(answer).map(|why| format!("# {why}"));
         let words = [record, why].into_iter().flatten().collect::<Vec<String>>().join("  ");
-        let stops = matches!(answer, Answer::Refused(Refusal::Short | Refusal::Mark | Refusal::Count | Refusal::Group));
+        let stops = matches!(answer, Err(Refusal::Short | Refusal::Mark | Refusal::Count | Refusal::Group));
         Turn { said: words::answer(answer), words, taken: (!stops).then_some(taken) }
     }
 }
@@ -63,7 +63,7 @@ impl Bench {
         let length = cut(rest, |bytes| read(any, bytes))?;
         let record = read(any, &rest[..length])?;
         let Record::Gp { f, capacity, delta } = record else { return Err(Refusal::Mark) };
-        let group = Group::of(f.into())?;
+        let group = Group::of(f)?;
         let bench = Bench { group, table: Table::new(group, capacity.into())?, clock: 0, delta };
         Ok((bench, Turn::ok(&record, length)))
     }

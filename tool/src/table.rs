@@ -1,9 +1,8 @@
 //! A kept table for people. Each row is told by the package, as a table of its own.
 
-use crate::text::{decision, reads, writes};
-use crate::words;
+use crate::text::{reads, writes};
 use stobbarel::layout::{table_len, BODY_AT, DECIDED_AT, HEAD, KEYS, LOG_AT, REASON_AT, ROW, VOTE_AT};
-use stobbarel::{read_tx, Group, Held, Refusal, Stamp, Table, Vote};
+use stobbarel::{read_tx, Group, Held, Refusal, Stamp, Table};
 
 /// Where in a TX the counts and the stamp stand (docs/RECORDS.md).
 const R_AT: usize = BODY_AT + 2;
@@ -29,32 +28,24 @@ fn row(bytes: &[u8], number: usize) -> Option<&[u8]> {
 
 /// A row as a table that holds nothing else.
 fn alone(row: &[u8]) -> Result<Table, Refusal> {
-    Ok(Table::kept(Group::of(1)?, 1, [&[1], row].concat(), [0; KEYS]))
+    Ok(Table::kept(Group::of(1)?, 1, [&[1], row].concat(), Box::new([0; KEYS])))
 }
 
 fn stamp_of(row: &[u8]) -> Stamp {
     Stamp(u64::from_le_bytes(row[STAMP_AT..STAMP_AT + 8].try_into().expect("eight bytes")))
 }
 
-fn vote(held: &Held) -> String {
-    match held.vote {
-        None => "none".into(),
-        Some(Vote::Commit) => "commit".into(),
-        Some(Vote::Waiting) => "waiting".into(),
-        Some(Vote::Abort(reason)) => format!("abort {}: {}", reason as u8, words::reason(reason)),
-    }
-}
-
 /// The cells of what is held. A body that no reader takes stands in a lent table only, and is told by its refusal.
 fn cells(number: usize, stamp: Stamp, held: &Held) -> [String; 8] {
     let (reads, writes) = match read_tx(held.body) {
         Ok(tx) => (reads(&tx), writes(&tx)),
-        Err(refusal) => (format!("refused {}, {}", refusal.number(), words::refusal(refusal)), String::new()),
+        Err(refusal) => (refusal.to_string(), String::new()),
     };
-    let logged = held.logged.map_or("none".into(), |(logged, view)| format!("{} in view {}", decision(logged), view.0));
-    let decided = held.decided.map_or("none", decision);
+    let vote = held.vote.map_or("none".into(), |vote| vote.to_string());
+    let logged = held.logged.map_or("none".into(), |(logged, view)| format!("{logged} in view {view}"));
+    let decided = held.decided.map_or("none".into(), |decided| decided.to_string());
     let none_or = |pairs: String| if pairs.is_empty() { "none".to_string() } else { pairs.trim().to_string() };
-    [number.to_string(), stamp.0.to_string(), vote(held), logged, held.view.0.to_string(), decided.into(), none_or(reads), none_or(writes)]
+    [number.to_string(), stamp.to_string(), vote, logged, held.view.to_string(), decided, none_or(reads), none_or(writes)]
 }
 
 /// Columns as wide as their widest cell, two spaces apart.
@@ -89,7 +80,7 @@ fn first_wrong(bytes: &[u8], capacity: u64) -> String {
 /// The entries of kept bytes as lines; where the table is refused, its refusal and what is wrong.
 fn entries(bytes: &[u8], capacity: u64) -> Result<String, Refusal> {
     // Any stamp: the whole table is judged before it is looked up.
-    Table::kept(Group::of(1)?, capacity, bytes.to_vec(), [0; KEYS]).held(Stamp(0))?;
+    Table::kept(Group::of(1)?, capacity, bytes, [0; KEYS]).held(Stamp(0))?;
     let mut rows = vec![HEADINGS.map(String::from).to_vec()];
     for number in 0..bytes[0].into() {
         let row = row(bytes, number).ok_or(Refusal::Table)?;
@@ -113,7 +104,7 @@ fn marked(marks: &[u64; KEYS]) -> String {
 pub fn readable(bytes: &[u8], capacity: u64, marks: Option<&[u64; KEYS]>) -> Result<String, String> {
     let told = entries(bytes, capacity).map_err(|refusal| {
         let found = if refusal == Refusal::Table { format!("\n{}", first_wrong(bytes, capacity)) } else { String::new() };
-        format!("refused {}, {}{found}", refusal.number(), words::refusal(refusal))
+        format!("{refusal}{found}")
     })?;
     Ok(told + &marks.map_or(String::new(), |marks| format!("\n{}", marked(marks))))
 }

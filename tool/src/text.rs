@@ -4,14 +4,6 @@ use crate::record::Record;
 use std::fmt::{Display, Formatter, Result};
 use stobbarel::{Decision, Election, Kind, Message, Transaction, View, VoteList};
 
-/// A decision in a word.
-pub(crate) fn decision(decision: Decision) -> &'static str {
-    match decision {
-        Decision::Commit => "commit",
-        Decision::Abort => "abort",
-    }
-}
-
 /// A box's answer behind its number.
 fn sign(answer: Decision) -> char {
     match answer {
@@ -22,35 +14,35 @@ fn sign(answer: Decision) -> char {
 
 /// Reads as `key@version`, with their word in front; nothing where there are none.
 pub(crate) fn reads(tx: &Transaction) -> String {
-    tx.reads.iter().map(|(key, version)| format!(" {}@{}", key.0, version.0)).collect()
+    tx.reads.iter().map(|(key, version)| format!(" {key}@{version}")).collect()
 }
 
 /// Writes as `key=value`.
 pub(crate) fn writes(tx: &Transaction) -> String {
-    tx.writes.iter().map(|(key, value)| format!(" {}={value}", key.0)).collect()
+    tx.writes.iter().map(|(key, value)| format!(" {key}={value}")).collect()
 }
 
 fn transaction(tx: &Transaction) -> String {
     let part = |word: &str, pairs: String| if pairs.is_empty() { pairs } else { format!(" {word}{pairs}") };
-    format!("{}{}{}", tx.stamp.0, part("reads", reads(tx)), part("writes", writes(tx)))
+    format!("{}{}{}", tx.stamp, part("reads", reads(tx)), part("writes", writes(tx)))
 }
 
 fn list(list: &VoteList) -> String {
     let pairs: String = list.pairs.iter().map(|(number, answer)| format!(" {number}{}", sign(*answer))).collect();
     match list.kind {
-        Kind::Votes => format!("votes {}{pairs}", decision(list.decision)),
-        Kind::Logs => format!("logs {} view {}{pairs}", decision(list.decision), list.view.0),
+        Kind::Votes => format!("votes {}{pairs}", list.decision),
+        Kind::Logs => format!("logs {} view {}{pairs}", list.decision, list.view),
     }
 }
 
 fn views(views: &[(u8, View)]) -> String {
-    let pairs: String = views.iter().map(|(number, view)| format!(" {number}:{}", view.0)).collect();
+    let pairs: String = views.iter().map(|(number, view)| format!(" {number}:{view}")).collect();
     format!("views{pairs}")
 }
 
 fn election(election: &Election) -> String {
-    let answers: String = election.answers.iter().map(|(number, answer, view)| format!(" {number}{}{}", sign(*answer), view.0)).collect();
-    format!("leader {} decision {} view {} answers{answers}", election.leader, decision(election.decision), election.view.0)
+    let answers: String = election.answers.iter().map(|(number, answer, view)| format!(" {number}{}{view}", sign(*answer))).collect();
+    format!("leader {} decision {} view {} answers{answers}", election.leader, election.decision, election.view)
 }
 
 fn message(message: &Message) -> String {
@@ -58,7 +50,7 @@ fn message(message: &Message) -> String {
         Message::Prepare(tx) => format!("PR {}", transaction(tx)),
         Message::Log(tx, votes) => format!("LG {} {}", transaction(tx), list(votes)),
         Message::Decide(tx, proof) => format!("DC {} {}", transaction(tx), list(proof)),
-        Message::Read(key, stamp) => format!("RD {} at {}", key.0, stamp.0),
+        Message::Read(key, stamp) => format!("RD {key} at {stamp}"),
         Message::Invoke(tx, told) => format!("IV {} {}", transaction(tx), views(told)),
         Message::Lead(tx, led) => format!("LD {} {}", transaction(tx), election(led)),
     }

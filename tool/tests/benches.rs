@@ -79,7 +79,7 @@ fn stored_cases() {
             let given = run(&input);
             assert_eq!(given.iter().map(|line| &line.said).collect::<Vec<_>>(), due, "{}, {name}", entry.path().display());
             // A GP that is refused tells no group, and nothing is read behind it.
-            let group = Group::of(records[0].bytes.get(2).copied().unwrap_or(0).into()).unwrap_or(Group::of(1).expect("an f"));
+            let group = Group::of(records[0].bytes.get(2).copied().unwrap_or(0)).unwrap_or(Group::of(1).expect("an f"));
             given.iter().zip(&records).for_each(|(line, record)| words_are_the_record(group, line, &record.bytes));
             (lines, all) = (lines + given.len(), all + 1);
         }

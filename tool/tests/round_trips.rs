@@ -6,7 +6,7 @@
 mod random;
 
 use random::Random;
-use stobbarel::{Decision, Election, Group, Key, Message, Refusal, Stamp, Transaction, View, VoteList, LONGEST};
+use stobbarel::{Decision, Election, Group, Key, Message, Refusal, Stamp, Transaction, UpTo, View, Views, VoteList, LONGEST};
 use stobbarel_tool::{group_behind, pack_line, read, told, write, Record};
 
 fn command(words: &[&str], input: &[u8]) -> stobbarel_tool::Outcome {
@@ -46,11 +46,11 @@ fn some(random: &mut Random, most: u64, below: u64) -> Vec<u64> {
 fn transaction(random: &mut Random) -> Transaction {
     let stamp = number(random, 1, u64::MAX);
     let keys = |random: &mut Random| some(random, 8, 512).into_iter().map(|key| Key(key as u16)).collect::<Vec<Key>>();
-    let reads: Vec<(Key, Stamp)> = keys(random).into_iter().map(|key| (key, Stamp(number(random, 0, stamp - 1)))).collect();
-    let writes: Vec<(Key, u64)> = keys(random).into_iter().map(|key| (key, number(random, 0, u64::MAX))).collect();
+    let reads = UpTo::gather(keys(random).into_iter().map(|key| (key, Stamp(number(random, 0, stamp - 1))))).expect("eight at most");
+    let writes = UpTo::gather(keys(random).into_iter().map(|key| (key, number(random, 0, u64::MAX)))).expect("eight at most");
     let (reads, writes) = match random.below(3) {
-        0 => (reads, vec![]),
-        1 => (vec![], writes),
+        0 => (reads, UpTo::new()),
+        1 => (UpTo::new(), writes),
         _ => (reads, writes),
     };
     Transaction { stamp: Stamp(stamp), reads, writes }
@@ -65,26 +65,32 @@ fn view(random: &mut Random) -> View {
 }
 
 fn boxes(random: &mut Random, group: Group) -> Vec<u8> {
-    some(random, 26, group.boxes()).into_iter().map(|number| number as u8).collect()
+    some(random, 26, group.boxes().into()).into_iter().map(|number| number as u8).collect()
 }
 
 fn votes(random: &mut Random, group: Group) -> VoteList {
-    let pairs = boxes(random, group).into_iter().map(|number| (number, decision(random))).collect();
+    let pairs = boxes(random, group).into_iter().map(|number| (number, decision(random)));
+    let pairs = UpTo::gather(pairs).expect("26 at most");
     VoteList::votes(decision(random), pairs)
 }
 
 fn list(random: &mut Random, group: Group) -> VoteList {
     let VoteList { decision, pairs, .. } = votes(random, group);
-    if random.chance(50) { VoteList::votes(decision, pairs) } else { VoteList::logs(view(random), decision, pairs) }
+    if random.chance(50) {
+        VoteList::votes(decision, pairs)
+    } else {
+        VoteList::logs(view(random), decision, pairs)
+    }
 }
 
-fn views(random: &mut Random, group: Group) -> Vec<(u8, View)> {
-    boxes(random, group).into_iter().map(|number| (number, view(random))).collect()
+fn views(random: &mut Random, group: Group) -> Views {
+    Views::gather(boxes(random, group).into_iter().map(|number| (number, view(random)))).expect("26 at most")
 }
 
 fn election(random: &mut Random, group: Group) -> Election {
-    let answers = boxes(random, group).into_iter().map(|number| (number, decision(random), view(random))).collect();
-    Election { leader: random.below(group.boxes()) as u8, decision: decision(random), view: view(random), answers }
+    let answers = boxes(random, group).into_iter().map(|number| (number, decision(random), view(random)));
+    let answers = UpTo::gather(answers).expect("26 at most");
+    Election { leader: random.below(group.boxes().into()) as u8, decision: decision(random), view: view(random), answers }
 }
 
 const KINDS: u64 = 12;
@@ -134,7 +140,7 @@ fn text_is_records_and_records_are_text() {
 fn values_are_kept() {
     let mut random = Random::new(2);
     for count in 0..2000 {
-        let group = Group::of(random.between(1, 5)).expect("an f");
+        let group = Group::try_from(random.between(1, 5)).expect("an f");
         let one = record(&mut random, count % KINDS, group);
         let bytes = write(group, &one).expect("a record in order");
         assert_eq!(read(group, &bytes).as_ref(), Ok(&one));
@@ -175,10 +181,10 @@ fn extremes() {
     let keys = (504..512).map(Key);
     let tx = Transaction {
         stamp: Stamp(u64::MAX),
-        reads: keys.clone().map(|key| (key, Stamp(u64::MAX - 1))).collect(),
-        writes: keys.map(|key| (key, u64::MAX)).collect(),
+        reads: UpTo::gather(keys.clone().map(|key| (key, Stamp(u64::MAX - 1)))).expect("eight"),
+        writes: UpTo::gather(keys.map(|key| (key, u64::MAX))).expect("eight"),
     };
-    let answers = (0..26).map(|number| (number, Decision::Abort, View(65535))).collect();
+    let answers = UpTo::gather((0..26).map(|number| (number, Decision::Abort, View(65535)))).expect("26");
     let longest = Record::Message(Message::Lead(tx, Election { leader: 25, decision: Decision::Abort, view: View(65535), answers }));
     let bytes = write(group, &longest).expect("a record in order");
     assert_eq!(bytes.len(), LONGEST);
@@ -263,7 +269,7 @@ fn damaged_text_is_packed_or_told() {
 #[test]
 fn the_writer_refuses() {
     let group = Group::of(1).expect("an f");
-    let empty = Record::Tx(Transaction { stamp: Stamp(1), reads: vec![], writes: vec![] });
+    let empty = Record::Tx(Transaction::new(Stamp(1), [], []));
     assert_eq!(write(group, &empty), Err(Refusal::Count));
     let above = Record::Message(Message::Read(Key(512), Stamp(1)));
     assert_eq!(write(group, &above), Err(Refusal::Range));

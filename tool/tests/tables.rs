@@ -16,7 +16,8 @@ fn example() -> Table {
         match record {
             Record::Gp { capacity, delta: told, .. } => (table, delta) = (Table::new(group, capacity.into()).ok(), told),
             Record::Ck(told) => clock = told,
-            _ => drop(table.as_mut().expect("a GP comes first").receive(clock, delta, &bytes)),
+            // some are refused, as the example shows
+            _ => _ = table.as_mut().expect("a GP comes first").receive(clock, delta, &bytes),
         }
     }
     table.expect("a GP")

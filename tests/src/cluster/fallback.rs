@@ -114,7 +114,9 @@ impl Cluster<'_> {
             2 => vec![Act::LogAt(all), lead(few, 1, decision, Lie::None), Act::LogAt(all), lead(all, 1, other(decision), Lie::None)],
             3 => vec![lead(all, 1, decision, Lie::None), lead(all, 1, other(decision), lie)],
             4 => vec![Act::InvokeAt(all, Told::Heard), lead(all, 1, decision, Lie::None), lead(all, 2, other(decision), lie)],
-            5 => vec![Act::InvokeAt(all, Told::Heard), Act::InvokeAt(all, Told::Many(0)), lead(all, 1, decision, Lie::None), lead(all, 2, other(decision), lie)],
+            5 => {
+                vec![Act::InvokeAt(all, Told::Heard), Act::InvokeAt(all, Told::Many(0)), lead(all, 1, decision, Lie::None), lead(all, 2, other(decision), lie)]
+            }
             6 => vec![lead(all, 1, decision, Lie::None), lead(all, 2, other(decision), Lie::LowerView)],
             7 => vec![lead(all, 1, decision, Lie::None), Act::InvokeAt(all, Told::Heard), lead(all, 2, other(decision), lie)],
             _ => (0..self.random.between(2, 8)).map(|_| self.anything(all)).collect(),

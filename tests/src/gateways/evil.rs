@@ -46,11 +46,11 @@ impl World {
     /// A write that one to 2f sound boxes vote against, since they have shown the key to a later reader.
     fn split_begin(&mut self, index: usize, key: u16) {
         let stamp = self.stamp(EVIL_WRITER);
-        let tx = Transaction { stamp, reads: vec![], writes: vec![(Key(key), 1)] };
+        let tx = Transaction::new(stamp, [], [(Key(key), 1)]);
         let body = transaction_bytes(&model_tx(&tx));
         self.signed.insert(body.clone());
         let (sound, now) = (self.sound().collect::<Vec<u8>>(), self.now);
-        for _ in 0..self.random.between(1, 2 * self.group.f()) {
+        for _ in 0..self.random.between(1, 2 * u64::from(self.group.f())) {
             let number = self.random.one_of(&sound);
             self.hosts[number as usize].newest(Key(key), Stamp(stamp.0 + 1), now);
         }
@@ -65,7 +65,7 @@ impl World {
             let given = self.gave(body, Word::Vote(model_decision(decision)));
             let needed = if decision == Decision::Commit { self.group.commit_list() } else { self.group.abort_list() };
             let pairs: Vec<(u8, _)> = numbers(given).map(|number| (number, model_decision(decision))).collect();
-            (pairs.len() as u64 >= needed).then(|| with_list(b"LG", body, Kind::Votes, model_decision(decision), &pairs))
+            (pairs.len() >= needed.into()).then(|| with_list(b"LG", body, Kind::Votes, model_decision(decision), &pairs))
         })
     }
 
@@ -103,7 +103,7 @@ impl World {
     }
 
     fn forge_views(&mut self, body: &[u8]) {
-        let views: Vec<(u8, u16)> = (0..self.group.commit_list() as u8).map(|number| (number, 65534)).collect();
+        let views: Vec<(u8, u16)> = (0..self.group.commit_list()).map(|number| (number, 65534)).collect();
         (0..self.n).for_each(|number| self.send_evil(number, Mail::Message(iv(body, &views))));
     }
 

@@ -4,8 +4,10 @@ use super::world::{model_decision, Habit, Mail, Party, World, DELTA, FIRST_MOMEN
 use crate::judge::Word;
 use crate::model::Kind as ModelKind;
 use std::collections::{BTreeMap, BTreeSet};
-use stobbarel::{in_the_way, question, read_message, tx_part, write_rd, Answer, Decision, Election, Group, Held, Holding, Key, Kind, Leader, Letter, Load, Message};
-use stobbarel::{Pace, Question, Stamp, Table, View, VoteList, LONGEST, MOST_HOLDINGS};
+use stobbarel::{
+    in_the_way, question, read_message, tx_part, write_rd, Answer, Decision, Election, Group, Held, Holding, Key, Kind, Leader, Letter, Load, Message,
+};
+use stobbarel::{Pace, Question, Refusal, Stamp, Table, View, VoteList, LONGEST, MOST_HOLDINGS};
 
 /// Room in a table; a box that is full is a world of its own.
 pub const CAPACITY: u64 = 64;
@@ -39,16 +41,15 @@ impl Host {
         (FIRST_MOMENT + now + self.skew) * MOMENT
     }
 
-    pub fn call(&mut self, message: &[u8], now: u64) -> Answer {
+    pub fn call(&mut self, message: &[u8], now: u64) -> Result<Answer, Refusal> {
         self.table.receive(self.clock(now), DELTA, message)
     }
 
     /// What an RD shows as the newest version below a stamp.
     pub fn newest(&mut self, key: Key, stamp: Stamp, now: u64) -> Stamp {
         let mut buffer = [0; LONGEST];
-        let length = write_rd(key, stamp, &mut buffer).expect("an RD in order");
-        match self.call(&buffer[..length], now) {
-            Answer::Found(committed, undecided) => committed.stamp.max(undecided.stamp),
+        match self.call(write_rd(key, stamp, &mut buffer).expect("an RD in order"), now) {
+            Ok(Answer::Found { committed, undecided }) => committed.into_iter().chain(undecided).map(|version| version.stamp).max().unwrap_or(Stamp(0)),
             _ => Stamp(0),
         }
     }
@@ -98,22 +99,20 @@ impl World {
 
     /// A message whose signatures are in order comes to the engine.
     fn message(&mut self, number: u8, from: Party, depth: u64, message: &[u8]) {
-        let body = tx_part(self.group, message).to_vec();
-        if body.is_empty() || !self.signed_body(&body) || !self.backed(message) {
-            return self.meet("messages whose signatures are wrong");
-        }
+        let right = tx_part(self.group, message).filter(|body| self.signed_body(body)).map(<[u8]>::to_vec);
+        let Some(body) = right.filter(|_| self.backed(message)) else { return self.meet("messages whose signatures are wrong") };
         let (now, message) = (self.now, self.paced(number, &body, message));
         let answer = self.hosts[number as usize].call(&message, now);
         self.note(number, &body, answer);
         let host = &mut self.hosts[number as usize];
-        if !matches!(answer, Answer::Refused(_)) {
+        if answer.is_ok() {
             host.stamps.insert(Stamp(u64::from_le_bytes(body[4..12].try_into().expect("eight bytes"))));
         }
-        if let (Answer::Logged(_, View(1..)), Party::Box(_)) = (answer, from) {
+        if let (Ok(Answer::Logged(_, View(1..))), Party::Box(_)) = (answer, from) {
             self.meet("logs by a leader's decision");
         }
         let host = &mut self.hosts[number as usize];
-        if answer == Answer::Done {
+        if answer == Ok(Answer::Done) {
             host.proofs.entry(body.clone()).or_insert(message);
         }
         let wanted = host.wanted.entry(body.clone()).or_default();
@@ -123,19 +122,19 @@ impl World {
                 vec![from]
             }
             // a leader's: whoever is at work on it hears of the log
-            Party::Box(_) if matches!(answer, Answer::Logged(..)) => wanted.iter().copied().collect(),
+            Party::Box(_) if matches!(answer, Ok(Answer::Logged(..))) => wanted.iter().copied().collect(),
             Party::Box(_) => vec![],
         };
         self.answer(number, &to, depth, body, answer);
     }
 
-    fn answer(&mut self, number: u8, to: &[Party], depth: u64, body: Vec<u8>, answer: Answer) {
+    fn answer(&mut self, number: u8, to: &[Party], depth: u64, body: Vec<u8>, answer: Result<Answer, Refusal>) {
         let taken = self.hosts[number as usize].proofs.get(&body).cloned();
-        let handed = taken.filter(|_| matches!(answer, Answer::Decided(_)) && self.keeps(Habit::Handover));
+        let handed = taken.filter(|_| matches!(answer, Ok(Answer::Decided(_))) && self.keeps(Habit::Handover));
         for to in to {
             self.send(Party::Box(number), *to, depth + 1, Mail::Answer(body.clone(), answer, handed.clone()));
         }
-        if let Answer::Elected { decision, view, leader } = answer {
+        if let Ok(Answer::Elected { decision, view, leader }) = answer {
             if view > View(0) {
                 self.send(Party::Box(number), Party::Box(leader), depth + 1, Mail::Elect(body, decision, view));
             }
@@ -197,7 +196,7 @@ impl World {
 
     /// What stands beside a message's lists: each answer and each view signed by its box, an LD by its leader.
     pub fn backed(&mut self, message: &[u8]) -> bool {
-        let body = tx_part(self.group, message).to_vec();
+        let body = tx_part(self.group, message).unwrap_or_default().to_vec();
         match read_message(self.group, message) {
             Ok(Message::Prepare(_)) => true,
             Ok(Message::Log(_, list) | Message::Decide(_, list)) => self.backed_list(&body, &list),
@@ -224,11 +223,11 @@ impl World {
     }
 
     /// What a sound box is held to goes into the judge's book.
-    fn note(&mut self, number: u8, body: &[u8], answer: Answer) {
+    fn note(&mut self, number: u8, body: &[u8], answer: Result<Answer, Refusal>) {
         let word = match answer {
-            Answer::Voted(vote, _) => vote.decision().map(|decision| Word::Vote(model_decision(decision))),
-            Answer::Logged(decision, view) => Some(Word::Log(model_decision(decision), view.0)),
-            Answer::Elected { decision, view, .. } => Some(Word::Elect(model_decision(decision), view.0)),
+            Ok(Answer::Voted(vote, _)) => vote.decision().map(|decision| Word::Vote(model_decision(decision))),
+            Ok(Answer::Logged(decision, view)) => Some(Word::Log(model_decision(decision), view.0)),
+            Ok(Answer::Elected { decision, view, .. }) => Some(Word::Elect(model_decision(decision), view.0)),
             _ => None,
         };
         let Some(word) = word else { return };

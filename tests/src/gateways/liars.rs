@@ -4,7 +4,7 @@
 use super::world::{model_decision, model_tx, Mail, Party, World};
 use crate::judge::Word;
 use crate::model::transaction_bytes;
-use stobbarel::{in_the_way, read_message, tx_part, write_ld, Answer, Decision, Election, Holding, Message, Question, Reason, View, Vote, LONGEST};
+use stobbarel::{in_the_way, read_message, tx_part, write_ld, Answer, Decision, Election, Holding, Message, Question, Reason, UpTo, View, Vote, LONGEST};
 
 #[derive(Clone, Copy, Debug, PartialEq, Eq)]
 pub enum Style {
@@ -52,8 +52,7 @@ impl World {
     }
 
     fn lie_to(&mut self, number: u8, from: Party, depth: u64, message: &[u8]) {
-        let body = tx_part(self.group, message).to_vec();
-        let Ok(read) = read_message(self.group, message) else { return };
+        let (Some(body), Ok(read)) = (tx_part(self.group, message).map(<[u8]>::to_vec), read_message(self.group, message)) else { return };
         let view = if self.style == Style::Climber { View(65535) } else { self.highest(&body) };
         let answer = match read {
             Message::Prepare(_) if self.style == Style::Misleader => Answer::Voted(Vote::Commit, None),
@@ -65,7 +64,7 @@ impl World {
             Message::Decide(..) => Answer::Done,
             Message::Read(..) => return,
         };
-        self.send(Party::Box(number), from, depth + 1, Mail::Answer(body.clone(), answer, None));
+        self.send(Party::Box(number), from, depth + 1, Mail::Answer(body.clone(), Ok(answer), None));
         if let Answer::Elected { decision, view, leader } = answer {
             self.send(Party::Box(number), Party::Box(leader), depth + 1, Mail::Elect(body, decision, view));
         }
@@ -119,9 +118,9 @@ impl World {
 
     /// An LD for a decision, of election answers that were given and of what liars would say; none where it cannot be made.
     pub fn make_ld(&mut self, body: &[u8], view: View, decision: Decision) -> Option<Vec<u8>> {
-        let other = if decision == Decision::Commit { Decision::Abort } else { Decision::Commit };
+        let other = decision.other();
         let [agree, differ] = [decision, other].map(|one| self.gave(body, Word::Elect(model_decision(one), view.0)));
-        let needed = self.group.log_proof() as usize;
+        let needed = usize::from(self.group.log_proof());
         let mut answers: Vec<(u8, Decision, View)> = numbers(agree).map(|number| (number, decision, view)).take(needed).collect();
         if 2 * answers.len() <= needed {
             return None;
@@ -130,9 +129,7 @@ impl World {
         answers.extend(numbers(differ & !agree).map(|number| (number, other, view)).take(rest));
         answers.sort_unstable_by_key(|one| one.0);
         let tx = self.tx_of(body)?;
-        let election = Election { leader: self.leader(tx.stamp, view), decision, view, answers };
-        let mut buffer = [0; LONGEST];
-        let length = write_ld(self.group, &tx, &election, &mut buffer).ok().filter(|_| election.answers.len() == needed)?;
-        Some(buffer[..length].to_vec())
+        let election = Election { leader: self.leader(tx.stamp, view), decision, view, answers: UpTo::gather(answers).ok()? };
+        write_ld(self.group, &tx, &election, &mut [0; LONGEST]).ok().filter(|_| election.answers.len() == needed).map(<[u8]>::to_vec)
     }
 }

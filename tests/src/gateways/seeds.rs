@@ -46,7 +46,15 @@ pub fn kind(seed: u64) -> Kind {
 
 fn some_network(random: &mut Random, kind: Kind) -> Network {
     let between = if kind == Kind::Slow { (150, 250) } else { (1, 3) };
-    Network { calm: random.between(0, 300), lost: random.below(50), twice: random.below(20), held: random.below(40), late: random.between(1, 60), quick: 3, between }
+    Network {
+        calm: random.between(0, 300),
+        lost: random.below(50),
+        twice: random.below(20),
+        held: random.below(40),
+        late: random.between(1, 60),
+        quick: 3,
+        between,
+    }
 }
 
 fn some_operation(random: &mut Random, keys: u64) -> Operation {

@@ -12,7 +12,7 @@ const LONG: u64 = 20_000;
 
 fn forked(value: u64) -> Vec<u8> {
     let stamp = Stamp((FIRST_MOMENT + 5) * MOMENT + EVIL_WRITER);
-    transaction_bytes(&model_tx(&Transaction { stamp, reads: vec![], writes: vec![(Key(0), value)] }))
+    transaction_bytes(&model_tx(&Transaction::new(stamp, [], [(Key(0), value)])))
 }
 
 /// A writer signs two bodies under one stamp: one goes to these boxes, the other to the rest.
@@ -57,7 +57,7 @@ fn full_box() -> Result<(), &'static str> {
     let mut world = World::new(1, 1, 1, FLOWS, None);
     world.style = Style::Silent;
     world.hosts[5].table = Table::new(group, 1).map_err(|_| "no table")?;
-    let filler = transaction_bytes(&model_tx(&Transaction { stamp: Stamp(FIRST_MOMENT * MOMENT + 1), reads: vec![], writes: vec![(Key(9), 1)] }));
+    let filler = transaction_bytes(&model_tx(&Transaction::new(Stamp(FIRST_MOMENT * MOMENT + 1), [], [(Key(9), 1)])));
     world.signed.insert(filler.clone());
     world.at_box(5, EVIL, 0, Mail::Message(pr(&filler)));
     world.add_station(None, vec![(START, Operation { reads: vec![], writes: vec![0], again: 0 })]);
@@ -67,8 +67,12 @@ fn full_box() -> Result<(), &'static str> {
     // its owner gives it room
     let mut bytes = world.hosts[5].table.bytes().to_vec();
     bytes.resize(table_len(8), 0);
-    world.hosts[5].table = Table::kept(group, 8, bytes, *world.hosts[5].table.marks());
-    if world.run(2 * LONG) { Ok(()) } else { Err("room does not mend a full box") }
+    world.hosts[5].table = Table::kept(group, 8, bytes, Box::new(*world.hosts[5].table.marks()));
+    if world.run(2 * LONG) {
+        Ok(())
+    } else {
+        Err("room does not mend a full box")
+    }
 }
 
 /// One body is aborted by a proof, and a single box holds the other: it keeps that one undecided.
@@ -84,7 +88,11 @@ fn orphan() -> Result<(), &'static str> {
     world.run_until(LONG, |_| false);
     let aborted = (0..5).all(|number| world.hosts[number].decided(&forked(1)) == Some(Decision::Abort));
     let left = world.hosts[5].holding(stamp).is_some_and(|(holding, decided)| holding.body == forked(2) && decided.is_none());
-    if aborted && left { Ok(()) } else { Err("the body that one box holds does not stay behind") }
+    if aborted && left {
+        Ok(())
+    } else {
+        Err("the body that one box holds does not stay behind")
+    }
 }
 
 /// All of them, each with what it is.

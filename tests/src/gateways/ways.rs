@@ -6,7 +6,7 @@ use super::liars::{Style, STYLES};
 use super::world::{model_tx, Habit, Operation, World, FIRST_MOMENT, FLOWS, MOMENT};
 use crate::messages::pr;
 use crate::model::transaction_bytes;
-use stobbarel::{Key, Stamp, Transaction};
+use stobbarel::{Key, Stamp, Transaction, UpTo};
 
 #[derive(Clone, Copy, Debug, PartialEq, Eq)]
 pub enum Way {
@@ -97,8 +97,8 @@ pub fn world(way: Way, f: u64, dies_after: Option<u64>, others: Option<(u32, Sty
 
 /// What a dead gateway left: a write that reads the one before it, and every box has its PR.
 fn leave_below(world: &mut World, place: u64) {
-    let reads = if place == 0 { vec![] } else { vec![(Key(0), old_stamp(place - 1))] };
-    let tx = Transaction { stamp: old_stamp(place), reads, writes: vec![(Key(0), place)] };
+    let reads = if place == 0 { UpTo::new() } else { [(Key(0), old_stamp(place - 1))].into() };
+    let tx = Transaction::new(old_stamp(place), reads, [(Key(0), place)]);
     let body = transaction_bytes(&model_tx(&tx));
     world.signed.insert(body.clone());
     for number in world.sound().collect::<Vec<u8>>() {

@@ -11,7 +11,7 @@ use crate::messages::transaction;
 use crate::model::{self, PAPER};
 use crate::random::Random;
 use std::collections::{BTreeMap, BTreeSet};
-use stobbarel::{read_tx, tx_part, Answer, Decision, Desk, Group, Holding, Key, Letter, Load, Question, Stamp, Timing, Transaction, View};
+use stobbarel::{read_tx, tx_part, Answer, Decision, Desk, Group, Holding, Key, Letter, Load, Question, Refusal, Stamp, Timing, Transaction, UpTo, View};
 
 /// What a gateway or a host does that can be left out, to see what hangs.
 #[derive(Clone, Copy, Debug, PartialEq, Eq)]
@@ -63,7 +63,7 @@ pub enum Mail {
     Message(Vec<u8>),
     Ask(Question),
     /// A box's answer to a message with this body, and the DC that it hands over.
-    Answer(Vec<u8>, Answer, Option<Vec<u8>>),
+    Answer(Vec<u8>, Result<Answer, Refusal>, Option<Vec<u8>>),
     Told(Question, Vec<Holding>),
     /// An election answer with the body, for the leader.
     Elect(Vec<u8>, Decision, View),
@@ -71,7 +71,12 @@ pub enum Mail {
 
 enum Event {
     /// It was sent so many ways after the first of its kind.
-    Mail { from: Party, to: Party, depth: u64, mail: Mail },
+    Mail {
+        from: Party,
+        to: Party,
+        depth: u64,
+        mail: Mail,
+    },
     Wake(usize),
     Start(usize),
     Strike(usize),
@@ -180,14 +185,32 @@ pub fn model_decision(decision: Decision) -> model::Decision {
 
 impl World {
     pub fn new(f: u64, liars: u32, seed: u64, net: Network, without: Option<Habit>) -> World {
-        let group = Group::of(f).expect("f is 1 to 5");
-        let n = group.boxes() as u8;
+        let group = Group::try_from(f).expect("f is 1 to 5");
+        let n = group.boxes();
         let mut random = Random::new(seed);
         let hosts = (0..n).map(|_| Host::new(group, random.below(20))).collect();
         let judge = Judge::new(PAPER, f, liars.count_ones() as usize);
         World {
-            group, n, liars, style: Style::Silent, random, now: 0, net, without, queue: BTreeMap::new(), count: 0, hosts, stations: vec![], attacks: vec![], judge,
-            signed: BTreeSet::new(), led: BTreeSet::new(), messages: 0, met: BTreeMap::new(), wrong: None, arrows: None,
+            group,
+            n,
+            liars,
+            style: Style::Silent,
+            random,
+            now: 0,
+            net,
+            without,
+            queue: BTreeMap::new(),
+            count: 0,
+            hosts,
+            stations: vec![],
+            attacks: vec![],
+            judge,
+            signed: BTreeSet::new(),
+            led: BTreeSet::new(),
+            messages: 0,
+            met: BTreeMap::new(),
+            wrong: None,
+            arrows: None,
         }
     }
 
@@ -314,7 +337,7 @@ impl World {
         }
         let mut text = super::picture::label(self.group, mail);
         let body = match mail {
-            Mail::Message(message) => tx_part(self.group, message),
+            Mail::Message(message) => tx_part(self.group, message).unwrap_or_default(),
             Mail::Answer(body, ..) | Mail::Elect(body, ..) => body,
             Mail::Ask(_) | Mail::Told(..) => &[],
         };
@@ -346,7 +369,7 @@ impl World {
             events += 1;
             // the last message of a moment: counting stops as soon as it is done
             let last = self.queue.first_key_value().is_none_or(|((next, _), _)| *next > time);
-            if (last || events % 32 == 0) && done(self) {
+            if (last || events & 31 == 0) && done(self) {
                 return self.wrong.is_none();
             }
         }
@@ -357,11 +380,12 @@ impl World {
     /// any more.
     pub fn done(&self) -> bool {
         let starts = self.queue.values().any(|event| matches!(event, Event::Start(_)));
-        !starts && self.stations.iter().filter(|station| station.alive).all(|station| {
-            let mut on_desk = station.desk.gateways();
-            let own = |care: &Care| !care.again && care.decided.is_some_and(|(_, _, decision)| self.everywhere(&care.body, decision));
-            station.cares.iter().all(own) && on_desk.all(|gateway| gateway.outcome().is_some_and(|decision| self.everywhere(gateway.body(), decision)))
-        })
+        !starts
+            && self.stations.iter().filter(|station| station.alive).all(|station| {
+                let mut on_desk = station.desk.gateways();
+                let own = |care: &Care| !care.again && care.decided.is_some_and(|(_, _, decision)| self.everywhere(&care.body, decision));
+                station.cares.iter().all(own) && on_desk.all(|gateway| gateway.outcome().is_some_and(|decision| self.everywhere(gateway.body(), decision)))
+            })
     }
 
     fn everywhere(&self, body: &[u8], decision: Decision) -> bool {
@@ -455,9 +479,10 @@ impl World {
         }
         let sound: Vec<u8> = self.sound().collect();
         let shown_by = self.random.one_of(&sound);
-        let reads = operation.reads.iter().map(|key| (Key(*key), self.newest(shown_by, Key(*key), stamp))).collect();
-        let writes = operation.writes.iter().map(|key| (Key(*key), stamp.0 * 1000 + u64::from(*key))).collect();
-        Transaction { stamp, reads, writes }
+        let reads = operation.reads.iter().map(|key| (Key(*key), self.newest(shown_by, Key(*key), stamp)));
+        let reads = UpTo::gather(reads).expect("eight at most");
+        let writes = operation.writes.iter().map(|key| (Key(*key), stamp.0 * 1000 + u64::from(*key)));
+        Transaction { stamp, reads, writes: UpTo::gather(writes).expect("eight at most") }
     }
 
     fn newest(&mut self, number: u8, key: Key, stamp: Stamp) -> Stamp {

@@ -129,7 +129,7 @@ impl Store {
         for (key, version) in tx.reads.iter().filter(|(_, version)| *version != 0) {
             let (passed, found) = self.look_up(self.entries.iter().chain(new), *version);
             visited += passed;
-            if !self.rules.hold(Rule::EveryVersion) && found.map_or(true, |entry| self.gives_6(*key, entry)) {
+            if !self.rules.hold(Rule::EveryVersion) && found.is_none_or(|entry| self.gives_6(*key, entry)) {
                 break;
             }
         }

@@ -57,17 +57,52 @@ const C: Decision = Decision::Commit;
 const A: Decision = Decision::Abort;
 
 const RESCUES: [Rescue; 34] = [
-    Rescue { what: "3f + 1 views: to the one after", capacity: 1, told: &[(LG_50, LOGGED), (&[b"IV", BODY, FOUR_IN_0], elect(C, 1, 3))], rows: &[[0, 0, 1, 0, 0, 1]] },
-    Rescue { what: "asked again: no further", capacity: 1, told: &[(LG_50, LOGGED), (&[b"IV", BODY, FOUR_IN_0], elect(C, 1, 3)), (&[b"IV", BODY, FOUR_IN_0], elect(C, 1, 3))], rows: &[[0, 0, 1, 0, 0, 1]] },
+    Rescue {
+        what: "3f + 1 views: to the one after",
+        capacity: 1,
+        told: &[(LG_50, LOGGED), (&[b"IV", BODY, FOUR_IN_0], elect(C, 1, 3))],
+        rows: &[[0, 0, 1, 0, 0, 1]],
+    },
+    Rescue {
+        what: "asked again: no further",
+        capacity: 1,
+        told: &[(LG_50, LOGGED), (&[b"IV", BODY, FOUR_IN_0], elect(C, 1, 3)), (&[b"IV", BODY, FOUR_IN_0], elect(C, 1, 3))],
+        rows: &[[0, 0, 1, 0, 0, 1]],
+    },
     Rescue { what: "3f views: nowhere", capacity: 1, told: &[(LG_50, LOGGED), (&[b"IV", BODY, THREE_IN_0], elect(C, 0, 2))], rows: &[[0, 0, 1, 0, 0, 0]] },
     Rescue { what: "f + 1 views: up to them", capacity: 1, told: &[(LG_50, LOGGED), (&[b"IV", BODY, TWO_IN_1], elect(C, 1, 3))], rows: &[[0, 0, 1, 0, 0, 1]] },
     Rescue { what: "f views: nowhere", capacity: 1, told: &[(LG_50, LOGGED), (&[b"IV", BODY, ONE_IN_9], elect(C, 0, 2))], rows: &[[0, 0, 1, 0, 0, 0]] },
-    Rescue { what: "higher views count for lower ones", capacity: 1, told: &[(LG_50, LOGGED), (&[b"IV", BODY, FOUR_PAST_1], elect(C, 2, 4))], rows: &[[0, 0, 1, 0, 0, 2]] },
-    Rescue { what: "3f + 1 views before f + 1", capacity: 1, told: &[(LG_50, LOGGED), (&[b"IV", BODY, TWO_OF_FOUR_IN_7], elect(C, 1, 3))], rows: &[[0, 0, 1, 0, 0, 1]] },
-    Rescue { what: "never back by 3f + 1 views", capacity: 1, told: &[(LG_50, LOGGED), (&[b"IV", BODY, TWO_IN_9], elect(C, 9, 5)), (&[b"IV", BODY, FOUR_IN_0], elect(C, 9, 5))], rows: &[[0, 0, 1, 0, 0, 9]] },
-    Rescue { what: "never back by f + 1 views", capacity: 1, told: &[(LG_50, LOGGED), (&[b"IV", BODY, TWO_IN_9], elect(C, 9, 5)), (&[b"IV", BODY, TWO_IN_1], elect(C, 9, 5))], rows: &[[0, 0, 1, 0, 0, 9]] },
+    Rescue {
+        what: "higher views count for lower ones",
+        capacity: 1,
+        told: &[(LG_50, LOGGED), (&[b"IV", BODY, FOUR_PAST_1], elect(C, 2, 4))],
+        rows: &[[0, 0, 1, 0, 0, 2]],
+    },
+    Rescue {
+        what: "3f + 1 views before f + 1",
+        capacity: 1,
+        told: &[(LG_50, LOGGED), (&[b"IV", BODY, TWO_OF_FOUR_IN_7], elect(C, 1, 3))],
+        rows: &[[0, 0, 1, 0, 0, 1]],
+    },
+    Rescue {
+        what: "never back by 3f + 1 views",
+        capacity: 1,
+        told: &[(LG_50, LOGGED), (&[b"IV", BODY, TWO_IN_9], elect(C, 9, 5)), (&[b"IV", BODY, FOUR_IN_0], elect(C, 9, 5))],
+        rows: &[[0, 0, 1, 0, 0, 9]],
+    },
+    Rescue {
+        what: "never back by f + 1 views",
+        capacity: 1,
+        told: &[(LG_50, LOGGED), (&[b"IV", BODY, TWO_IN_9], elect(C, 9, 5)), (&[b"IV", BODY, TWO_IN_1], elect(C, 9, 5))],
+        rows: &[[0, 0, 1, 0, 0, 9]],
+    },
     Rescue { what: "22, not held", capacity: 1, told: &[(&[b"IV", BODY, FOUR_IN_0], refused(22))], rows: &[] },
-    Rescue { what: "22, nothing logged", capacity: 1, told: &[(&[b"PR", BODY], COMMIT), (&[b"IV", BODY, FOUR_IN_0], refused(22))], rows: &[[1, 0, 0, 0, 0, 0]] },
+    Rescue {
+        what: "22, nothing logged",
+        capacity: 1,
+        told: &[(&[b"PR", BODY], COMMIT), (&[b"IV", BODY, FOUR_IN_0], refused(22))],
+        rows: &[[1, 0, 0, 0, 0, 0]],
+    },
     Rescue { what: "22 before 24", capacity: 1, told: &[(&[b"PR", BODY], COMMIT), (&[b"IV", BODY, FOUR_IN_LAST], refused(22))], rows: &[[1, 0, 0, 0, 0, 0]] },
     Rescue {
         what: "24, and the last view itself",
@@ -81,7 +116,12 @@ const RESCUES: [Rescue; 34] = [
         ],
         rows: &[[0, 0, 1, 0, 0, 65535]],
     },
-    Rescue { what: "9 before 22 and 24", capacity: 1, told: &[(&[b"PR", BODY], COMMIT), (&[b"IV", OTHER, FOUR_IN_LAST], refused(9))], rows: &[[1, 0, 0, 0, 0, 0]] },
+    Rescue {
+        what: "9 before 22 and 24",
+        capacity: 1,
+        told: &[(&[b"PR", BODY], COMMIT), (&[b"IV", OTHER, FOUR_IN_LAST], refused(9))],
+        rows: &[[1, 0, 0, 0, 0, 0]],
+    },
     Rescue {
         what: "a box that has decided",
         capacity: 1,
@@ -102,13 +142,43 @@ const RESCUES: [Rescue; 34] = [
         told: &[(&[RD], NOTHING_FOUND), (&[b"PR", BODY], abort(5)), (LG_50, LOGGED), (&[b"IV", BODY, FOUR_IN_0], elect(C, 1, 3))],
         rows: &[[2, 5, 1, 0, 0, 1]],
     },
-    Rescue { what: "a leader's decision, over the other log", capacity: 1, told: &[(LG_50, LOGGED), (&[b"IV", BODY, FOUR_IN_0], elect(C, 1, 3)), (LD_1_ABORT, logged(A, 1))], rows: &[[0, 0, 2, 0, 1, 1]] },
-    Rescue { what: "a log answer tells the log's view", capacity: 1, told: &[(LG_50, LOGGED), (LD_1_ABORT, logged(A, 1)), (LG_50, logged(A, 1)), (&[b"IV", BODY, TWO_IN_9], elect(A, 9, 5)), (LG_50, logged(A, 1))], rows: &[[0, 0, 2, 0, 1, 9]] },
-    Rescue { what: "a log of view 0 in a later view", capacity: 1, told: &[(LG_50, LOGGED), (&[b"IV", BODY, FOUR_IN_0], elect(C, 1, 3)), (LG_50, LOGGED)], rows: &[[0, 0, 1, 0, 0, 1]] },
+    Rescue {
+        what: "a leader's decision, over the other log",
+        capacity: 1,
+        told: &[(LG_50, LOGGED), (&[b"IV", BODY, FOUR_IN_0], elect(C, 1, 3)), (LD_1_ABORT, logged(A, 1))],
+        rows: &[[0, 0, 2, 0, 1, 1]],
+    },
+    Rescue {
+        what: "a log answer tells the log's view",
+        capacity: 1,
+        told: &[(LG_50, LOGGED), (LD_1_ABORT, logged(A, 1)), (LG_50, logged(A, 1)), (&[b"IV", BODY, TWO_IN_9], elect(A, 9, 5)), (LG_50, logged(A, 1))],
+        rows: &[[0, 0, 2, 0, 1, 9]],
+    },
+    Rescue {
+        what: "a log of view 0 in a later view",
+        capacity: 1,
+        told: &[(LG_50, LOGGED), (&[b"IV", BODY, FOUR_IN_0], elect(C, 1, 3)), (LG_50, LOGGED)],
+        rows: &[[0, 0, 1, 0, 0, 1]],
+    },
     Rescue { what: "a box in an earlier view takes it", capacity: 1, told: &[(LG_50, LOGGED), (LD_2, logged(C, 2))], rows: &[[0, 0, 1, 0, 2, 2]] },
-    Rescue { what: "a box that has voted and not logged takes it", capacity: 1, told: &[(&[b"PR", BODY], COMMIT), (LD_1_ABORT, logged(A, 1)), (&[b"PR", BODY], COMMIT)], rows: &[[1, 0, 2, 0, 1, 1]] },
-    Rescue { what: "a new entry, and its PR", capacity: 1, told: &[(LD_1, logged(C, 1)), (&[b"PR", BODY], COMMIT), (&[b"LG", BODY, ABORTS], logged(C, 1))], rows: &[[1, 0, 1, 0, 1, 1]] },
-    Rescue { what: "a new entry is not live", capacity: 2, told: &[(LD_1, logged(C, 1)), (&[b"PR", READER], abort(2)), (&[RD], NOTHING_FOUND)], rows: &[[0, 0, 1, 0, 1, 1], [2, 2, 0, 0, 0, 0]] },
+    Rescue {
+        what: "a box that has voted and not logged takes it",
+        capacity: 1,
+        told: &[(&[b"PR", BODY], COMMIT), (LD_1_ABORT, logged(A, 1)), (&[b"PR", BODY], COMMIT)],
+        rows: &[[1, 0, 2, 0, 1, 1]],
+    },
+    Rescue {
+        what: "a new entry, and its PR",
+        capacity: 1,
+        told: &[(LD_1, logged(C, 1)), (&[b"PR", BODY], COMMIT), (&[b"LG", BODY, ABORTS], logged(C, 1))],
+        rows: &[[1, 0, 1, 0, 1, 1]],
+    },
+    Rescue {
+        what: "a new entry is not live",
+        capacity: 2,
+        told: &[(LD_1, logged(C, 1)), (&[b"PR", READER], abort(2)), (&[RD], NOTHING_FOUND)],
+        rows: &[[0, 0, 1, 0, 1, 1], [2, 2, 0, 0, 0, 0]],
+    },
     Rescue {
         what: "23, 21, 13 of a new entry",
         capacity: 1,
@@ -116,7 +186,12 @@ const RESCUES: [Rescue; 34] = [
         rows: &[[1, 0, 0, 0, 0, 0]],
     },
     Rescue { what: "view 0 is always 21", capacity: 1, told: &[(LD_0, refused(21)), (LG_50, LOGGED), (LD_0, refused(21))], rows: &[[0, 0, 1, 0, 0, 0]] },
-    Rescue { what: "23, another leads", capacity: 1, told: &[(&[b"LD", BODY, b"EL\x04\x01\x01\0\x05", IN_1], refused(23)), (&[b"LD", BODY, b"EL\x02\x01\x01\0\x05", IN_1], refused(23))], rows: &[] },
+    Rescue {
+        what: "23, another leads",
+        capacity: 1,
+        told: &[(&[b"LD", BODY, b"EL\x04\x01\x01\0\x05", IN_1], refused(23)), (&[b"LD", BODY, b"EL\x02\x01\x01\0\x05", IN_1], refused(23))],
+        rows: &[],
+    },
     Rescue {
         what: "23, the number of answers",
         capacity: 1,
@@ -137,17 +212,42 @@ const RESCUES: [Rescue; 34] = [
         ],
         rows: &[],
     },
-    Rescue { what: "23, their majority", capacity: 1, told: &[(&[b"LD", BODY, LEADS_1_TO_ABORT, IN_1], refused(23)), (&[b"LD", BODY, LEADS_1, TO_ABORT_IN_1], refused(23))], rows: &[] },
-    Rescue { what: "23 before 21", capacity: 1, told: &[(LD_2, logged(C, 2)), (LD_1, refused(21)), (&[b"LD", BODY, LEADS_1, TO_ABORT_IN_1], refused(23)), (&[b"LD", BODY, LEADS_0, IN_1], refused(23))], rows: &[[0, 0, 1, 0, 2, 2]] },
+    Rescue {
+        what: "23, their majority",
+        capacity: 1,
+        told: &[(&[b"LD", BODY, LEADS_1_TO_ABORT, IN_1], refused(23)), (&[b"LD", BODY, LEADS_1, TO_ABORT_IN_1], refused(23))],
+        rows: &[],
+    },
+    Rescue {
+        what: "23 before 21",
+        capacity: 1,
+        told: &[(LD_2, logged(C, 2)), (LD_1, refused(21)), (&[b"LD", BODY, LEADS_1, TO_ABORT_IN_1], refused(23)), (&[b"LD", BODY, LEADS_0, IN_1], refused(23))],
+        rows: &[[0, 0, 1, 0, 2, 2]],
+    },
     Rescue {
         what: "21, the current view is above",
         capacity: 1,
         told: &[(LG_50, LOGGED), (&[b"IV", BODY, FOUR_PAST_1], elect(C, 2, 4)), (LD_1, refused(21)), (LD_2, logged(C, 2))],
         rows: &[[0, 0, 1, 0, 2, 2]],
     },
-    Rescue { what: "21, logged in this view", capacity: 1, told: &[(LD_1, logged(C, 1)), (LD_1, refused(21)), (LD_1_ABORT, refused(21))], rows: &[[0, 0, 1, 0, 1, 1]] },
-    Rescue { what: "a DC leaves the views", capacity: 1, told: &[(LD_1, logged(C, 1)), (&[b"IV", BODY, TWO_IN_9], elect(C, 9, 5)), (&[b"DC", BODY, PROVES_ABORT], Answer::Done)], rows: &[[0, 0, 1, 2, 1, 9]] },
-    Rescue { what: "a body that replaces another has none", capacity: 1, told: &[(LD_1, logged(C, 1)), (&[b"IV", BODY, TWO_IN_9], elect(C, 9, 5)), (&[b"DC", OTHER, PROVES_COMMIT], Answer::Done)], rows: &[[0, 0, 0, 1, 0, 0]] },
+    Rescue {
+        what: "21, logged in this view",
+        capacity: 1,
+        told: &[(LD_1, logged(C, 1)), (LD_1, refused(21)), (LD_1_ABORT, refused(21))],
+        rows: &[[0, 0, 1, 0, 1, 1]],
+    },
+    Rescue {
+        what: "a DC leaves the views",
+        capacity: 1,
+        told: &[(LD_1, logged(C, 1)), (&[b"IV", BODY, TWO_IN_9], elect(C, 9, 5)), (&[b"DC", BODY, PROVES_ABORT], Answer::Done)],
+        rows: &[[0, 0, 1, 2, 1, 9]],
+    },
+    Rescue {
+        what: "a body that replaces another has none",
+        capacity: 1,
+        told: &[(LD_1, logged(C, 1)), (&[b"IV", BODY, TWO_IN_9], elect(C, 9, 5)), (&[b"DC", OTHER, PROVES_COMMIT], Answer::Done)],
+        rows: &[[0, 0, 0, 1, 0, 0]],
+    },
 ];
 
 /// Vote, reason, log, decision, logged view and current view of each entry.
@@ -195,7 +295,9 @@ pub(super) fn moves(tried: &mut Tried) {
         let (boxes, many, few) = (5 * f + 1, 3 * f + 1, f + 1);
         let stood = logged_in(current);
         let settings = Settings { f, capacity: 1, clock: 100, delta: 10 };
-        for (high, count, others) in [1u16, 2, 3, 4, 255, 256, 65534, 65535].into_iter().flat_map(|high| (1..=boxes).flat_map(move |count| [(high, count, false), (high, count, true)])) {
+        for (high, count, others) in
+            [1u16, 2, 3, 4, 255, 256, 65534, 65535].into_iter().flat_map(|high| (1..=boxes).flat_map(move |count| [(high, count, false), (high, count, true)]))
+        {
             let views: Vec<(u8, u16)> = (0..if others { boxes } else { count }).map(|number| (number as u8, if number < count { high } else { 0 })).collect();
             // by 3f + 1 in the high view; by 3f + 1 in any, so in view 0; by f + 1 in the high view
             let next = match () {
@@ -253,7 +355,12 @@ fn elected(tried: &mut Tried, what: &str, lent: ElectionSheet, f: u64, [number, 
     let (mut by_engine, mut by_model) = (lent, lent);
     let reply = engine::elect(&mut by_engine, f, number, answer, view);
     let modelled = model::elect(&mut by_model, f, number, answer, view);
-    tried.one(&format!("{what}, f {f}, box {number}, answer {answer} for view {view} on {lent:?}"), (Some(due.0), due.1), (reply, by_engine), (Some(modelled), by_model));
+    tried.one(
+        &format!("{what}, f {f}, box {number}, answer {answer} for view {view} on {lent:?}"),
+        (Some(due.0), due.1),
+        (reply, by_engine),
+        (Some(modelled), by_model),
+    );
 }
 
 const fn leads(view: u16, commits: u32, aborts: u32) -> ElectionSheet {

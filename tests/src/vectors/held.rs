@@ -48,12 +48,7 @@ const HELD: [After; 18] = [
         50,
         Some((0, OTHER, (Vote::None, Some(C), None, 0))),
     ),
-    (
-        "a shorter body that replaced another",
-        &[&[b"PR", BOTH], &[b"DC", BODY, PROVES_COMMIT]],
-        50,
-        Some((0, BODY, (Vote::None, Some(C), None, 0))),
-    ),
+    ("a shorter body that replaced another", &[&[b"PR", BOTH], &[b"DC", BODY, PROVES_COMMIT]], 50, Some((0, BODY, (Vote::None, Some(C), None, 0)))),
     ("a message that was refused", &[&[b"LG", BODY, THREE]], 50, None),
 ];
 

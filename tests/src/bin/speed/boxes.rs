@@ -3,11 +3,7 @@
 use crate::flat;
 use crate::model::{self, row_at, Answer, Settings, Store, MARKS};
 use stobbarel::layout::{DECIDED_AT, LOG_AT};
-
-#[allow(improper_ctypes, clashing_extern_declarations)]
-extern "C" {
-    fn stobbarel_receive(table: *mut u8, table_len: usize, marks: *mut u64, f: u64, capacity: u64, clock: u64, delta: u64, message: *const u8, message_len: usize, out: *mut u64);
-}
+use stobbarel_sys::stobbarel_receive;
 
 /// What makes a call repeatable: what it changed is put back.
 #[derive(Clone, Copy)]
@@ -64,7 +60,20 @@ impl Timed for Engine {
         let (table, marks) = (&mut self.0.table, &mut self.0.marks);
         let mut out = [0; 5];
         // Each pointer is to as many numbers as the function takes, and they do not overlap.
-        unsafe { stobbarel_receive(table.as_mut_ptr(), table.len(), marks.as_mut_ptr(), s.f, s.capacity, s.clock, s.delta, message.as_ptr(), message.len(), out.as_mut_ptr()) }
+        unsafe {
+            stobbarel_receive(
+                table.as_mut_ptr(),
+                table.len(),
+                marks.as_mut_ptr(),
+                s.f,
+                s.capacity,
+                s.clock,
+                s.delta,
+                message.as_ptr(),
+                message.len(),
+                out.as_mut_ptr(),
+            )
+        }
         out
     }
 
