@@ -14,8 +14,11 @@
  * call on a mapped file that is cut off in the middle can leave a row half written. A box that answered and then lost what it had answered counts as one
  * of the f that lie. After a refusal nothing has changed, and nothing has to be written.
  *
- * A full box stays full. No entry is ever dropped, and at capacity a new transaction is refused with 13, even one that would be voted down. Until
- * forgetting lands, 255 transactions are a box's life.
+ * A full box forgets only when you tell it to. At capacity a new transaction is refused with 13, even one that would be voted down. stobbarel_raise
+ * raises the box's low mark: of the entries at or below it, all of which have to be decided, the committed ones fold into one version and value for
+ * each key, and those and the aborted ones leave their room. It is a call and no message: no peer may ask for it, and each box has its own mark.
+ * Raise only to a mark below which every commit that the box should know has reached it: a box that never received a commit at or below its low
+ * mark will not learn it any more, since what is old is refused with 18. docs/KEEPERS.md says what to do first.
  *
  * 16 is no check of damage. It tells codes outside their lists, counts that cannot be, and a table too short; a spoiled value or stamp it takes as it
  * stands, and in read marks it sees nothing. Keep a checksum of both, and do not call with what fails it.
@@ -35,9 +38,10 @@
  *   3 logged   decision (1 commit, 2 abort), the view that it was logged in (0 to 65535), 0, 0
  *   4 done     0, 0, 0, 0
  *   5 found    committed version, its value, undecided version, its value (0, 0 where there is none)
- *   6 refused  number (1 to 16, 21 to 24), beside 11 how many counted answers the list lacks (1 to its threshold), else 0, 0, 0;
+ *   6 refused  number (1 to 16, 18, 19, 21 to 24), beside 11 how many counted answers the list lacks (1 to its threshold), else 0, 0, 0;
  *              table and read marks are unchanged
  *   7 elected  the logged decision (1 commit, 2 abort), the current view (0 to 65535), the box that leads it, 0
+ *   8 raised   0, 0, 0, 0
  */
 #ifndef STOBBAREL_H
 #define STOBBAREL_H
@@ -46,9 +50,9 @@
 #include <stdint.h>
 
 /* Of this header and what was installed with it. Before 1.0 a new minor number may come with another layout or other numbers. */
-#define STOBBAREL_VERSION "0.6.0"
+#define STOBBAREL_VERSION "0.7.0"
 #define STOBBAREL_VERSION_MAJOR 0
-#define STOBBAREL_VERSION_MINOR 6
+#define STOBBAREL_VERSION_MINOR 7
 #define STOBBAREL_VERSION_PATCH 0
 
 /* An array of so many numbers at least, and pointers that are not null, by their places: told to compilers that can be told. */
@@ -67,10 +71,13 @@
 extern "C" {
 #endif
 
-/* A table: the head, then a row for each entry. What stands in a row behind the transaction's bytes, and in the table behind the
- * last entry's row, is not looked at. The package in rust/ takes its numbers from these lines; tests/layout holds them against
- * the engine's. */
-#define STOBBAREL_HEAD 1        /* Bytes in front of the rows: the count of entries. */
+/* A table: the head, then a row for each entry. The head is the count of entries, the low mark, and for each key the folded version: its stamp, then its
+ * value; any numbers there are taken as they stand. What stands in a row behind the transaction's bytes, and in the table behind the last entry's row, is
+ * not looked at. The package in rust/ takes its numbers from these lines; tests/layout holds them against the engine's. */
+#define STOBBAREL_HEAD 8201     /* Bytes in front of the rows: the count of entries, the low mark and the folded versions. */
+#define STOBBAREL_LOW_AT 1      /* Where in a table the low mark stands, eight bytes, the lowest first. */
+#define STOBBAREL_FOLDS_AT 9    /* Where in a table the folded versions stand, in the order of their keys. */
+#define STOBBAREL_FOLD 16       /* Bytes of a folded version: eight for its stamp, 0 where there is none, then eight for its value, the lowest first. */
 #define STOBBAREL_ROW 180       /* Bytes of a row. */
 #define STOBBAREL_VOTE_AT 0     /* Where in a row the vote stands: 0 none, 1 commit, 2 abort, 3 waiting. */
 #define STOBBAREL_REASON_AT 1   /* Where in a row the reason stands: 1 to 6 beside an abort, else 0. */
@@ -133,7 +140,8 @@ enum stobbarel_answer {
     STOBBAREL_DONE = 4,
     STOBBAREL_FOUND = 5,
     STOBBAREL_REFUSED = 6,
-    STOBBAREL_ELECTED = 7
+    STOBBAREL_ELECTED = 7,
+    STOBBAREL_RAISED = 8
 };
 
 /* The first number of a tally's reply. */
@@ -171,6 +179,8 @@ enum stobbarel_refusal {
     STOBBAREL_AHEAD = 15,
     STOBBAREL_TABLE = 16,
     STOBBAREL_BUFFER = 17,
+    STOBBAREL_OLD = 18,
+    STOBBAREL_UNDECIDED = 19,
     STOBBAREL_PASSED = 21,
     STOBBAREL_NOT_LOGGED = 22,
     STOBBAREL_ELECTION = 23,
@@ -186,12 +196,14 @@ enum stobbarel_refusal {
 static inline const char *stobbarel_reason_text(uint64_t reason) {
     switch (reason) {
     case STOBBAREL_REASON_AHEAD: return "ahead: stamp above clock + delta";
-    case STOBBAREL_REASON_NO_VERSION: return "no version: a read names a nonzero version that is not a live entry writing that key";
+    case STOBBAREL_REASON_NO_VERSION:
+        return "no version: a read names a nonzero version that is not a live entry writing that key, nor, at or below the low mark, the folded one";
     case STOBBAREL_REASON_OVERWRITTEN:
-        return "overwritten: a live entry writes a key read here, its stamp above the version read and below this stamp";
+        return "overwritten: a live entry writes a key read here, its stamp above the version read and below this stamp, or the key's folded version is above";
     case STOBBAREL_REASON_UNDERCUTS: return "undercuts: a live entry with a higher stamp read a key written here at a version below this stamp";
     case STOBBAREL_REASON_READ_MARK: return "read mark: a written key's read mark is above this stamp";
-    case STOBBAREL_REASON_DEPENDENCY: return "dependency: a version read is decided abort, or committed by a body that lacks the key, or not held";
+    case STOBBAREL_REASON_DEPENDENCY:
+        return "dependency: a version read is decided abort, or committed by a body that lacks the key, or not held, or old and not the folded one";
     default: return "";
     }
 }
@@ -218,6 +230,8 @@ static inline const char *stobbarel_refusal_text(uint64_t refusal) {
         return "table: in a lent table, fewer bytes than its capacity needs, more entries than the capacity, an entry's r or w above 8, or a vote, reason, "
                "log or decision code outside its list; in a lent tally sheet, a kind not 1 or 2, a box n or more, or a box under both answers";
     case STOBBAREL_BUFFER: return "buffer: output buffer shorter than the record";
+    case STOBBAREL_OLD: return "old: the stamp is at or below the low mark, or the low mark is not above the present one";
+    case STOBBAREL_UNDECIDED: return "undecided: an entry at or below the low mark is undecided";
     case STOBBAREL_PASSED: return "passed: the box's view is above that of the leader's decision, or its logged view is not below";
     case STOBBAREL_NOT_LOGGED: return "not logged: the box holds no log for this body";
     case STOBBAREL_ELECTION: return "election: the leader, the number of answers, their view or their majority is wrong; fewer than 4f + 1 on a leader's sheet";
@@ -245,6 +259,13 @@ STOBBAREL_NONNULL(4, 11)
 void stobbarel_due(uint64_t mark, uint8_t *table, size_t table_len, uint64_t marks[STOBBAREL_OF(512)], uint64_t f, uint64_t capacity, uint64_t clock,
                    uint64_t delta, const uint8_t *message, size_t message_len, uint64_t answer[STOBBAREL_OF(5)]);
 
+/* Raises the low mark to `low`. Every held entry at or below it has to be decided. Committed ones fold into one version and value for each key, the
+ * newest; those and the aborted ones leave the table, and the others close up in their order. Answers raised, or refused with 14, 16, 18 (not above the
+ * present low mark), 19 (an entry at or below it is undecided). From then on a message with a stamp at or below it is refused with 18. What
+ * stands behind the rows that are left stays as it stood. Clock and read marks do not matter. */
+STOBBAREL_NONNULL(6)
+void stobbarel_raise(uint8_t *table, size_t table_len, uint64_t f, uint64_t capacity, uint64_t low, uint64_t answer[STOBBAREL_OF(5)]);
+
 /* A box as its host keeps it, for the calls below. */
 struct stobbarel_box {
     uint8_t *table;    /* STOBBAREL_TABLE_LEN(capacity) bytes or more */
@@ -267,6 +288,12 @@ STOBBAREL_NONNULL(2, 5)
 static inline void stobbarel_call_due(uint64_t mark, const struct stobbarel_box *box, const uint8_t *message, size_t message_len,
                                       uint64_t answer[STOBBAREL_OF(5)]) {
     stobbarel_due(mark, box->table, box->table_len, box->marks, box->f, box->capacity, box->clock, box->delta, message, message_len, answer);
+}
+
+/* The low mark raised: the box lets old entries go. */
+STOBBAREL_NONNULL(1, 3)
+static inline void stobbarel_forget(const struct stobbarel_box *box, uint64_t low, uint64_t answer[STOBBAREL_OF(5)]) {
+    stobbarel_raise(box->table, box->table_len, box->f, box->capacity, low, answer);
 }
 
 /* PR: vote on a transaction. */

@@ -1,7 +1,7 @@
 /* Every function of the header, called. The paper's bench example by way of the C interface: 50 writes key 3, 60 reads it, an RD shows it. Then a
  * gateway: votes go to its tally as they were answered, a list is logged; the logs of five boxes, on a sheet for view 0, prove the decision. Of the
  * messages two are bytes, the others are written by the engine. Then a rescue: 70 was left by a gateway that died, and a leader of
- * view 1 finishes it. Then a passage; null pointers beside length 0; the texts. In C99, C11 and C++17. */
+ * view 1 finishes it. Then a passage; old entries let go; null pointers beside length 0; the texts. In C99, C11 and C++17. */
 #include <stdio.h>
 #include <string.h>
 
@@ -16,10 +16,14 @@ static struct stobbarel_box box = {table, sizeof table, marks, F, CAPACITY, CLOC
 /* Any of the seven ways in. */
 typedef void entrance(const struct stobbarel_box *, const uint8_t *, size_t, uint64_t *);
 
+static void show(void) {
+    for (int i = 0; i < 5; i++) printf("%llu%c", (unsigned long long)answer[i], i < 4 ? ' ' : '\n');
+}
+
 /* Sends a message and shows the answer: the vote, where it is one. */
 static uint64_t send(entrance *by, const uint8_t *message, size_t length) {
     by(&box, message, length, answer);
-    for (int i = 0; i < 5; i++) printf("%llu%c", (unsigned long long)answer[i], i < 4 ? ' ' : '\n');
+    show();
     return answer[0] == STOBBAREL_VOTED ? answer[1] : 0;
 }
 
@@ -92,6 +96,36 @@ static int ahead(void) {
     return 0;
 }
 
+/* A number of eight bytes, the lowest first. */
+static uint64_t eight(const uint8_t *at) {
+    uint64_t number = 0;
+    for (int i = 7; i >= 0; i--) number = number << 8 | at[i];
+    return number;
+}
+
+/* 50 is committed, 60 is undecided: the low mark cannot be raised to 60. Raised to 50, what 50 wrote is folded and its room is free;
+ * its PR is old, and so is an RD at its stamp. The same mark again is not above the present one. */
+static int forget(void) {
+    const struct stobbarel_tx tx = {50, 0, 1, {0}, {0}, {3}, {7}};
+    const uint8_t *fold = table + STOBBAREL_FOLDS_AT + 3 * STOBBAREL_FOLD;
+    uint8_t message[STOBBAREL_LONGEST];
+    size_t length;
+    const uint64_t lows[] = {60, 50, 50};
+    for (int i = 0; i < 3; i++) {
+        stobbarel_forget(&box, lows[i], answer);
+        show();
+    }
+    printf("low mark %d, at key 3 is folded %d by %d, %d entries are left\n", (int)eight(table + STOBBAREL_LOW_AT), (int)eight(fold + 8), (int)eight(fold),
+           table[0]);
+    if (stobbarel_make_pr(&tx, message, sizeof message, &length) != 0) return 1;
+    send(stobbarel_prepare, message, length);
+    for (uint64_t stamp = 50; stamp <= 51; stamp++) {
+        if (stobbarel_write_rd(3, stamp, message, sizeof message, &length) != 0) return 1;
+        send(stobbarel_read, message, length);
+    }
+    return 0;
+}
+
 /* What the structs name: two rows of a lent table, a DC and an RD. */
 static int names(void) {
     const struct stobbarel_tx tx = {51, 1, 2, {3}, {50}, {6, 7}, {70, 71}};
@@ -147,6 +181,10 @@ static int nulls(void) {
     wrong += answer[0] != STOBBAREL_REFUSED || answer[1] != STOBBAREL_SHORT;
     stobbarel_call(&none, NULL, 0, answer);
     wrong += answer[0] != STOBBAREL_REFUSED || answer[1] != STOBBAREL_TABLE;
+    stobbarel_forget(&none, 50, answer);
+    wrong += answer[0] != STOBBAREL_REFUSED || answer[1] != STOBBAREL_TABLE;
+    stobbarel_raise(NULL, 0, 0, CAPACITY, 50, answer);
+    wrong += answer[0] != STOBBAREL_REFUSED || answer[1] != STOBBAREL_GROUP;
     wrong += stobbarel_held(NULL, 0, CAPACITY, 50, held) != STOBBAREL_TABLE || held[0] != 0;
     wrong += stobbarel_reading(F, NULL, 0) != STOBBAREL_SHORT;
     wrong += stobbarel_reading_tx(NULL, 0) != STOBBAREL_SHORT;
@@ -217,7 +255,7 @@ int main(void) {
     printf("%d %d\n", stobbarel_reading(F, write, length), (int)stobbarel_part(F, write, length));
     if (stobbarel_thresholds(F, needed) != 0) return 1;
     printf("%d boxes: %d %d %d %d %d\n", (int)needed[0], (int)needed[1], (int)needed[2], (int)needed[3], (int)needed[4], (int)needed[5]);
-    if (rescue() != 0 || passage() != 0 || ahead() != 0 || names() != 0) return 1;
+    if (rescue() != 0 || passage() != 0 || ahead() != 0 || forget() != 0 || names() != 0) return 1;
     printf("%d wrong answers to null pointers\n", nulls());
     return texts();
 }

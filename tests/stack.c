@@ -29,6 +29,13 @@ static void hold(void) {
     stobbarel_held(table, sizeof table, CAPACITY, 2 * 254, held);
 }
 
+static uint64_t low = 2 * 254;
+
+/* The low mark raised to the last of the 254 stamps. */
+static void forget(void) {
+    stobbarel_raise(table, sizeof table, group, CAPACITY, low, answer);
+}
+
 static void due(void) {
     stobbarel_due(mark, table, sizeof table, marks, group, CAPACITY, 1000, 0, message, message_len, answer);
 }
@@ -199,6 +206,11 @@ int main(void) {
     size_t bytes = used(hold) - used(nothing);
     printf("%-52s %5zu\n", "held, under the last of 254 stamps", bytes);
     if (held[0] != STOBBAREL_TABLE_LEN(253) + STOBBAREL_BODY_AT || held[1] != 12 + 10 * 16 || bytes > LIMIT) failed = 1;
+    printf("%-52s %5zu\n", "raise, an undecided one among 254", taken(forget, STOBBAREL_REFUSED, STOBBAREL_UNDECIDED));
+    for (size_t row = 0; row < 254; row++) table[STOBBAREL_TABLE_LEN(row) + STOBBAREL_DECIDED_AT] = row % 2 == 0 ? STOBBAREL_COMMIT : STOBBAREL_ABORT;
+    printf("%-52s %5zu\n", "raise, 254 entries leave", taken(forget, STOBBAREL_RAISED, 0));
+    low = 254;
+    printf("%-52s %5zu\n", "raise, half of 254 entries leave", taken(forget, STOBBAREL_RAISED, 0));
     group = 0;
     show("refused with 14", STOBBAREL_REFUSED, STOBBAREL_GROUP);
     return failed;

@@ -101,7 +101,7 @@ pub struct Version {
 
 impl Version {
     /// A version as the engine tells it, 0 and 0 where there is none.
-    fn of(stamp: u64, value: u64) -> Option<Version> {
+    pub(crate) fn of(stamp: u64, value: u64) -> Option<Version> {
         ((stamp, value) != (0, 0)).then_some(Version { stamp: Stamp(stamp), value })
     }
 }
@@ -134,7 +134,7 @@ pub enum Answer {
     Done,
     /// To an RD.
     Found {
-        /// The newest writer below that is committed.
+        /// The newest writer below that is committed, or what is folded at the key.
         committed: Option<Version>,
         /// The newest writer below that is live and undecided.
         undecided: Option<Version>,

@@ -135,7 +135,7 @@ pub struct Gateway {
     /// The first vote of each box, and what it lacks.
     votes: Sheet,
     lacks: Reply,
-    /// Boxes that wait; that cannot take the body (9, 13); that voted abort for an entry that may be undecided (2, 3, 4).
+    /// Boxes that wait; that cannot take the body (9, 13, 18); that voted abort for an entry that may be undecided (2, 3, 4).
     waiting: u32,
     barred: u32,
     clashed: u32,
@@ -155,7 +155,7 @@ pub struct Gateway {
     falls: u32,
     /// The DC.
     proof: Option<(Decision, Vec<u8>)>,
-    /// Boxes that need it no more: they answered Done, Decided, 9 or 12.
+    /// Boxes that need it no more: they answered Done, Decided, 9, 12 or 18.
     settled: u32,
 }
 
@@ -253,8 +253,13 @@ impl Gateway {
                 handed.into_iter().for_each(|dc| self.handed(dc));
             }
             Ok(Answer::Done) => self.settled |= bit,
-            Err(Refusal::OtherBody | Refusal::Contradiction) if self.step == Step::Done => self.settled |= bit,
+            Err(Refusal::OtherBody | Refusal::Contradiction | Refusal::Old) if self.step == Step::Done => self.settled |= bit,
             Err(Refusal::OtherBody | Refusal::Full) => self.barred |= bit,
+            // it has let the transaction go, and its host may have kept the proof
+            Err(Refusal::Old) => {
+                self.barred |= bit;
+                handed.into_iter().for_each(|dc| self.handed(dc));
+            }
             Err(Refusal::NotLogged) if self.step == Step::Fall => {
                 self.unlogged |= bit;
                 out = self.letters(bit, &self.lg.clone());

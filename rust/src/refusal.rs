@@ -50,6 +50,10 @@ pub enum Refusal {
     Table,
     /// 17: the output buffer is shorter than the record.
     Buffer,
+    /// 18: the stamp is at or below the box's low mark, or a low mark is not above the present one.
+    Old,
+    /// 19: something at or below the low mark to be raised to is undecided.
+    Undecided,
     /// 21: the box's current view is above that of a leader's decision, or its logged view is not below.
     Passed,
     /// 22: the box holds no log for this body, so that it has no election answer to give.
@@ -73,7 +77,7 @@ pub enum Refusal {
 use Refusal::*;
 
 /// Those that tell no more than their number: all but [`Refusal::TooFew`].
-const PLAIN: [Refusal; 25] = [
+const PLAIN: [Refusal; 27] = [
     Short,
     Mark,
     Count,
@@ -90,6 +94,8 @@ const PLAIN: [Refusal; 25] = [
     Ahead,
     Table,
     Buffer,
+    Old,
+    Undecided,
     Passed,
     NotLogged,
     Election,
@@ -127,6 +133,8 @@ impl Refusal {
             Ahead => 15,
             Table => 16,
             Buffer => 17,
+            Old => 18,
+            Undecided => 19,
             Passed => 21,
             NotLogged => 22,
             Election => 23,
@@ -164,6 +172,8 @@ impl Refusal {
             Ahead => "ahead: the stamp is above clock + delta",
             Table => "table: more entries than the capacity or too few bytes for it, or a row with more than 8 reads or writes or a wrong code",
             Buffer => "buffer: it is shorter than the record",
+            Old => "old: the stamp is at or below the low mark, or the low mark is not above the present one",
+            Undecided => "undecided: an entry at or below the low mark is undecided",
             Passed => "passed: the box's view is above the leader's, or its log's view is not below",
             NotLogged => "not logged: the box holds no log for this body",
             Election => "election: a wrong leader, number of answers, view or majority",

@@ -1,10 +1,10 @@
 //! One box: its table and read marks, and the calls.
 
-use crate::answer::{Answer, answered};
+use crate::answer::{Answer, Version, answered};
 use crate::held::Held;
-use crate::layout::KEYS;
+use crate::layout::{FOLD, FOLDS_AT, HEAD, KEYS, LOW_AT};
 use crate::refusal::Refusal;
-use crate::terms::{Group, Mark, Stamp};
+use crate::terms::{Group, Key, Mark, Stamp};
 #[cfg(feature = "alloc")]
 use alloc::{boxed::Box, vec, vec::Vec};
 use core::borrow::{Borrow, BorrowMut};
@@ -145,6 +145,44 @@ impl<B: Borrow<[u8]>, M: Borrow<[u64; KEYS]>> Table<B, M> {
     pub fn held(&self, stamp: Stamp) -> Result<Option<Held<'_>>, Refusal> {
         Held::of(self.bytes(), self.capacity, stamp)
     }
+
+    /// The low mark: what is at or below it, the box has let go. 0 before it is raised. Refused is a table that is too short for its head ([`Refusal::Table`]).
+    ///
+    /// ```
+    /// use stobbarel::{Group, Stamp, Table};
+    ///
+    /// let mut table = Table::new(Group::of(1)?, 8)?;
+    /// table.raise(Stamp(50))?;
+    /// assert_eq!(table.low(), Ok(Stamp(50)));
+    /// # Ok::<(), stobbarel::Refusal>(())
+    /// ```
+    pub fn low(&self) -> Result<Stamp, Refusal> {
+        self.eight(LOW_AT).map(Stamp)
+    }
+
+    /// What the committed entries that left are folded into at a key, none where nothing is. Refused are a key above 511 ([`Refusal::Range`]) and a table that is
+    /// too short for its head ([`Refusal::Table`]).
+    ///
+    /// ```
+    /// use stobbarel::{Group, Key, Refusal, Table};
+    ///
+    /// let table = Table::new(Group::of(1)?, 8)?;
+    /// assert_eq!((table.fold(Key(3)), table.fold(Key(512))), (Ok(None), Err(Refusal::Range)));
+    /// # Ok::<(), Refusal>(())
+    /// ```
+    pub fn fold(&self, key: Key) -> Result<Option<Version>, Refusal> {
+        let key = usize::from(key.0);
+        if key >= KEYS {
+            return Err(Refusal::Range);
+        }
+        Ok(Version::of(self.eight(FOLDS_AT + FOLD * key)?, self.eight(FOLDS_AT + FOLD * key + 8)?))
+    }
+
+    /// A number of the head.
+    fn eight(&self, at: usize) -> Result<u64, Refusal> {
+        let head = self.bytes().get(..HEAD).ok_or(Refusal::Table)?;
+        Ok(u64::from_le_bytes(head[at..at + 8].try_into().expect("eight bytes")))
+    }
 }
 
 impl<B: BorrowMut<[u8]>, M: BorrowMut<[u64; KEYS]>> Table<B, M> {
@@ -188,6 +226,40 @@ impl<B: BorrowMut<[u8]>, M: BorrowMut<[u64; KEYS]>> Table<B, M> {
     pub fn due(&mut self, mark: Mark, clock: u64, delta: u64, message: &[u8]) -> Result<Answer, Refusal> {
         let (mark, f, capacity) = (mark as u64, self.group.f().into(), self.capacity);
         self.answer(|t, n, k, row| unsafe { c::stobbarel_due(mark, t, n, k, f, capacity, clock, delta, message.as_ptr(), message.len(), row) })
+    }
+
+    /// Raises the low mark: of the entries at or below it the committed ones fold into one version and value for each key, the newest; those and the aborted ones
+    /// leave, and their room is free again. Refused are a mark that is not above the present one ([`Refusal::Old`]), and one at or above something undecided
+    /// ([`Refusal::Undecided`]); before them a table that is not in order ([`Refusal::Table`]). From then on a message with a stamp at or below it is refused
+    /// ([`Refusal::Old`]), so that a commit that had not reached this box will not reach it any more: docs/KEEPERS.md says what to do first.
+    ///
+    /// ```
+    /// use stobbarel::{Answer, Decision, Group, Key, LONGEST, Refusal, Stamp, Table, Transaction, Version, VoteList, write_dc, write_pr};
+    ///
+    /// let group = Group::of(1)?;
+    /// let (mut table, mut buffer) = (Table::new(group, 1)?, [0; LONGEST]);
+    /// let [first, next] = [50, 60].map(|stamp| Transaction::new(Stamp(stamp), [], [(Key(3), 7)]));
+    /// let six = VoteList::votes(Decision::Commit, [0, 1, 2, 3, 4, 5].map(|number| (number, Decision::Commit)));
+    /// assert_eq!(table.decide(100, 10, write_dc(group, &first, &six, &mut buffer)?), Ok(Answer::Done));
+    /// assert_eq!(table.prepare(100, 10, write_pr(&next, &mut buffer)?), Err(Refusal::Full));
+    ///
+    /// table.raise(Stamp(50))?;
+    /// assert!(table.prepare(100, 10, write_pr(&next, &mut buffer)?).is_ok());
+    /// assert_eq!(table.fold(Key(3)), Ok(Some(Version { stamp: Stamp(50), value: 7 })));
+    /// assert_eq!(table.prepare(100, 10, write_pr(&first, &mut buffer)?), Err(Refusal::Old));
+    /// assert_eq!((table.raise(Stamp(50)), table.raise(Stamp(60))), (Err(Refusal::Old), Err(Refusal::Undecided)));
+    /// # Ok::<(), Refusal>(())
+    /// ```
+    pub fn raise(&mut self, low: Stamp) -> Result<(), Refusal> {
+        let (f, capacity, bytes) = (self.group.f().into(), self.capacity, self.bytes.borrow_mut());
+        let mut row = [0; 5];
+        // SAFETY: the pointers are to as many numbers as the function takes, and what is lent for writing is this table's own.
+        unsafe { c::stobbarel_raise(bytes.as_mut_ptr(), bytes.len(), f, capacity, low.0, row.as_mut_ptr()) };
+        match row {
+            [8, 0, 0, 0, 0] => Ok(()),
+            [6, number, 0, 0, 0] => Err(Refusal::told(number as u8)),
+            _ => panic!("the engine's five numbers say no more than raised or refused"),
+        }
     }
 
     /// PR: vote on a transaction.

@@ -202,25 +202,25 @@ coded!(Kind: Votes is "votes", Logs is "logs");
 pub enum Reason {
     /// 1: the stamp is above clock + δ.
     Ahead = 1,
-    /// 2: a version read is not a live entry that writes the key.
+    /// 2: a version read is not a live entry that writes the key; one at or below the low mark is not the folded one.
     NoVersion = 2,
-    /// 3: a live entry writes a key read here, between the version and this stamp.
+    /// 3: a live entry writes a key read here, between the version and this stamp; or the key's folded version is above the version.
     Overwritten = 3,
     /// 4: a live entry above read a key written here, at a version below.
     Undercuts = 4,
     /// 5: a written key's read mark is above this stamp.
     ReadMark = 5,
-    /// 6: what was waited for is aborted, lacks the key or is not held.
+    /// 6: what was waited for is aborted, lacks the key or is not held; or it is old by now, and not the folded one.
     Dependency = 6,
 }
 
 coded!(Reason:
     Ahead is "its stamp is above clock + delta",
-    NoVersion is "a version read is no live entry that writes the key",
-    Overwritten is "a live entry writes a key read here, between the version and this stamp",
+    NoVersion is "a version read is no live entry that writes the key, nor the folded one",
+    Overwritten is "a live entry writes a key read here, between the version and this stamp, or a folded one is above the version",
     Undercuts is "a live entry above read a key written here, at a version below",
     ReadMark is "a written key's read mark is above this stamp",
-    Dependency is "what it waited for is aborted, lacks the key or is not held"
+    Dependency is "what it waited for is aborted, lacks the key, is not held, or is old and not the folded one"
 );
 
 /// A group of 5f + 1 boxes, of which at most f are faulty, and how many answers each thing needs. Its boxes are numbered from 0.

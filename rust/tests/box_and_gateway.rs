@@ -168,6 +168,7 @@ fn refusals_have_the_papers_numbers() {
     use Refusal::*;
     let all = [Short, Mark, Count, Trailing, Range, Order, Misbehaviour, Code, OtherBody, Unknown, TooFew(3), Contradiction, Full, Group, Ahead, Table, Buffer];
     assert_eq!(all.map(Refusal::number), [1, 2, 3, 4, 5, 6, 7, 8, 9, 10, 11, 12, 13, 14, 15, 16, 17]);
+    assert_eq!([Old, Undecided].map(Refusal::number), [18, 19]);
     assert_eq!([Passed, NotLogged, Election, LastView].map(Refusal::number), [21, 22, 23, 24]);
     assert_eq!([Passage, Versions, Direction, AxleCount, HotAxle].map(Refusal::number), [26, 27, 28, 29, 30]);
     assert_eq!(all.iter().filter_map(|one| one.lacking()).collect::<Vec<u8>>(), [3]);

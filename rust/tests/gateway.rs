@@ -56,7 +56,7 @@ impl Line {
         if answer == Ok(Answer::Done) {
             self.proofs.insert((to, body.clone()), message.to_vec());
         }
-        let handed = self.proofs.get(&(to, body.clone())).filter(|_| matches!(answer, Ok(Answer::Decided(_)))).cloned();
+        let handed = self.proofs.get(&(to, body.clone())).filter(|_| matches!(answer, Ok(Answer::Decided(_)) | Err(Refusal::Old))).cloned();
         self.said.push((to, body.clone(), answer, handed));
         if let Ok(Answer::Elected { decision, view, leader }) = answer {
             let one = Leader::new(self.group, leader, &body).unwrap();
@@ -192,6 +192,30 @@ fn a_proof_that_reached_one_box_is_handed_over() {
     line.settle(&mut desk, letters, 1);
     assert_eq!(desk.outcome(&body(&tx)), Some(Commit));
     assert_eq!(line.decided(&tx), [None, Some(Commit), Some(Commit), None, None, None]);
+}
+
+#[test]
+fn a_box_that_has_let_it_go_hands_over_what_it_kept() {
+    let mut line = Line::new();
+    let tx = writes(50, 7);
+    let six = VoteList::votes(Commit, alike(0..6, Commit));
+    line.message(2, &bytes(|out| write_dc(line.group, &tx, &six, out)));
+    line.boxes[2].raise(Stamp(50)).unwrap();
+    line.said.clear();
+    // one more has let it go, and never held it
+    line.boxes[3].raise(Stamp(60)).unwrap();
+    let mut gateway = Gateway::new(line.group, tx, TIMING).unwrap();
+    let letters = gateway.start(0);
+    line.bring(letters);
+    assert_eq!(line.said[2].2, Err(Refusal::Old));
+    for (from, _, answer, handed) in std::mem::take(&mut line.said) {
+        let letters = gateway.hear(from, answer, handed.as_deref(), 1);
+        line.bring(letters);
+    }
+    assert_eq!(gateway.outcome(), Some(Commit));
+    // to the proof both answer that it is old: they need it no more
+    let olds = line.said.iter().filter(|said| said.2 == Err(Refusal::Old)).count();
+    assert_eq!((olds, line.said.iter().filter(|said| said.2 == Ok(Answer::Done)).count()), (2, 4));
 }
 
 #[test]

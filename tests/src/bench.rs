@@ -43,6 +43,7 @@ pub fn words(answer: Answer) -> String {
         Answer::Found { committed, undecided } => format!("{} {} {} {}", committed.0, committed.1, undecided.0, undecided.1),
         Answer::TooFew(lacking) => format!("refused 11 {lacking}"),
         Answer::Refused(number) => format!("refused {number}"),
+        Answer::Raised => "ok".into(),
     }
 }
 
@@ -72,6 +73,14 @@ impl Bench {
             self.settings.clock = eight(&rest[2..10]);
             return ("ok".into(), Some(10));
         }
+        if &rest[..2] == b"LM" {
+            if rest.len() < 10 {
+                return refused(1);
+            }
+            let Settings { f, capacity, .. } = self.settings;
+            let answer = model::low::raise(&mut self.table, f, capacity, eight(&rest[2..10]), &mut Vec::new());
+            return (words(answer), Some(10));
+        }
         match model::cut(rest) {
             Err(number) => refused(number),
             Ok(length) => {
@@ -92,7 +101,8 @@ pub fn bench(input: &[u8]) -> Vec<u8> {
         if rest.is_empty() {
             break;
         }
-        let mark = rest.get(..2).and_then(|mark| std::str::from_utf8(mark).ok()).filter(|mark| ["GP", "CK", "PR", "LG", "DC", "RD", "IV", "LD"].contains(mark));
+        let mark =
+            rest.get(..2).and_then(|mark| std::str::from_utf8(mark).ok()).filter(|mark| ["GP", "CK", "LM", "PR", "LG", "DC", "RD", "IV", "LD"].contains(mark));
         let (text, taken) = match &mut at_work {
             _ if rest.len() < 2 => refused(1),
             Some(bench) => bench.record(rest),
@@ -121,6 +131,10 @@ fn ck(clock: u64) -> Vec<u8> {
     [&b"CK"[..], &clock.to_le_bytes()].concat()
 }
 
+fn lm(low: u64) -> Vec<u8> {
+    [&b"LM"[..], &low.to_le_bytes()].concat()
+}
+
 const EXAMPLE_IN_HEX: [&str; 5] = [
     "47 50 01 08 0A 00 00 00 00 00 00 00",
     "43 4B 64 00 00 00 00 00 00 00",
@@ -138,7 +152,7 @@ fn example() -> Vec<u8> {
 
 // ---- inputs
 
-/// A GP, then CKs and messages as the generator makes them, about so many bytes long.
+/// A GP, then CKs, LMs and messages as the generator makes them, about so many bytes long.
 fn stream(random: &mut Random, long: usize) -> Vec<u8> {
     let mut run = mix::Run::new(random);
     let Settings { f, capacity, delta, mut clock } = run.settings;
@@ -149,6 +163,12 @@ fn stream(random: &mut Random, long: usize) -> Vec<u8> {
         if run.settings.clock != clock {
             clock = run.settings.clock;
             bytes.extend(ck(clock));
+        }
+        if let Some(low) = run.next_low(random) {
+            let settings = run.settings;
+            model::low::raise(&mut run.table, settings.f, settings.capacity, low, &mut Vec::new());
+            bytes.extend(lm(low));
+            continue;
         }
         let message = run.message(random);
         if model::cut(&message) == Ok(message.len()) {
@@ -192,7 +212,7 @@ fn damage(random: &mut Random, bytes: &mut Vec<u8>) {
             bytes.splice(12..12, gp(1, 8, 0));
         }
         3 => {
-            let mark = random.one_of(&[b"TX", b"VL", b"XX", b"gp", b"CK", b"PR", b"RD", &[0, 0], &[255, 255]]);
+            let mark = random.one_of(&[b"TX", b"VL", b"XX", b"gp", b"CK", b"LM", b"PR", b"RD", &[0, 0], &[255, 255]]);
             let place = random.one_of(&[0, 12]);
             bytes.splice(place..(place + 2).min(bytes.len()), *mark);
         }
@@ -216,7 +236,7 @@ fn particular(random: &mut Random) -> Vec<Vec<u8>> {
     // too long, though it would have stopped at once
     inputs.push(vec![b'X'; LONGEST + 1]);
     inputs.push(vec![b'X'; LONGEST]);
-    for first in [&b"G"[..], b"GP", b"CK", b"PR", b"LG", b"DC", b"RD", b"IV", b"LD", b"TX", b"VL", b"VS", b"EL", b"??", b"\n", b"\xc3\xa9"] {
+    for first in [&b"G"[..], b"GP", b"CK", b"LM", b"L", b"PR", b"LG", b"DC", b"RD", b"IV", b"LD", b"TX", b"VL", b"VS", b"EL", b"??", b"\n", b"\xc3\xa9"] {
         inputs.push(first.to_vec());
         inputs.push([first, &example()[..]].concat());
         inputs.push([&example()[..], first].concat());
@@ -224,6 +244,14 @@ fn particular(random: &mut Random) -> Vec<Vec<u8>> {
     // a version that is waited for and then decided abort, which a mixture seldom has
     let aborted = with_list(b"DC", &tx(50, &[], &[(3, 7)]), Kind::Votes, Decision::Abort, &[0, 1, 2, 3].map(|number| (number, Decision::Abort)));
     inputs.push([example(), aborted, pr(&tx(60, &[(3, 50)], &[]))].concat());
+    // the example's writer decided either way, and the low mark raised to it, to the same again and past it, an RD behind each
+    for (decision, votes) in [(Decision::Commit, 6), (Decision::Abort, 4)] {
+        let decided = with_list(b"DC", &tx(50, &[], &[(3, 7)]), Kind::Votes, decision, &[0, 1, 2, 3, 4, 5].map(|number| (number, decision))[..votes]);
+        let raised: Vec<u8> =
+            [49, 50, 50, 49, 59, 60, u64::MAX].into_iter().flat_map(|low| [lm(low), rd(3, 70), pr(&tx(60, &[(3, 50)], &[]))].concat()).collect();
+        inputs.push([&example()[..], &lm(50), &decided, &raised].concat());
+        inputs.extend((1..10).map(|length| [&example()[..], &decided, &lm(50)[..length]].concat()));
+    }
     for (f, capacity) in [(0, 8), (1, 0), (5, 255), (6, 8), (255, 255)] {
         inputs.push([gp(f, capacity, 10), ck(100)].concat());
         inputs.push(gp(f, capacity, 10)[..11].to_vec());
@@ -348,7 +376,7 @@ fn due() -> Vec<String> {
     let fixed = ["ok", "commit", "wait", "decided commit", "decided abort", "done", "found", "too long", ONE_LACKING, MORE_LACKING];
     let fixed = fixed.into_iter().chain(FIRST_LOGS).chain(LATER_LOGS).chain(ELECTS);
     let aborts = (1..=6).map(|reason| format!("abort {reason}"));
-    let refusals = (1..=24).filter(|number| ![4, 10, 11].contains(number) && !(16..=20).contains(number)).map(|number| format!("refused {number}"));
+    let refusals = (1..=24).filter(|number| ![4, 10, 11].contains(number) && ![16, 17, 20].contains(number)).map(|number| format!("refused {number}"));
     fixed.map(|word| word.to_string()).chain(aborts).chain(refusals).collect()
 }
 

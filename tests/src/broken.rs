@@ -13,7 +13,7 @@ use crate::records;
 use stobbarel::layout::{BODY_AT, HEAD, REASON_AT, ROW, VOTE_AT};
 
 /// Messages, or answers for sheets, within which the comparison has to notice a wrong box.
-const COMPARED: u64 = 50_000;
+const COMPARED: u64 = 200_000;
 /// Pairs of decisions within which a box has to show in which order they came.
 const PAIRS: u64 = 2_000;
 /// Records within which the comparison of records has to notice one.
@@ -145,6 +145,41 @@ const FALLBACK_SAFE: [Broken; 13] = [
     holds("an LG brings a box back to view 0", &[Rule::LogLeavesView], "without a log it has given no election answer"),
 ];
 
+/// A11: readings of it that break demand 3.
+const LOW: [Broken; 11] = [
+    falls("18 is not given to a PR", &[Rule::OldRefused(0)]),
+    falls("18 is not given to an LG", &[Rule::OldRefused(1)]),
+    falls("18 is not given to a leader's decision", &[Rule::OldRefused(5)]),
+    falls("an undecided entry leaves with the others", &[Rule::UndecidedStay]),
+    falls("a folded version gives no reason 3", &[Rule::FoldGives3]),
+    falls("the last in the table folds, not the newest", &[Rule::NewestFolds]),
+    falls("aborted ones fold too", &[Rule::AbortedDoNot]),
+    falls("an old version is the folded one if it is any key's", &[Rule::FoldedByKey]),
+    falls("an old version is as good as committed in the waiting rule", &[Rule::OldWaitsInVain]),
+    falls("a stamp at the low mark is not old", &[Rule::OldAtTheMark]),
+    falls("committed ones only leave", &[Rule::CommittedFold]),
+];
+
+/// A11: what does no harm.
+const LOW_SAFE: [Broken; 14] = [
+    // it answers nothing that a box can be held to, and what it stores is decided by a proof
+    holds("18 is not given to a DC", &[Rule::OldRefused(2)], "a proof is a proof"),
+    holds("18 is not given to an RD", &[Rule::OldRefused(3)], "a read mark only aborts more"),
+    holds("18 is not given to an IV", &[Rule::OldRefused(4)], "what has left has no log"),
+    holds("18 after 11 and 13", &[Rule::OldFirst], "only the number differs"),
+    holds("18 of an RD before 15", &[Rule::OldAfterAhead], "only the number differs"),
+    holds("19 before 18", &[Rule::OldBeforeUndecided], "only the number differs"),
+    holds("a low mark may be raised to where it is", &[Rule::RaisedAbove], "nothing more leaves"),
+    holds("aborted ones stay", &[Rule::AbortedLeave], "they are refused with 18"),
+    holds("the rest does not stay in order", &[Rule::InOrder], "order is for equal stamps"),
+    holds("a folded version above the own stamp gives no reason 3", &[Rule::AnyFoldAbove], "it is below what is not old"),
+    holds("an old version is looked up in the table", &[Rule::OldNotLookedUp], "a box only aborts more"),
+    // nothing slips under the read, but something comes between it and what it showed
+    slips("an RD does not fall back to the folded version", &[Rule::ReadFallsBack], "what is shown is for readers"),
+    slips("an RD takes the folded version before the table", &[Rule::TableBeforeFold], "what is shown is for readers"),
+    holds("what was folded before gives way, be it newer", &[Rule::NewerFoldStays], "what is not old is newer"),
+];
+
 /// What a box that does not look at a view never shows, and its readers and writers do; the three above are held against these too.
 const IN_RECORDS: [(&str, Rules); 5] = [
     ("a view's higher byte stands first", Rules { broken: &[Rule::LowByteFirst] }),
@@ -274,7 +309,7 @@ impl Member for Bad {
     fn call(&mut self, entrance: Entrance, table: &mut Vec<u8>, marks: &mut Vec<u64>, settings: &Settings, message: &[u8]) -> Result<Answer, String> {
         let by = |entrance, table: &mut Vec<u8>, marks: &mut Vec<u64>| Model(PAPER).call(entrance, table, marks, settings, message);
         let properly = |table: &mut Vec<u8>, marks: &mut Vec<u64>| by(entrance, table, marks);
-        let no_mark = entrance.taken().is_empty();
+        let no_mark = entrance.taken().is_empty() && !matches!(entrance, Entrance::Raise(_));
         match self {
             Bad::RefusesAll => Ok(Answer::Refused(13)),
             Bad::VotesCommit => Ok(match properly(table, marks)? {
@@ -290,7 +325,7 @@ impl Member for Bad {
             Bad::TakesAnyMark if !no_mark => by(Entrance::Receive, table, marks),
             Bad::CutsTheNumber => match entrance {
                 Entrance::Due(number) => by(Entrance::Due(number & 255), table, marks),
-                Entrance::Receive => properly(table, marks),
+                Entrance::Receive | Entrance::Raise(_) => properly(table, marks),
             },
             Bad::NumberFirst if no_mark => Ok(Answer::Refused(2)),
             Bad::MessageFirst => Ok(match properly(table, marks)? {
@@ -382,7 +417,7 @@ impl Member for Bad {
                 let held = own()?;
                 let mut places = (0..table[0].into()).filter(|place| table[row_at(*place) + BODY_AT + 4..][..8] == stamp.to_le_bytes());
                 let Some(last) = places.next_back() else { return Ok(held) };
-                let alone = [&[1], &table[row_at(last)..row_at(last + 1)]].concat();
+                let alone = [&[1], &[0; HEAD - 1][..], &table[row_at(last)..row_at(last + 1)]].concat();
                 Ok(model::held(&alone, 1, stamp)?.map(|held| Holding { at: row_at(last) + BODY_AT, ..held }))
             }
             Bad::HoldsNothingFor(refusal) => own().or_else(|number| if number == *refusal { Ok(None) } else { Err(number) }),
@@ -447,7 +482,7 @@ const ORDER: [(&str, Rule); 4] = [
 const ORDERLY: [(&str, Rule); 2] = [("RD takes the last among equals", Rule::FirstAmongEquals), ("a look-up takes the last of a stamp", Rule::FirstOfAStamp)];
 
 /// A6: boxes that vote as they should, and count otherwise.
-const COUNTING: [(&str, Rule); 7] = [
+const COUNTING: [(&str, Rule); 9] = [
     ("the entry found is not counted", Rule::FoundCounts),
     ("the look-up of the own stamp is not counted", Rule::OwnCounts),
     ("tests 3 and 4 do not count dead entries", Rule::DeadCount),
@@ -455,6 +490,8 @@ const COUNTING: [(&str, Rule); 7] = [
     ("what stands behind a failing test is counted", Rule::EndsThere),
     ("the waiting rule stops at the first that gives 6", Rule::EveryVersion),
     ("a number beside the same vote again", Rule::NoNumberAgain),
+    ("a look-up at or below the low mark is counted", Rule::OldNotCounted),
+    ("entries are counted where the folded version fails the key", Rule::FoldCountsNone),
 ];
 
 /// The comparison has to notice each of them, and but for the number it is the paper's box, by which no order of decisions shows.
@@ -497,7 +534,18 @@ pub fn check(most: u64, seed: u64) -> bool {
     let search = Search { most, seed };
     println!("a rule broken: the first message at which the comparison differs, the first cluster that sees demand 3 or A10 broken");
     let mut passed = true;
-    for broken in SLIPS.iter().chain(&THRESHOLDS_AND_LISTS).chain(&TESTS).chain(&ENTRIES).chain(&LATE).chain(&VIEWS).chain(&FALLBACK).chain(&FALLBACK_SAFE) {
+    for broken in SLIPS
+        .iter()
+        .chain(&THRESHOLDS_AND_LISTS)
+        .chain(&TESTS)
+        .chain(&ENTRIES)
+        .chain(&LATE)
+        .chain(&VIEWS)
+        .chain(&FALLBACK)
+        .chain(&FALLBACK_SAFE)
+        .chain(&LOW)
+        .chain(&LOW_SAFE)
+    {
         passed &= noticed(broken, search);
     }
     for (what, rules) in VIEWS.iter().map(|broken| (broken.what, broken.rules)).chain(IN_RECORDS) {

@@ -4,16 +4,18 @@
 //!
 //! Lists keep to the demand's premise: under a sound box's number stands only what it gave for exactly this body, a log or an election answer with the decision
 //! and the view that it was given with; under a liar's number stands anything. A list that names a box twice is sent too: a box has to refuse it. The views of an IV
-//! are under no premise. What finishes a transaction that a dead gateway left is in cluster/fallback.rs, and reads of many boxes in cluster/reads.rs.
+//! are under no premise. What finishes a transaction that a dead gateway left is in cluster/fallback.rs, reads of many boxes in cluster/reads.rs, and boxes that let old
+//! entries go, each when it likes, in cluster/low.rs.
 
 mod fallback;
+mod low;
 mod reads;
 
 use crate::engine::Entrance;
 use crate::judge::{Judge, Word};
 use crate::member::Member;
 use crate::messages::{code, iv, ld, pr, rd, transaction, with_view};
-use crate::model::{Answer, Decision, Election, ElectionSheet, Kind, Reply, Rules, Settings, Sheet, Transaction, ViewSheet, Vote, PAPER};
+use crate::model::{low_of, Answer, Decision, Election, ElectionSheet, Kind, Reply, Rules, Settings, Sheet, Transaction, ViewSheet, Vote, PAPER};
 use crate::random::Random;
 use fallback::{Lie, Told};
 use std::collections::{BTreeMap, VecDeque};
@@ -32,7 +34,7 @@ pub const DECIDED_BY_FALLBACK: &str = "a transaction decided by the fallback";
 pub const COMMITTED_AT_A_READ: &str = "a body at the stamp of such a read committed, that no sound one of them had held";
 
 /// What a standard number of runs has to meet.
-const EVENTS: [&str; 99] = [
+const EVENTS: [&str; 116] = [
     "run with f = 1",
     "run with f = 2",
     "run with f = 3",
@@ -132,6 +134,23 @@ const EVENTS: [&str; 99] = [
     "a sheet lacks one answer for a threshold",
     "a wait refused by a gateway's sheet",
     "a clock went back",
+    "raised",
+    "raised, a committed one folded",
+    "raised, an aborted one left",
+    "raised, a full table has room again",
+    "refused 18, the low mark is not above",
+    "refused 18, a PR",
+    "refused 18, an LG",
+    "refused 18, a DC",
+    "refused 18, an RD",
+    "refused 18, an IV",
+    "refused 18, an LD",
+    "refused 19",
+    "vote commit, a folded version read",
+    "abort 2, an old version that is not the folded one",
+    "abort 3, for a folded version",
+    "abort 6, an old version that is not the folded one",
+    "a body committed that a box had let go",
 ];
 
 /// How often each event occurred.
@@ -166,8 +185,16 @@ impl Counts {
         }
     }
 
-    fn refused(&mut self, number: u8) {
+    fn refused(&mut self, mark: &[u8; 2], number: u8) {
         match number {
+            18 => self.count(match mark {
+                b"PR" => "refused 18, a PR",
+                b"LG" => "refused 18, an LG",
+                b"DC" => "refused 18, a DC",
+                b"RD" => "refused 18, an RD",
+                b"IV" => "refused 18, an IV",
+                _ => "refused 18, an LD",
+            }),
             6 => self.count("refused  6"),
             7 => self.count("refused  7"),
             9 => self.count("refused  9"),
@@ -239,6 +266,8 @@ enum Act {
     LogAt(u32),
     /// RDs of a key at a stamp at these boxes.
     ReadAt(u32, u16, u64),
+    /// These boxes raise their low marks.
+    ForgetAt(u32, u64),
     /// The gateway dies.
     Die,
     /// An IV at these boxes.
@@ -356,6 +385,8 @@ struct Cluster<'a> {
     most_bodies: usize,
     /// It begins with a transaction that is left split, and little else goes on meanwhile.
     quiet: bool,
+    /// How many steps in a thousand are a box that lets old entries go.
+    forgetful: u64,
     /// How far back the message may stand that arrives next.
     window: u64,
 }
@@ -392,6 +423,7 @@ impl<'a> Cluster<'a> {
         judge.slips = plan.slips;
         let (most_bodies, quiet) = (random.between(2, 9) as usize, random.chance(30));
         let window = random.one_of(&[3, 12, 100]);
+        let forgetful = random.one_of(&[0, 0, 0, 2, 5, 15]);
         Cluster {
             one,
             counts,
@@ -412,6 +444,7 @@ impl<'a> Cluster<'a> {
             spread,
             most_bodies,
             quiet,
+            forgetful,
             window,
         }
     }
@@ -492,6 +525,9 @@ impl<'a> Cluster<'a> {
         if self.random.chance(2) {
             self.turn_a_clock();
         }
+        if self.random.below(1000) < self.forgetful {
+            self.forget_somewhere()?;
+        }
         // few enough on their way that gateways get answers while they live
         let room = self.letters.len() < 5 * self.boxes.len();
         if self.letters.is_empty() || self.random.chance(2) {
@@ -534,6 +570,7 @@ impl Cluster<'_> {
                 12..=23 => return self.miss_the_prepare(),
                 24..=31 => return self.leave_it_split(),
                 32..=37 => return self.read_of_many(),
+                38..=53 => return self.let_go(),
                 _ => {}
             }
         }
@@ -734,7 +771,7 @@ impl Cluster<'_> {
                 Ok(if self.random.chance(80) { committed.0.max(undecided.0) } else { committed.0 })
             }
             Answer::Refused(number) => {
-                self.counts.refused(number);
+                self.counts.refused(b"RD", number);
                 Ok(0)
             }
             odd => Err(format!("an RD was answered {odd:?}")),
@@ -776,6 +813,11 @@ impl Cluster<'_> {
             Act::ReadAt(boxes, key, stamp) => {
                 for number in numbers(boxes) {
                     self.read_at(number, key, stamp)?;
+                }
+            }
+            Act::ForgetAt(boxes, low) => {
+                for number in numbers(boxes & !self.liars) {
+                    self.forget(number, low)?;
                 }
             }
             Act::Die => self.die(from),
@@ -1115,10 +1157,10 @@ impl Cluster<'_> {
             }
             Answer::TooFew(lacking) => self.too_few(letter, lacking),
             Answer::Refused(number) => {
-                self.counts.refused(number);
+                self.counts.refused(&letter.mark, number);
                 Ok(())
             }
-            Answer::Found { .. } => Err("something other than an RD was answered with versions".into()),
+            Answer::Found { .. } | Answer::Raised => Err("a message of a gateway was answered with versions, or as a low mark".into()),
         }
     }
 
@@ -1165,6 +1207,7 @@ impl Cluster<'_> {
         if reason == 2 && self.read_what_is_only_logged(letter.to, body) {
             self.counts.count("abort 2, the version read was only logged");
         }
+        self.voted_by_folds(letter.to, body, reason);
         self.late(letter, if decision == Decision::Commit { "such a box had the PR later, vote commit" } else { "such a box had the PR later, abort" });
         let waiting = &mut self.seen[body].waiting;
         if *waiting & 1 << letter.to != 0 {
@@ -1259,6 +1302,10 @@ impl Cluster<'_> {
         }
         if self.judge.bodies.iter().filter(|known| known.tx.stamp == tx.stamp).count() > 1 {
             self.counts.count("a second body under one stamp committed");
+        }
+        let stamp = tx.stamp;
+        if numbers(!self.liars & ((1 << self.boxes.len()) - 1)).into_iter().any(|number| low_of(&self.boxes[number].table) >= stamp) {
+            self.counts.count("a body committed that a box had let go");
         }
         self.committed_beside_reads(body);
     }

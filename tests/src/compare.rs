@@ -13,7 +13,7 @@ use std::collections::BTreeMap;
 use stobbarel::layout::{table_len, BODY_AT, HEAD, LOG_AT, LOG_VIEW_AT, ROW};
 
 /// Every answer to a message; 17 is the writers'.
-const ANSWERS: [&str; 38] = [
+const ANSWERS: [&str; 41] = [
     "commit",
     "wait",
     "done",
@@ -52,6 +52,9 @@ const ANSWERS: [&str; 38] = [
     "refused 22",
     "refused 23",
     "refused 24",
+    "refused 18",
+    "refused 19",
+    "raised",
 ];
 
 /// The one that is no longer given.
@@ -71,7 +74,9 @@ pub fn name(answer: Answer) -> &'static str {
         Answer::Elected { decision, .. } => 10 + second(decision),
         Answer::TooFew(_) => 17 + 11,
         Answer::Refused(number @ 1..=16) => 17 + number as usize,
+        Answer::Refused(number @ 18..=19) => 38 + number as usize - 18,
         Answer::Refused(number) => 34 + number as usize - 21,
+        Answer::Raised => 40,
     }]
 }
 
@@ -226,8 +231,8 @@ struct Trail {
     capacity: Option<u64>,
     /// 16 has come since.
     interrupted: bool,
-    /// The entrances of calls that were not refused: receive, and due for each mark.
-    used: [bool; 7],
+    /// The entrances of calls that were not refused: receive, due for each mark, and raise.
+    used: [bool; 8],
 }
 
 impl Trail {
@@ -245,7 +250,7 @@ impl Trail {
         met.extend(in_view(how.message, answer).into_iter().chain(passes(how.message, answer)).chain(beside_no_log(before, how.message, answer)));
         let mut meet = |circumstance: &'static str, does: bool| met.extend(does.then_some(circumstance));
         let (mark, taken) = (how.message.first_chunk().filter(|mark| MARKS.contains(mark)), how.entrance.taken());
-        let no_mark = taken.is_empty();
+        let no_mark = taken.is_empty() && !matches!(how.entrance, Entrance::Raise(_));
         meet("due another mark than the message has", refused == 2 && !no_mark && mark.is_some_and(|mark| !taken.contains(&mark)));
         meet("due no mark, and the message is short", refused == 2 && no_mark && how.message.len() < 2);
         meet("due no mark, 14 before it", refused == 14 && no_mark);
@@ -270,7 +275,11 @@ impl Trail {
         self.capacity = Some(capacity);
         if refused == 0 {
             let whole = self.used.iter().all(|used| *used);
-            self.used[if let Entrance::Due(number) = how.entrance { number as usize } else { 0 }] = true;
+            self.used[match how.entrance {
+                Entrance::Receive => 0,
+                Entrance::Due(number) => number as usize,
+                Entrance::Raise(_) => 7,
+            }] = true;
             meet("a table that every entrance has changed or read", !whole && self.used.iter().all(|used| *used));
         }
     }
@@ -296,8 +305,9 @@ fn for_each_message(random: &mut Random, count: u64, mut act: impl FnMut(Call) -
             done += 1;
             run.disturb(random);
             let settings = run.next_settings(random);
-            let message = run.message(random);
-            let entrance = entrance_for(random, &message);
+            let raised = run.next_low(random);
+            let message = if raised.is_some() { Vec::new() } else { run.message(random) };
+            let entrance = raised.map_or_else(|| entrance_for(random, &message), Entrance::Raise);
             let mut broken = run.broken_table(random);
             let mut spare = if broken.is_some() { run.marks.clone() } else { Vec::new() };
             let how = How { entrance, settings, message: &message, run: runs, own: broken.is_none() };
@@ -328,7 +338,10 @@ impl Copies {
         self.got_marks.clone_from(marks);
         self.marks_before.clone_from(marks);
         let given = one.call(entrance, &mut self.got, &mut self.got_marks, &settings, message);
-        let due = model::call(table, marks, &settings, message, entrance.taken(), met);
+        let due = match entrance {
+            Entrance::Raise(low) => model::low::raise(table, settings.f, settings.capacity, low, met),
+            _ => model::call(table, marks, &settings, message, entrance.taken(), met),
+        };
         if given.as_ref() == Ok(&due) && self.got == *table && self.got_marks == *marks {
             return (due, Ok(()));
         }
@@ -339,7 +352,8 @@ impl Copies {
 
     fn differences(&self, table: &[u8], marks: &[u64]) -> String {
         let entries = self.before.first().copied().unwrap_or(0);
-        let mut text = format!("  table before: {entries} entries, {} bytes\n", self.before.len());
+        let low = if self.before.len() < HEAD { 0 } else { model::low_of(&self.before) };
+        let mut text = format!("  table before: {entries} entries, low mark {low}, {} bytes\n", self.before.len());
         for (i, row) in self.before.get(HEAD..).unwrap_or(&[]).chunks(ROW).take(entries as usize).enumerate() {
             text += &format!("    {i}: {}\n", hex(row));
         }
@@ -721,6 +735,9 @@ pub fn check(one: &mut dyn Member, count: u64, seed: u64) -> bool {
     missing += print(&counts.cases, &CIRCUMSTANCES);
     missing += print(&counts.cases, &HOLDINGS);
     missing += print(&counts.cases, &model::visits::NUMBERS);
+    missing += print(&counts.cases, &model::low::LOWS);
+    let times = |answer| counts.answers.get(answer).copied().unwrap_or(0);
+    println!("{} low marks were raised, {} calls were refused with 18 and {} with 19", times("raised"), times("refused 18"), times("refused 19"));
     let (number, held) = counts.most;
     println!("{number:9}  the most entries that a PR visited, with {held} held; the bound there is {}", bound(held));
     counts.sheets(one, &mut random, count / 4);

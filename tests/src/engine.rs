@@ -5,10 +5,10 @@ use crate::model::{
 };
 
 use stobbarel_sys::{
-    stobbarel_due, stobbarel_elect, stobbarel_election, stobbarel_fields, stobbarel_held, stobbarel_part, stobbarel_reading, stobbarel_reading_el,
-    stobbarel_reading_tx, stobbarel_reading_vl, stobbarel_reading_vs, stobbarel_receive, stobbarel_take, stobbarel_tell, stobbarel_thresholds, stobbarel_told,
-    stobbarel_views, stobbarel_write_el, stobbarel_write_iv, stobbarel_write_ld, stobbarel_write_listed, stobbarel_write_pr, stobbarel_write_rd,
-    stobbarel_write_tx, stobbarel_write_vl, stobbarel_write_vs,
+    stobbarel_due, stobbarel_elect, stobbarel_election, stobbarel_fields, stobbarel_held, stobbarel_part, stobbarel_raise, stobbarel_reading,
+    stobbarel_reading_el, stobbarel_reading_tx, stobbarel_reading_vl, stobbarel_reading_vs, stobbarel_receive, stobbarel_take, stobbarel_tell,
+    stobbarel_thresholds, stobbarel_told, stobbarel_views, stobbarel_write_el, stobbarel_write_iv, stobbarel_write_ld, stobbarel_write_listed,
+    stobbarel_write_pr, stobbarel_write_rd, stobbarel_write_tx, stobbarel_write_vl, stobbarel_write_vs,
 };
 
 /// By which function a message comes.
@@ -18,6 +18,8 @@ pub enum Entrance {
     Receive,
     /// `stobbarel_due` with this number for the mark.
     Due(u64),
+    /// `stobbarel_raise` with this low mark: it takes no message, and neither clock nor read marks.
+    Raise(u64),
 }
 
 impl Entrance {
@@ -29,14 +31,15 @@ impl Entrance {
         MARKS.iter().position(|one| *one == mark).map(|place| Entrance::Due(place as u64 + 1))
     }
 
-    pub const NAMES: [&'static str; 8] =
-        ["by receive", "by due, PR", "by due, LG", "by due, DC", "by due, RD", "by due, IV", "by due, LD", "by due, a number that is no mark"];
+    pub const NAMES: [&'static str; 9] =
+        ["by receive", "by due, PR", "by due, LG", "by due, DC", "by due, RD", "by due, IV", "by due, LD", "by due, a number that is no mark", "by raise"];
 
     pub fn name(self) -> &'static str {
         match self {
             Entrance::Receive => Self::NAMES[0],
             Entrance::Due(number @ 1..=6) => Self::NAMES[number as usize],
             Entrance::Due(_) => Self::NAMES[7],
+            Entrance::Raise(_) => Self::NAMES[8],
         }
     }
 
@@ -45,7 +48,7 @@ impl Entrance {
         match self {
             Entrance::Receive => &MARKS,
             Entrance::Due(number @ 1..=6) => &MARKS[number as usize - 1..number as usize],
-            Entrance::Due(_) => &[],
+            Entrance::Due(_) | Entrance::Raise(_) => &[],
         }
     }
 }
@@ -86,8 +89,9 @@ pub fn answer_of(out: [u64; 5]) -> Option<Answer> {
         [4, 0, 0, 0, 0] => Some(Answer::Done),
         [5, a, b, c, d] => Some(Answer::Found { committed: (a, b), undecided: (c, d) }),
         [6, 11, lacking @ 1..=26, 0, 0] => Some(Answer::TooFew(lacking as u8)),
-        [6, number @ (1..=10 | 12..=17 | 21..=24), 0, 0, 0] => Some(Answer::Refused(number as u8)),
+        [6, number @ (1..=10 | 12..=19 | 21..=24), 0, 0, 0] => Some(Answer::Refused(number as u8)),
         [7, code, view @ 0..=65535, leader @ 0..=25, 0] => decision(code).map(|decision| Answer::Elected { decision, view: view as u16, leader: leader as u8 }),
+        [8, 0, 0, 0, 0] => Some(Answer::Raised),
         _ => None,
     }
 }
@@ -111,6 +115,7 @@ pub fn call(entrance: Entrance, table: &mut [u8], marks: &mut [u64], s: &Setting
         match entrance {
             Entrance::Receive => stobbarel_receive(t, n, k, s.f, s.capacity, s.clock, s.delta, m, l, o),
             Entrance::Due(mark) => stobbarel_due(mark, t, n, k, s.f, s.capacity, s.clock, s.delta, m, l, o),
+            Entrance::Raise(low) => stobbarel_raise(t, n, s.f, s.capacity, low, o),
         }
     }
     if room[..GUARD].iter().chain(&room[GUARD + table.len()..]).any(|byte| *byte != 0xa5) {

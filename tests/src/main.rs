@@ -14,6 +14,7 @@ mod member;
 mod messages;
 mod mix;
 mod model;
+mod month;
 mod order;
 mod passages;
 mod random;
@@ -28,13 +29,14 @@ use std::process::exit;
 
 const USAGE: &str = "\
 stobbarel-tests [compare] [COUNT [SEED]]   COUNT messages (2000000) on the engine and on the model, and what the table holds after each
-stobbarel-tests vectors                    records read and written, messages by each entrance, LGs before the PR, lists, the fallback, what is held, answers taken by sheets, as the papers have them
+stobbarel-tests vectors                    records read and written, messages by each entrance, LGs before the PR, lists, old entries let go, the fallback, what is held, answers taken by sheets, as the papers have them
 stobbarel-tests bodies                     two bodies under one stamp that differ in little: each byte, counts alone, length
 stobbarel-tests records [COUNT [SEED]]     COUNT records (500000) written by engine and model, each read as it is and damaged
 stobbarel-tests cluster [RUNS [SEED]]      RUNS clusters (20000) of the engine, demand 3 and A10 judged after every call
 stobbarel-tests broken [MOST [SEED]]       boxes with a broken rule, and bad boxes: each must be noticed, within MOST clusters (20000)
 stobbarel-tests order [COUNT [SEED]]       COUNT pairs of decisions (10000) in both orders, later calls on both tables answered alike
 stobbarel-tests passages [COUNT [SEED]]    COUNT looks (200000) at passages: reports, corrections and entries beside a model
+stobbarel-tests month [COUNT [SEED]]       COUNT passages (10000) at one box, its low mark raised whenever it is full, each report as it was written
 stobbarel-tests gateways [COUNT [SEED]]    what each way through costs, a gateway that dies at each step, COUNT worlds (400) with liars and evil gateways, each habit left out
                                            once; with --worlds the worlds alone, with --without HABIT what then hangs, with --pictures FOLDER the drawings
 stobbarel-tests incident                   the night that one correction was decided both ways, and why it cannot be again
@@ -88,6 +90,7 @@ fn main() {
         Some("broken") => broken::check(number(rest, 0, 20_000), number(rest, 1, 1)),
         Some("order") => order::check(number(rest, 0, 10_000), number(rest, 1, 1)),
         Some("passages") => passages::check(number(rest, 0, 200_000), number(rest, 1, 1)),
+        Some("month") => month::check(number(rest, 0, 10_000), number(rest, 1, 1)),
         Some("gateways") => gateways::check(rest),
         Some("incident") => incident::check(),
         Some("stored") if rest.len() == 2 => stored::check(&rest[0], &rest[1]),

@@ -74,6 +74,9 @@ pub struct Model(pub Rules);
 
 impl Member for Model {
     fn call(&mut self, entrance: Entrance, table: &mut Vec<u8>, marks: &mut Vec<u64>, settings: &Settings, message: &[u8]) -> Result<Answer, String> {
+        if let Entrance::Raise(low) = entrance {
+            return Ok(model::low::raise_by(self.0, table, settings.f, settings.capacity, low, &mut Vec::new()));
+        }
         Ok(model::call_by(self.0, table, marks, settings, message, entrance.taken(), &mut Vec::new()))
     }
 

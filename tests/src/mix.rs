@@ -1,9 +1,9 @@
 //! Runs of messages that a seed determines: few keys, stamps near each other, versions read from what is held,
 //! lists on both sides of each threshold, views on both sides of each rule, capacities that change from call to call, and every kind of damage.
 
-use crate::model::{entries_of, row_at, transaction_bytes, Decision, Entry, Settings, Transaction, Vote, PAPER, THRESHOLDS};
+use crate::model::{entries_of, fold_of, low_of, row_at, transaction_bytes, Decision, Entry, Settings, Transaction, Vote, PAPER, THRESHOLDS};
 use crate::random::Random;
-use stobbarel::layout::{table_len, BODY_AT, DECIDED_AT, HEAD, LOG_AT, LOG_VIEW_AT, REASON_AT, ROW, VIEW_AT, VOTE_AT};
+use stobbarel::layout::{table_len, BODY_AT, DECIDED_AT, FOLD, FOLDS_AT, HEAD, LOG_AT, LOG_VIEW_AT, LOW_AT, REASON_AT, ROW, VIEW_AT, VOTE_AT};
 
 /// Where in a row the counts of its body, the stamp, and the first two keys stand.
 const COUNTS: [usize; 2] = [BODY_AT + 2, BODY_AT + 3];
@@ -26,6 +26,8 @@ pub struct Run {
     lent: u64,
     /// How many calls in a hundred come with another capacity.
     shifts: u64,
+    /// How many calls in a hundred raise the low mark.
+    raises: u64,
     pub left: u64,
 }
 
@@ -43,7 +45,11 @@ impl Run {
         let damage = random.one_of(&[0, 5, 15, 60]);
         let lent = random.one_of(&[0, 0, 0, 4, 30]);
         let shifts = random.one_of(&[0, 0, 0, 10, 50]);
-        let mut run = Run { settings, table, marks, keys, base, spread, bodies: Vec::new(), damage, lent, shifts, left };
+        let raises = random.one_of(&[0, 0, 5, 10, 25]);
+        let mut run = Run { settings, table, marks, keys, base, spread, bodies: Vec::new(), damage, lent, shifts, raises, left };
+        if random.chance(12) {
+            (0..random.between(1, 4)).for_each(|_| run.disturb_head(random));
+        }
         run.settings.delta = delta(random, spread);
         run.turn_clock(random);
         run
@@ -59,8 +65,11 @@ impl Run {
         };
     }
 
+    /// Mostly one that is not old.
     fn stamp(&self, random: &mut Random) -> u64 {
-        self.base.saturating_add(random.below(self.spread + 1))
+        let low = low_of(&self.table);
+        let base = if low >= self.base && random.chance(85) { low.saturating_add(1) } else { self.base };
+        base.saturating_add(random.below(self.spread + 1))
     }
 
     /// Some of the keys, rising, at most eight.
@@ -94,8 +103,11 @@ impl Run {
                 .map(|entry| entry.body.stamp)
                 .collect();
             let newest = held.iter().filter(|entry| entry.live() && writers.contains(&entry.body.stamp)).map(|entry| entry.body.stamp).max();
+            let folded = fold_of(&self.table, key).0;
             let version = match random.below(20) {
-                0..=11 => newest.unwrap_or(0),
+                0..=11 => newest.unwrap_or(folded),
+                16 | 17 => folded,
+                18 => self.old_version(random),
                 12 | 13 if !writers.is_empty() => random.one_of(&writers),
                 14 => self.stamp(random),
                 15 if !held.is_empty() => held[random.below(held.len() as u64) as usize].body.stamp,
@@ -108,6 +120,52 @@ impl Run {
             writes.push((random.one_of(&self.keys), random.below(3)));
         }
         Transaction { mark: *b"TX", stamp, reads, writes }
+    }
+
+    /// At or below the low mark: what is folded at any of the keys, or beside it.
+    fn old_version(&self, random: &mut Random) -> u64 {
+        let low = low_of(&self.table);
+        match random.below(4) {
+            0 | 1 => fold_of(&self.table, random.one_of(&self.keys)).0,
+            2 => low.saturating_sub(random.below(3)),
+            _ => random.below(low.saturating_add(1).max(1)),
+        }
+    }
+
+    /// A low mark to be raised to, now and then: where the present one is or below it, beside a stamp that is held, up to the first that is undecided, or above all.
+    pub fn next_low(&mut self, random: &mut Random) -> Option<u64> {
+        if !random.chance(self.raises) {
+            return None;
+        }
+        let (low, held) = (low_of(&self.table), self.held());
+        let first_open = held.iter().filter(|entry| entry.decision.is_none()).map(|entry| entry.body.stamp).min();
+        let stamps: Vec<u64> = held.iter().map(|entry| entry.body.stamp).collect();
+        let highest = stamps.iter().copied().max().unwrap_or(low);
+        let gone = self.waited_in_vain(&held);
+        let chosen = match random.below(20) {
+            0 => low,
+            1 => low.saturating_sub(random.between(1, 3)),
+            2 => random.below(low.saturating_add(1).max(1)),
+            3 => low.saturating_add(1),
+            4..=7 if !stamps.is_empty() => random.one_of(&stamps).saturating_sub(random.below(2)),
+            8 | 9 => highest.saturating_add(random.below(2)),
+            10 => self.stamp(random),
+            // above all, and behind it there is nothing left to do
+            11 if random.chance(30) => random.one_of(&[u64::MAX, highest.saturating_mul(3), highest.saturating_add(1 << 40)]),
+            12..=14 if gone.is_some() => gone.unwrap_or(low),
+            _ => first_open.map_or(highest, |open| open.saturating_sub(1)),
+        };
+        // most that are not above are a message instead
+        (chosen > low || random.chance(20)).then_some(chosen)
+    }
+
+    /// A version that an entry waits for and that is decided abort: once it has left, the wait is in vain all the same.
+    fn waited_in_vain(&self, held: &[Entry]) -> Option<u64> {
+        let mut waiting = held.iter().filter(|entry| entry.decision.is_none() && entry.vote == Vote::Waiting);
+        waiting.find_map(|entry| {
+            let versions: Vec<u64> = entry.body.reads.iter().map(|read| read.1).collect();
+            held.iter().find(|other| other.decision == Some(Decision::Abort) && versions.contains(&other.body.stamp)).map(|other| other.body.stamp)
+        })
     }
 
     fn known_or_new(&mut self, random: &mut Random, known: u64) -> Transaction {
@@ -518,7 +576,8 @@ impl Run {
         for _ in 0..random.between(1, 3) {
             let row = self.some_row(random);
             let other = self.some_row(random);
-            match random.below(20) {
+            match random.below(23) {
+                20.. => self.disturb_head(random),
                 choice @ 0..=7 => self.disturb_codes(random, row, choice),
                 choice @ 8..=14 => self.disturb_body(random, row, other, choice),
                 15..=17 => self.hold_twice(random, row.min(other), row.max(other)),
@@ -526,6 +585,28 @@ impl Run {
                     let key = random.one_of(&self.keys);
                     self.marks[key as usize] = self.stamp(random);
                 }
+            }
+        }
+    }
+
+    /// The low mark at or beside a stamp; the folded version of a key at, below or above the stamps, or any bytes; now and then a few bytes anywhere in the head.
+    fn disturb_head(&mut self, random: &mut Random) {
+        let (stamp, key) = (self.stamp(random), usize::from(random.one_of(&self.keys)));
+        let (held, waited) = (self.held(), self.waited_for().map(|row| row + STAMP).map(|at| u64_at(&self.table, at)));
+        let some_held = |random: &mut Random| held.get(random.below(held.len().max(1) as u64) as usize).map_or(stamp, |entry| entry.body.stamp);
+        let mut put = |at: usize, number: u64| self.table[at..at + 8].copy_from_slice(&number.to_le_bytes());
+        match random.below(12) {
+            0 | 1 => put(LOW_AT, stamp.saturating_sub(random.below(4))),
+            2 => put(LOW_AT, waited.unwrap_or(some_held(random))),
+            3 => put(LOW_AT, random.one_of(&[0, 0, 0, 1])),
+            4 if random.chance(10) => put(LOW_AT, u64::MAX - random.below(2)),
+            4..=6 => put(FOLDS_AT + FOLD * key, some_held(random)),
+            7 | 8 => put(FOLDS_AT + FOLD * key, stamp.saturating_sub(random.below(6))),
+            9 => put(FOLDS_AT + FOLD * key, random.one_of(&[0, 1, u64::MAX])),
+            10 => put(FOLDS_AT + FOLD * key + 8, random.next()),
+            _ => {
+                let at = FOLDS_AT + random.below((HEAD - FOLDS_AT) as u64) as usize;
+                self.table[at] = random.next() as u8;
             }
         }
     }
@@ -657,7 +738,11 @@ fn capacity(random: &mut Random) -> u64 {
     }
 }
 
-/// No entries; what lies behind the count need not be zero, nor the table end where the capacity does.
+fn u64_at(bytes: &[u8], at: usize) -> u64 {
+    u64::from_le_bytes(bytes[at..at + 8].try_into().expect("eight bytes"))
+}
+
+/// No entries, mostly nothing folded; what lies behind the head need not be zero, nor the table end where the capacity does.
 fn empty_table(random: &mut Random, capacity: u64) -> Vec<u8> {
     let beyond = match random.below(10) {
         0 => random.below(400) as usize,
@@ -665,8 +750,12 @@ fn empty_table(random: &mut Random, capacity: u64) -> Vec<u8> {
         _ => 0,
     };
     let length = table_len(capacity as usize) + beyond;
-    let mut table: Vec<u8> = (0..length).map(|_| if random.chance(10) { random.next() as u8 } else { 0 }).collect();
-    table[0] = 0;
+    let mut table: Vec<u8> = vec![0; HEAD];
+    table.extend((HEAD..length).map(|_| if random.chance(10) { random.next() as u8 } else { 0 }));
+    // any folded versions are taken as they stand
+    if random.chance(4) {
+        table[FOLDS_AT..HEAD].iter_mut().for_each(|byte| *byte = random.next() as u8);
+    }
     table
 }
 

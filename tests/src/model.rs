@@ -2,18 +2,21 @@
 //! It is written from the paper, with docs/DECISIONS.md where that leaves room, and shares no code with the engine that it is held against;
 //! how a lent table is laid out is the interface's, from include/stobbarel.h.
 //! What finishes a transaction that a dead gateway left is in model/fallback.rs, what a table holds under a stamp in model/held.rs,
-//! how many entries a PR visits in model/visits.rs.
+//! how many entries a PR visits in model/visits.rs, how a box lets old entries go in model/low.rs.
 //! `self.rules.hold(..)` marks the rules that broken.rs breaks, one at a time; in the paper's box all of them hold.
 
 #[path = "model/fallback.rs"]
 mod fallback;
 #[path = "model/held.rs"]
 mod held;
+#[path = "model/low.rs"]
+pub mod low;
 #[path = "model/visits.rs"]
 pub mod visits;
 
 pub use fallback::*;
 pub use held::*;
+pub use low::{fold_of, low_of};
 use std::cmp::Ordering;
 use stobbarel::layout::{table_len, BODY_AT, DECIDED_AT, HEAD, LOG_AT, LOG_VIEW_AT, REASON_AT, ROW, VIEW_AT, VOTE_AT};
 
@@ -177,6 +180,50 @@ pub enum Rule {
     EveryVersion,
     /// A6: there is a number beside the same vote again.
     NoNumberAgain,
+    /// A11: 18 is not given to the message of this mark, by its place among them.
+    OldRefused(usize),
+    /// A11: 18 comes only after what else the state refuses. For a DC that is 11.
+    OldFirst,
+    /// A11: a stamp equal to the low mark is not old.
+    OldAtTheMark,
+    /// A11: an RD's 18 comes before 15.
+    OldAfterAhead,
+    /// A11: a low mark may be raised to where it is.
+    RaisedAbove,
+    /// A11: 19 before 18.
+    OldBeforeUndecided,
+    /// A11: an undecided entry leaves with the others.
+    UndecidedStay,
+    /// A11: committed ones do not fold, they only leave.
+    CommittedFold,
+    /// A11: what was folded last stays the folded one, be it not the newest.
+    NewestFolds,
+    /// A11: what was folded before gives way, be it newer.
+    NewerFoldStays,
+    /// A11: aborted ones fold too.
+    AbortedDoNot,
+    /// A11: aborted ones stay where they are.
+    AbortedLeave,
+    /// A11: the rest does not stay in order: the last takes the first free place.
+    InOrder,
+    /// A11: the folded version gives no reason 3.
+    FoldGives3,
+    /// A11: the folded version gives reason 3 only where it is below this stamp.
+    AnyFoldAbove,
+    /// A11: an old version is the folded one if it is any key's.
+    FoldedByKey,
+    /// A11: an old version is looked up in the table.
+    OldNotLookedUp,
+    /// A11: an old version is as good as committed in the waiting rule.
+    OldWaitsInVain,
+    /// A11: an RD does not fall back to the folded version.
+    ReadFallsBack,
+    /// A11: an RD takes the folded version before the table.
+    TableBeforeFold,
+    /// A6 with A11: a look-up at or below the low mark counts too.
+    OldNotCounted,
+    /// A6 with A11: where the folded version fails a key, its entries are counted all the same.
+    FoldCountsNone,
 }
 
 /// The rules of a box, less the broken ones.
@@ -345,6 +392,8 @@ pub enum Answer {
     TooFew(u8),
     /// Any other refusal, by its number.
     Refused(u8),
+    /// The low mark.
+    Raised,
 }
 
 #[derive(Clone, Copy, Debug)]
@@ -395,6 +444,8 @@ const GROUP: u8 = 14;
 const AHEAD: u8 = 15;
 const TABLE: u8 = 16;
 const BUFFER: u8 = 17;
+const OLD: u8 = 18;
+const UNDECIDED: u8 = 19;
 const PASSED: u8 = 21;
 const NOT_LOGGED: u8 = 22;
 const ELECTION: u8 = 23;
@@ -716,8 +767,10 @@ impl Entry {
 }
 
 /// A lent table's entries and its read marks, for the length of one call.
-pub struct Store {
+pub struct Store<'a> {
     pub rules: Rules,
+    /// The table's bytes, of which the head is looked at: low mark and folded versions.
+    pub head: &'a [u8],
     pub entries: Vec<Entry>,
     pub marks: Vec<u64>,
     /// The entry that the call stored or changed.
@@ -804,7 +857,7 @@ pub const CASES: [&str; 74] = [
     "LD, the other was logged",
 ];
 
-impl Store {
+impl Store<'_> {
     fn place(&self, stamp: u64) -> Option<usize> {
         let is = |entry: &Entry| entry.body.stamp == stamp;
         if !self.rules.hold(Rule::FirstOfAStamp) {
@@ -833,17 +886,23 @@ impl Store {
         self.entries.iter().filter(|entry| self.lives(entry))
     }
 
-    /// Test 2: a nonzero version that is not a live entry writing that key.
+    /// Test 2: a nonzero version that is not a live entry writing that key; an old one that is not the folded one.
     fn names_no_version(&self, tx: &Transaction) -> bool {
         tx.reads.iter().filter(|(_, version)| *version != 0).any(|(key, version)| {
+            if self.is_old_version(*version) {
+                return !self.is_folded(*key, *version);
+            }
             let named = self.place(*version).map(|place| &self.entries[place]);
             !named.is_some_and(|entry| self.lives(entry) && entry.body.writes_key(*key))
         })
     }
 
-    /// Test 3: a live entry writes a key read here, above the version read and below this stamp.
+    /// Test 3: a live entry writes a key read here, above the version read and below this stamp; or the key's folded version is above the version read.
     fn misses_a_write(&self, tx: &Transaction) -> bool {
         tx.reads.iter().any(|(key, version)| {
+            if self.fold_above(*key, *version, tx.stamp) {
+                return true;
+            }
             let missed = |entry: &Entry| entry.body.stamp > *version && entry.body.stamp < tx.stamp;
             if !self.rules.hold(Rule::EveryWriter) {
                 return self.live().find(|entry| entry.body.writes_key(*key)).is_some_and(missed);
@@ -881,6 +940,14 @@ impl Store {
     fn waiting_rule(&mut self, tx: &Transaction) -> Vote {
         let mut waits = false;
         for (key, version) in tx.reads.iter().filter(|(_, version)| *version != 0) {
+            if self.is_old_version(*version) {
+                if self.is_folded(*key, *version) || !self.rules.hold(Rule::OldWaitsInVain) {
+                    self.met.push("waiting rule: the folded one");
+                    continue;
+                }
+                self.met.push("waiting rule: old, and not the folded one");
+                return Vote::Abort(6);
+            }
             let Some(place) = self.place(*version) else {
                 self.met.push("waiting rule: not held");
                 return Vote::Abort(6);
@@ -913,6 +980,7 @@ impl Store {
 
     fn first_vote(&mut self, tx: &Transaction, settings: &Settings) -> Vote {
         let failing = self.failing_test(tx, settings);
+        self.meet_folds(tx, failing);
         if failing == Some(2) && tx.reads.iter().filter_map(|(_, version)| self.place(*version)).any(|place| self.entries[place].only_logged()) {
             self.met.push("test 2: the version is logged, with no vote");
         }
@@ -1186,8 +1254,8 @@ impl Store {
         Answer::Done
     }
 
-    /// Version and value of the writer of the key with the highest stamp strictly below.
-    fn newest(&self, key: u16, below: u64, wanted: impl Fn(&Entry) -> bool) -> (u64, u64) {
+    /// Version and value of the writer of the key with the highest stamp strictly below, if there is one.
+    fn newest(&self, key: u16, below: u64, wanted: impl Fn(&Entry) -> bool) -> Option<(u64, u64)> {
         let mut best: Option<(u64, u64)> = None;
         for entry in self.entries.iter().filter(|entry| wanted(entry) && entry.body.stamp < below) {
             if let Some((_, value)) = entry.body.writes.iter().find(|(written, _)| *written == key) {
@@ -1201,7 +1269,7 @@ impl Store {
                 }
             }
         }
-        best.unwrap_or((0, 0))
+        best
     }
 
     fn read(&mut self, key: u16, stamp: u64) -> Answer {
@@ -1211,13 +1279,15 @@ impl Store {
             _ if !self.rules.hold(Rule::MarkStays) => stamp,
             _ => stamp.max(*mark),
         };
-        Answer::Found {
-            committed: self.newest(key, stamp, Entry::committed),
-            undecided: self.newest(key, stamp, |entry| entry.decision.is_none() && self.lives(entry) && self.rules.hold(Rule::UndecidedShown)),
-        }
+        let shown = |entry: &Entry| entry.decision.is_none() && self.lives(entry) && self.rules.hold(Rule::UndecidedShown);
+        let undecided = self.newest(key, stamp, shown).unwrap_or((0, 0));
+        Answer::Found { committed: self.committed_or_folded(key, stamp), undecided }
     }
 
     pub fn act(&mut self, message: Message, settings: &Settings) -> Answer {
+        if self.refuses_as_old(&message, settings) {
+            return Answer::Refused(OLD);
+        }
         match message {
             Message::Prepare(tx) => self.prepare(tx, settings),
             Message::Log(tx, list) => self.log(tx, list, settings),
@@ -1698,19 +1768,24 @@ pub fn call_by(
     }
     let read = match read_message(message, settings, due, rules) {
         Ok(read) => read,
+        Err(AHEAD) if little(&message[4..12]) <= low_of(table) => {
+            met.push("RD 15, old too");
+            return Answer::Refused(if rules.hold(Rule::OldAfterAhead) { AHEAD } else { OLD });
+        }
         Err(number) => return Answer::Refused(number),
     };
-    let mut store = Store { rules, entries, marks: std::mem::take(marks), touched: None, met: Vec::new() };
+    let mut store = Store { rules, head: table, entries, marks: std::mem::take(marks), touched: None, met: Vec::new() };
     let named = read.transaction().map_or(0, |tx| tx.stamp);
     if store.entries.iter().filter(|entry| entry.body.stamp == named).count() > 1 {
         met.push("a stamp held twice");
     }
     let answer = store.act(read, settings);
-    *marks = store.marks;
-    met.append(&mut store.met);
-    if let Some(place) = store.touched {
-        put_entry(&mut table[row_at(place)..row_at(place + 1)], &store.entries[place]);
-        table[0] = store.entries.len() as u8;
+    let Store { entries, marks: left, touched, met: mut cases, .. } = store;
+    *marks = left;
+    met.append(&mut cases);
+    if let Some(place) = touched {
+        put_entry(&mut table[row_at(place)..row_at(place + 1)], &entries[place]);
+        table[0] = entries.len() as u8;
     }
     answer
 }

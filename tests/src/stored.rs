@@ -2,7 +2,7 @@
 //! its letters, `00×7` seven zero bytes, `#` begins a comment), each with the line behind `>` that it has to print; a record without one stands behind
 //! a stop. What stands before a file's first case begins each of its cases.
 //!
-//! A case is put to the program and to the model's bench, and its messages, one by one, to the engine's C interface, by either entrance.
+//! A case is put to the program and to the model's bench, and its messages and low marks, one by one, to the engine's C interface, messages by either entrance.
 
 use crate::bench::{bench, eight, output, words};
 use crate::engine::{self, Entrance};
@@ -74,9 +74,12 @@ fn by_c(case: &Case, by_due: bool) -> Result<(), String> {
             }
             (Some(b"CK"), Some(settings)) if said == "ok" => settings.clock = eight(&bytes[2..]),
             (Some(b"GP" | b"CK"), _) | (_, None) => {}
+            // one that is cut is the bench's to refuse
+            (Some(b"LM"), Some(_)) if bytes.len() < 10 => {}
             (_, Some(settings)) => {
                 let own = bytes.first_chunk().and_then(Entrance::of).filter(|_| by_due);
-                let out = engine::call(own.unwrap_or(Entrance::Receive), &mut table, &mut marks, settings, bytes)?;
+                let entrance = if bytes.starts_with(b"LM") { Entrance::Raise(eight(&bytes[2..])) } else { own.unwrap_or(Entrance::Receive) };
+                let out = engine::call(entrance, &mut table, &mut marks, settings, bytes)?;
                 let given = engine::answer_of(out).map_or(format!("{out:?}"), words);
                 if given != said {
                     return Err(format!("{given}, and {due} is due"));

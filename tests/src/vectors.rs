@@ -2,10 +2,11 @@
 //! fault, two faults at once for neighbours in 01's order, and both sides of each threshold. The answers due are written down from 01 and 02; the engine, by its C interface,
 //! and the model have to give them.
 //! What the bench program can show of reading stands in tests/bench; here is the rest. Those of the fallback are in vectors/fallback.rs, those of what is held in vectors/held.rs,
-//! those of the entries that a PR visits in vectors/visits.rs.
+//! those of the entries that a PR visits in vectors/visits.rs, those of old entries let go in vectors/low.rs.
 
 mod fallback;
 mod held;
+mod low;
 mod visits;
 
 use crate::engine::{self, Entrance, Fields, Views};
@@ -959,7 +960,7 @@ fn sheets(tried: &mut Tried) {
 /// False where an answer is not the one due, or where none was tried.
 pub fn check() -> bool {
     let mut tried = Tried::default();
-    let parts: [(&str, fn(&mut Tried)); 20] = [
+    let parts: [(&str, fn(&mut Tried)); 25] = [
         ("reading", reading),
         ("entrances", entering),
         ("LGs before the PR", missing_the_prepare),
@@ -967,6 +968,11 @@ pub fn check() -> bool {
         ("entries visited", visits::numbers),
         ("entries visited by messages in turn", visits::in_turn),
         ("the most entries visited", visits::most),
+        ("what is old", low::old),
+        ("low marks raised", low::raising),
+        ("folded versions", low::folded),
+        ("waits for what goes", low::waiting),
+        ("low marks and folds in lent tables", low::as_lent),
         ("the fallback", fallback::rescues),
         ("moving on", fallback::moves),
         ("a leader's decisions", fallback::led),

@@ -72,6 +72,7 @@ const F: Range = range("f", 1, 5);
 const CAPACITY: Range = range("a capacity", 1, 255);
 const DELTA: Range = range("delta", 0, u64::MAX);
 const CLOCK: Range = range("a clock", 0, u64::MAX);
+const LOW: Range = range("a low mark", 0, u64::MAX);
 const STAMP: Range = range("a stamp", 1, u64::MAX);
 const KEY: Range = range("a key", 0, KEYS as u64 - 1);
 const VALUE: Range = range("a value", 0, u64::MAX);
@@ -265,6 +266,7 @@ impl Rest<'_> {
         let message = match mark.as_str() {
             "GP" => return self.gp(),
             "CK" => return self.ck(),
+            "LM" => return self.number(LOW).map(Record::Lm),
             "TX" => return self.transaction().map(Record::Tx),
             "VL" => return self.list().map(Record::Vl),
             "VS" => return self.views().map(Record::Vs),
@@ -277,7 +279,7 @@ impl Rest<'_> {
             "LD" => Message::Lead(self.transaction()?, self.election()?),
             _ => {
                 self.at -= 1;
-                return self.wrong("a mark is due: GP, CK, PR, LG, DC, RD, IV, LD, TX, VL, VS or EL".into());
+                return self.wrong("a mark is due: GP, CK, LM, PR, LG, DC, RD, IV, LD, TX, VL, VS or EL".into());
             }
         };
         Ok(Record::Message(message))

@@ -1,4 +1,4 @@
-//! The twelve records: read from any bytes, written in their one form. The bench's own two, GP and CK, are read and written here, all others by the package.
+//! The thirteen records: read from any bytes, written in their one form. The bench's own three, GP, CK and LM, are read and written here, all others by the package.
 
 use stobbarel::{check_el, check_vl, check_vs, read_message, read_tx, write_el, write_message, write_tx, write_vl, write_vs};
 use stobbarel::{Election, Group, Key, Message, Refusal, Stamp, Table, Transaction, Views, VoteList, LONGEST};
@@ -18,6 +18,8 @@ pub enum Record {
     },
     /// CK: the clock from here on.
     Ck(u64),
+    /// LM: the low mark to be raised to.
+    Lm(u64),
     /// PR, LG, DC, RD, IV or LD.
     Message(Message),
     /// TX.
@@ -32,6 +34,7 @@ pub enum Record {
 
 const GP: usize = 12;
 const CK: usize = 10;
+const LM: usize = 10;
 
 fn eight(bytes: &[u8]) -> u64 {
     u64::from_le_bytes(bytes.try_into().expect("eight bytes"))
@@ -61,6 +64,11 @@ fn read_gp(bytes: &[u8]) -> Result<Record, Refusal> {
 fn read_ck(bytes: &[u8]) -> Result<Record, Refusal> {
     length_is(CK, bytes)?;
     Ok(Record::Ck(eight(&bytes[2..])))
+}
+
+fn read_lm(bytes: &[u8]) -> Result<Record, Refusal> {
+    length_is(LM, bytes)?;
+    Ok(Record::Lm(eight(&bytes[2..])))
 }
 
 /// A message of this mark: a transaction in order, and behind it a list by itself. The package reads a list's values inside a message only.
@@ -98,6 +106,7 @@ pub fn read(group: Group, bytes: &[u8]) -> Result<Record, Refusal> {
     match bytes.get(..2) {
         Some(b"GP") => read_gp(bytes),
         Some(b"CK") => read_ck(bytes),
+        Some(b"LM") => read_lm(bytes),
         Some(b"TX") => read_tx(bytes).map(Record::Tx),
         Some(b"VL") => read_vl(group, bytes),
         Some(b"VS") => read_vs(group, bytes),
@@ -129,10 +138,11 @@ fn write_gp(f: u8, capacity: u8, delta: u64, out: &mut [u8]) -> Result<&[u8], Re
     Ok(&out[..GP])
 }
 
-fn write_ck(clock: u64, out: &mut [u8]) -> &[u8] {
-    out[..2].copy_from_slice(b"CK");
-    out[2..CK].copy_from_slice(&clock.to_le_bytes());
-    &out[..CK]
+/// CK and LM: a mark and a number.
+fn write_number<'a>(mark: &[u8; 2], number: u64, out: &'a mut [u8]) -> &'a [u8] {
+    out[..2].copy_from_slice(mark);
+    out[2..10].copy_from_slice(&number.to_le_bytes());
+    &out[..10]
 }
 
 /// The record's bytes, or the writer's refusal.
@@ -140,7 +150,8 @@ pub fn write(group: Group, record: &Record) -> Result<Vec<u8>, Refusal> {
     let out = &mut [0; LONGEST][..];
     let written = match record {
         Record::Gp { f, capacity, delta } => write_gp(*f, *capacity, *delta, out)?,
-        Record::Ck(clock) => write_ck(*clock, out),
+        Record::Ck(clock) => write_number(b"CK", *clock, out),
+        Record::Lm(low) => write_number(b"LM", *low, out),
         Record::Message(message) => write_message(group, message, out)?,
         Record::Tx(tx) => write_tx(tx, out)?,
         Record::Vl(list) => write_vl(group, list, out)?,

@@ -2,12 +2,12 @@
 
 use crate::record::{cut, read, Record};
 use crate::words;
-use stobbarel::{read_message, Answer, Group, Refusal, Table};
+use stobbarel::{read_message, Answer, Group, Refusal, Stamp, Table};
 
 /// The bench takes no longer input.
 const LONGEST_INPUT: usize = 65_536;
 
-const MARKS: [&[u8]; 8] = [b"GP", b"CK", b"PR", b"LG", b"DC", b"RD", b"IV", b"LD"];
+const MARKS: [&[u8]; 9] = [b"GP", b"CK", b"LM", b"PR", b"LG", b"DC", b"RD", b"IV", b"LD"];
 
 /// What is printed for a record.
 #[derive(Clone, Debug, PartialEq, Eq)]
@@ -77,6 +77,16 @@ impl Bench {
         Ok(Turn::ok(&record, length))
     }
 
+    fn low(&mut self, rest: &[u8]) -> Result<Turn, Refusal> {
+        let length = cut(rest, |bytes| read(self.group, bytes))?;
+        let record = read(self.group, &rest[..length])?;
+        let Record::Lm(low) = record else { return Err(Refusal::Mark) };
+        Ok(match self.table.raise(Stamp(low)) {
+            Ok(()) => Turn::ok(&record, length),
+            Err(refusal) => Turn::answered(Err(refusal), Some(record), length),
+        })
+    }
+
     fn message(&mut self, rest: &[u8]) -> Result<Turn, Refusal> {
         let length = cut(rest, |bytes| read_message(self.group, bytes))?;
         let message = &rest[..length];
@@ -86,9 +96,10 @@ impl Bench {
 
     /// Any later record.
     fn record(&mut self, rest: &[u8]) -> Result<Turn, Refusal> {
-        match rest.starts_with(b"CK") {
-            true => self.clock(rest),
-            false => self.message(rest),
+        match rest.get(..2) {
+            Some(b"CK") => self.clock(rest),
+            Some(b"LM") => self.low(rest),
+            _ => self.message(rest),
         }
     }
 }

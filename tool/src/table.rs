@@ -2,7 +2,7 @@
 
 use crate::text::{reads, writes};
 use stobbarel::layout::{table_len, BODY_AT, DECIDED_AT, HEAD, KEYS, LOG_AT, REASON_AT, ROW, VOTE_AT};
-use stobbarel::{read_tx, Group, Held, Refusal, Stamp, Table};
+use stobbarel::{read_tx, Group, Held, Key, Refusal, Stamp, Table};
 
 /// Where in a TX the counts and the stamp stand (docs/RECORDS.md).
 const R_AT: usize = BODY_AT + 2;
@@ -28,7 +28,7 @@ fn row(bytes: &[u8], number: usize) -> Option<&[u8]> {
 
 /// A row as a table that holds nothing else.
 fn alone(row: &[u8]) -> Result<Table, Refusal> {
-    Ok(Table::kept(Group::of(1)?, 1, [&[1], row].concat(), Box::new([0; KEYS])))
+    Ok(Table::kept(Group::of(1)?, 1, [&[1], &[0; HEAD - 1][..], row].concat(), Box::new([0; KEYS])))
 }
 
 fn stamp_of(row: &[u8]) -> Stamp {
@@ -77,10 +77,16 @@ fn first_wrong(bytes: &[u8], capacity: u64) -> String {
     })
 }
 
-/// The entries of kept bytes as lines; where the table is refused, its refusal and what is wrong.
+/// The entries of kept bytes as lines, with the low mark once it is raised, and behind them what is folded; where the table is refused, its refusal and what is wrong.
 fn entries(bytes: &[u8], capacity: u64) -> Result<String, Refusal> {
     // Any stamp: the whole table is judged before it is looked up.
-    Table::kept(Group::of(1)?, capacity, bytes, [0; KEYS]).held(Stamp(0))?;
+    let table = Table::kept(Group::of(1)?, capacity, bytes, [0; KEYS]);
+    table.held(Stamp(0))?;
+    let low = match table.low()? {
+        Stamp(0) => String::new(),
+        low => format!(", low mark {low}"),
+    };
+    let folds = folded(&table)?;
     let mut rows = vec![HEADINGS.map(String::from).to_vec()];
     for number in 0..bytes[0].into() {
         let row = row(bytes, number).ok_or(Refusal::Table)?;
@@ -88,7 +94,19 @@ fn entries(bytes: &[u8], capacity: u64) -> Result<String, Refusal> {
         let held = table.held(stamp)?.ok_or(Refusal::Table)?;
         rows.push(cells(number, stamp, &held).to_vec());
     }
-    Ok(format!("{} of {capacity} entries\n{}", bytes[0], if bytes[0] > 0 { aligned(&rows) } else { String::new() }))
+    let entries = if bytes[0] > 0 { aligned(&rows) } else { String::new() };
+    Ok(format!("{} of {capacity} entries{low}\n{entries}{folds}", bytes[0]))
+}
+
+/// The folded versions, of keys that have one; nothing where none has.
+fn folded(table: &Table<&[u8], [u64; KEYS]>) -> Result<String, Refusal> {
+    let mut rows = vec![["key", "folded version", "value"].map(String::from).to_vec()];
+    for key in 0..KEYS as u16 {
+        if let Some(version) = table.fold(Key(key))? {
+            rows.push(vec![key.to_string(), version.stamp.to_string(), version.value.to_string()]);
+        }
+    }
+    Ok(if rows.len() > 1 { format!("\n{}", aligned(&rows)) } else { String::new() })
 }
 
 fn marked(marks: &[u64; KEYS]) -> String {

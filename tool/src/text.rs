@@ -61,6 +61,7 @@ impl Display for Record {
         match self {
             Record::Gp { f, capacity, delta } => write!(out, "GP f {f} capacity {capacity} delta {delta}"),
             Record::Ck(clock) => write!(out, "CK clock {clock}"),
+            Record::Lm(low) => write!(out, "LM {low}"),
             Record::Message(one) => out.write_str(&message(one)),
             Record::Tx(tx) => write!(out, "TX {}", transaction(tx)),
             Record::Vl(one) => write!(out, "VL {}", list(one)),

@@ -118,7 +118,15 @@ fn too_long_and_stops() {
     assert_eq!(printed(&["run"], vec![b'X'; 65_537]), "too long\n");
     assert_eq!(printed(&["run"], vec![b'X'; 65_536]), "0 ?? refused 2  # mark: the mark is not the one due\n");
     let begun = file("crates/bench/stdin")[..12].to_vec();
-    let stops = [("GP", "1 GP refused 2"), ("TX", "1 ?? refused 2"), ("C", "1 ?? refused 1"), ("CK", "1 CK refused 1"), ("LDTX\0\0", "1 LD refused 3")];
+    let stops = [
+        ("GP", "1 GP refused 2"),
+        ("TX", "1 ?? refused 2"),
+        ("C", "1 ?? refused 1"),
+        ("CK", "1 CK refused 1"),
+        ("LM", "1 LM refused 1"),
+        ("LM1234567", "1 LM refused 1"),
+        ("LDTX\0\0", "1 LD refused 3"),
+    ];
     for (behind, said) in stops {
         let given = run(&[&begun, behind.as_bytes()].concat());
         assert_eq!((given.len(), given[1].said.as_str()), (2, said));

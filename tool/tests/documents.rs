@@ -24,7 +24,7 @@ fn hex(line: &str) -> Option<Vec<u8>> {
     line.strip_prefix("    ")?.split(' ').map(|byte| u8::from_str_radix(byte, 16).ok().filter(|_| byte.len() == 2)).collect()
 }
 
-const MARKS: [&str; 12] = ["GP", "CK", "PR", "LG", "DC", "RD", "IV", "LD", "TX", "VL", "VS", "EL"];
+const MARKS: [&str; 13] = ["GP", "CK", "LM", "PR", "LG", "DC", "RD", "IV", "LD", "TX", "VL", "VS", "EL"];
 
 /// Above each line of hex stands the text that packs to it, and of each record there is one.
 #[test]

@@ -190,7 +190,15 @@ fn extremes() {
     assert_eq!(bytes.len(), LONGEST);
     assert_eq!(done("unpack", &bytes), format!("{longest}\n").into_bytes());
     assert_eq!(done("pack", longest.to_string().as_bytes()), bytes);
-    for (text, length) in [("CK clock 0", 10), ("CK clock 18446744073709551615", 10), ("VL votes abort 25-", 7), ("RD 511 at 1", 12), ("VS views 0:0", 6)] {
+    for (text, length) in [
+        ("CK clock 0", 10),
+        ("CK clock 18446744073709551615", 10),
+        ("LM 0", 10),
+        ("LM 18446744073709551615", 10),
+        ("VL votes abort 25-", 7),
+        ("RD 511 at 1", 12),
+        ("VS views 0:0", 6),
+    ] {
         let bytes = done("pack", text.as_bytes());
         assert_eq!(bytes.len(), length);
         assert_eq!(done("unpack", &bytes), format!("{text}\n").into_bytes());
@@ -280,4 +288,6 @@ fn the_writer_refuses() {
     assert_eq!(read(group, &[b'C'; 1]), Err(Refusal::Short));
     assert_eq!(read(group, b"CK0000000"), Err(Refusal::Short));
     assert_eq!(read(group, b"CK000000000"), Err(Refusal::Trailing));
+    assert_eq!(read(group, b"LM0000000"), Err(Refusal::Short));
+    assert_eq!(read(group, b"LM000000000"), Err(Refusal::Trailing));
 }

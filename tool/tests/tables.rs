@@ -2,20 +2,25 @@
 
 use std::fs;
 use stobbarel::layout::{table_len, BODY_AT, DECIDED_AT, HEAD, LOG_AT, REASON_AT, ROW, VOTE_AT};
-use stobbarel::{Group, Table};
+use stobbarel::{Group, Stamp, Table};
 use stobbarel_tool::{capacity_by_length, pack_line, read_marks, readable, told, Outcome, Record};
 
 const DOCUMENT: &str = include_str!("../../docs/TOOL.md");
 
 /// The table of the stored example, behind its last record.
 fn example() -> Table {
-    let text = fs::read_to_string(concat!(env!("CARGO_MANIFEST_DIR"), "/examples/box.txt")).expect("the example");
+    made_by(&fs::read_to_string(concat!(env!("CARGO_MANIFEST_DIR"), "/examples/box.txt")).expect("the example"))
+}
+
+/// The table behind the last record of a text.
+fn made_by(text: &str) -> Table {
     let group = Group::of(1).expect("an f");
     let (mut table, mut clock, mut delta) = (None, 0, 0);
     for (record, bytes) in text.lines().filter_map(|line| pack_line(group, line).expect("a line in order")) {
         match record {
             Record::Gp { capacity, delta: told, .. } => (table, delta) = (Table::new(group, capacity.into()).ok(), told),
             Record::Ck(told) => clock = told,
+            Record::Lm(low) => _ = table.as_mut().expect("a GP comes first").raise(Stamp(low)),
             // some are refused, as the example shows
             _ => _ = table.as_mut().expect("a GP comes first").receive(clock, delta, &bytes),
         }
@@ -42,6 +47,20 @@ fn the_example() {
 fn an_empty_table() {
     let table = Table::new(Group::of(5).expect("an f"), 255).expect("a capacity");
     assert_eq!(readable(table.bytes(), 255, Some(table.marks())).as_deref(), Ok("0 of 255 entries\n\nno read mark above 0\n"));
+}
+
+#[test]
+fn low_mark_and_folds() {
+    let example = fs::read_to_string(concat!(env!("CARGO_MANIFEST_DIR"), "/examples/box.txt")).expect("the example");
+    let table = made_by(&(example + "LM 50\n"));
+    let shown = readable(table.bytes(), 4, Some(table.marks())).expect("a table in order");
+    assert!(shown.starts_with("2 of 4 entries, low mark 50\nrow  stamp  vote "), "{shown}");
+    assert!(shown.ends_with("  3=9\n\nkey  folded version  value\n3    50              7\n\nkey  read mark\n3    60\n"), "{shown}");
+    let (first, _) = shown.split_once('\n').expect("lines");
+    let folds: String = shown.split("\n\n").nth(1).expect("folds").lines().map(|line| format!("    {line}\n")).collect();
+    assert!(DOCUMENT.contains(&format!("    {first}\n")) && DOCUMENT.contains(&folds));
+    let alone = made_by("GP f 1 capacity 1 delta 0\nLM 7\n");
+    assert_eq!(readable(alone.bytes(), 1, None).as_deref(), Ok("0 of 1 entries, low mark 7\n"));
 }
 
 #[test]
@@ -94,8 +113,8 @@ fn a_wrong_count_or_length_is_told() {
     let bytes = example().bytes().to_vec();
     let why = |bytes: &[u8], capacity: u64| readable(bytes, capacity, None).expect_err("a wrong table").lines().nth(1).map(String::from);
     assert_eq!(why(&bytes, 2).as_deref(), Some("3 entries, and the capacity is 2"));
-    assert_eq!(why(&bytes, 5).as_deref(), Some("721 bytes, and capacity 5 has 901"));
-    assert_eq!(why(&[], 1).as_deref(), Some("0 bytes, and capacity 1 has 181"));
+    assert_eq!(why(&bytes, 5).as_deref(), Some("8921 bytes, and capacity 5 has 9101"));
+    assert_eq!(why(&[], 1).as_deref(), Some("0 bytes, and capacity 1 has 8381"));
     for capacity in [0, 256, u64::MAX] {
         assert_eq!(readable(&bytes, capacity, None), Err("refused 14, group: f not 1 to 5, or capacity not 1 to 255".into()));
     }
@@ -147,7 +166,7 @@ fn from_files() {
     assert_eq!((refused.out.len(), refused.code), (0, 1));
     assert!(refused.wrong.starts_with(&format!("{kept}: refused 16, table: ")));
     let no_length = command(&["table", &longer]);
-    assert_eq!(no_length.wrong, format!("{longer}: 722 bytes are the length of no capacity; --capacity N names it\n"));
+    assert_eq!(no_length.wrong, format!("{longer}: 8922 bytes are the length of no capacity; --capacity N names it\n"));
     assert_eq!(command(&["table", &kept, "--marks", &kept]).wrong, format!("{kept}: read marks are 512 numbers of eight bytes, 4096 in all\n"));
     assert_eq!(command(&["table", &path("none")]).code, 1);
     assert_eq!(command(&["table"]).code, 2);

@@ -4,10 +4,10 @@ use stobbarel::Group;
 use stobbarel_tool::{pack_line, told, Outcome, Wrong};
 
 /// A line with `^` in front of what is wrong, and why; in the group of f = 1.
-const WRONG: [(&str, &str); 72] = [
-    ("^XX 50", "a mark is due: GP, CK, PR, LG, DC, RD, IV, LD, TX, VL, VS or EL"),
-    ("^pr 50 writes 3=7", "a mark is due: GP, CK, PR, LG, DC, RD, IV, LD, TX, VL, VS or EL"),
-    ("  ^=", "a mark is due: GP, CK, PR, LG, DC, RD, IV, LD, TX, VL, VS or EL"),
+const WRONG: [(&str, &str); 76] = [
+    ("^XX 50", "a mark is due: GP, CK, LM, PR, LG, DC, RD, IV, LD, TX, VL, VS or EL"),
+    ("^pr 50 writes 3=7", "a mark is due: GP, CK, LM, PR, LG, DC, RD, IV, LD, TX, VL, VS or EL"),
+    ("  ^=", "a mark is due: GP, CK, LM, PR, LG, DC, RD, IV, LD, TX, VL, VS or EL"),
     ("GP^", "f is due"),
     ("GP ^capacity 8", "f is due"),
     ("GP f^ # 1", "f is due, 1 to 5"),
@@ -24,6 +24,10 @@ const WRONG: [(&str, &str); 72] = [
     ("CK clock ^noon", "a clock is due, 0 to 18446744073709551615"),
     ("CK clock ^99999999999999999999", "a clock is 0 to 18446744073709551615"),
     ("CK clock 100 ^delta 10", "this is no part of the record"),
+    ("LM^", "a low mark is due, 0 to 18446744073709551615"),
+    ("LM ^low", "a low mark is due, 0 to 18446744073709551615"),
+    ("LM ^18446744073709551616", "a low mark is 0 to 18446744073709551615"),
+    ("LM 50 ^60", "this is no part of the record"),
     ("PR^", "a stamp is due, 1 to 18446744073709551615"),
     ("PR ^0 writes 3=7", "a stamp is 1 to 18446744073709551615"),
     ("PR ^50writes 3=7", "a stamp is due, 1 to 18446744073709551615"),

@@ -93,6 +93,13 @@ impl Cluster<'_> {
             self.script.push_back((rescuer, act));
         }
         self.script.extend([(rescuer, Act::LogAt(again)), (rescuer, Act::Prove)]);
+        // what is decided by then may go, and a leader come after with the other decision
+        if self.random.chance(30) {
+            let (view, decision) = (self.random.one_of(&[1, 1, 2]), self.random.one_of(&[Decision::Commit, Decision::Abort]));
+            self.script.extend([(rescuer, Act::Prove), (rescuer, Act::Prove), (rescuer, Act::ForgetAt(all, stamp))]);
+            self.script.extend([(rescuer, Act::LeadAt(all, view, decision, Lie::None)), (rescuer, Act::LeadAt(all, view, other(decision), Lie::None))]);
+            self.script.extend([(rescuer, Act::InvokeAt(all, Told::Heard)), (rescuer, Act::Prove)]);
+        }
         Ok(())
     }
 

@@ -130,7 +130,7 @@ impl World {
 
     fn answer(&mut self, number: u8, to: &[Party], depth: u64, body: Vec<u8>, answer: Result<Answer, Refusal>) {
         let taken = self.hosts[number as usize].proofs.get(&body).cloned();
-        let handed = taken.filter(|_| matches!(answer, Ok(Answer::Decided(_))) && self.keeps(Habit::Handover));
+        let handed = taken.filter(|_| matches!(answer, Ok(Answer::Decided(_)) | Err(Refusal::Old)) && self.keeps(Habit::Handover));
         for to in to {
             self.send(Party::Box(number), *to, depth + 1, Mail::Answer(body.clone(), answer, handed.clone()));
         }

@@ -80,7 +80,7 @@ impl Rules {
     }
 }
 
-impl Store {
+impl Store<'_> {
     /// The undecided entry of this body: its place, or none where nothing is held; or the answer that is due before the message is looked at further.
     fn undecided(&mut self, tx: &Transaction, case: [&'static str; 2]) -> Result<Option<usize>, Answer> {
         let Some(place) = self.place(tx.stamp) else { return Ok(None) };

@@ -40,7 +40,7 @@ struct Gone {
     fails: bool,
 }
 
-impl Store {
+impl Store<'_> {
     /// "one per entry passed over when a stamp is looked up .. counts the entry it finds and stops there"
     fn look_up<'a>(&self, standing: impl Iterator<Item = &'a Entry>, stamp: u64) -> (u64, Option<&'a Entry>) {
         let mut visited = 0;
@@ -62,12 +62,19 @@ impl Store {
         }
     }
 
-    /// Test 2: each nonzero version is looked up, until one is no live entry that writes the key.
+    /// Test 2: each nonzero version is looked up, until one is no live entry that writes the key. "no look-up at or below L"
     fn go_through_2(&self, tx: &Transaction) -> Gone {
         let mut visited = 0;
         for (key, version) in &tx.reads {
             if *version == 0 {
                 continue;
+            }
+            if self.is_old_version(*version) {
+                visited += self.old_look_up(*version);
+                if self.is_folded(*key, *version) {
+                    continue;
+                }
+                return Gone { visited, fails: true };
             }
             let (passed, found) = self.look_up(self.entries.iter(), *version);
             visited += passed;
@@ -77,6 +84,15 @@ impl Store {
             }
         }
         Gone { visited, fails: false }
+    }
+
+    /// None; one with a broken rule counts what a look-up would pass over.
+    fn old_look_up(&self, version: u64) -> u64 {
+        if self.rules.hold(Rule::OldNotCounted) {
+            0
+        } else {
+            self.look_up(self.entries.iter(), version).0
+        }
     }
 
     /// "3 and 4 through the entries, and stop at the first that fails": an entry visited counts, be it dead.
@@ -102,9 +118,17 @@ impl Store {
         Gone { visited, fails: found }
     }
 
-    /// Test 3: it writes the key between the version read and this stamp.
+    /// Test 3: it writes the key between the version read and this stamp. A folded version above the version read fails "before the key's entries", and is no entry:
+    /// only what stands before that key is gone through.
     fn go_through_3(&self, tx: &Transaction) -> Gone {
-        self.go_through(&tx.reads, |(key, version), entry| *version < entry.body.stamp && entry.body.stamp < tx.stamp && entry.body.writes_key(*key))
+        let folded = tx.reads.iter().position(|(key, version)| self.fold_above(*key, *version, tx.stamp));
+        let before = folded.map_or(tx.reads.len(), |place| place + usize::from(!self.rules.hold(Rule::FoldCountsNone)));
+        let gone = self.go_through_entries_3(tx, &tx.reads[..before]);
+        Gone { fails: gone.fails || folded.is_some(), ..gone }
+    }
+
+    fn go_through_entries_3(&self, tx: &Transaction, reads: &[(u16, u64)]) -> Gone {
+        self.go_through(reads, |(key, version), entry| *version < entry.body.stamp && entry.body.stamp < tx.stamp && entry.body.writes_key(*key))
     }
 
     /// Test 4: with a higher stamp it read the key at a version below this stamp.
@@ -127,6 +151,10 @@ impl Store {
     fn go_through_waiting(&self, tx: &Transaction, new: Option<&Entry>) -> u64 {
         let mut visited = 0;
         for (key, version) in tx.reads.iter().filter(|(_, version)| *version != 0) {
+            if self.is_old_version(*version) {
+                visited += self.old_look_up(*version);
+                continue;
+            }
             let (passed, found) = self.look_up(self.entries.iter().chain(new), *version);
             visited += passed;
             if !self.rules.hold(Rule::EveryVersion) && found.is_none_or(|entry| self.gives_6(*key, entry)) {

@@ -2,7 +2,7 @@
 
 use crate::flat;
 use crate::model::{self, row_at, Answer, Settings, Store, MARKS};
-use stobbarel::layout::{DECIDED_AT, LOG_AT};
+use stobbarel::layout::{DECIDED_AT, HEAD, LOG_AT};
 use stobbarel_sys::stobbarel_receive;
 
 /// What makes a call repeatable: what it changed is put back.
@@ -92,13 +92,16 @@ impl Timed for Engine {
 }
 
 /// The model's own box: it keeps its entries as a list, and nothing is lent.
-pub struct Own(Store);
+pub struct Own(Store<'static>);
+
+/// No low mark was raised: what is timed are messages.
+static NOTHING_FOLDED: [u8; HEAD] = [0; HEAD];
 
 impl Own {
     pub fn new(lent: &Lent) -> Own {
         let mut entries = Vec::with_capacity(255);
         entries.extend(model::entries_of(&lent.table, 255).expect("a table that is taken"));
-        Own(Store { rules: model::PAPER, entries, marks: lent.marks.clone(), touched: None, met: Vec::new() })
+        Own(Store { rules: model::PAPER, head: &NOTHING_FOLDED, entries, marks: lent.marks.clone(), touched: None, met: Vec::new() })
     }
 }
 

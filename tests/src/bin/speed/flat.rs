@@ -1,7 +1,7 @@
 //! The paper's rules over the lent table itself, in ordinary Rust that copies and allocates nothing: what the engine does, unproved.
 
 use crate::model::{row_at, Answer, Decision, Settings, Vote, THRESHOLDS};
-use stobbarel::layout::{table_len, BODY_AT, DECIDED_AT, HEAD, LOG_AT, LOG_VIEW_AT, REASON_AT, ROW, VIEW_AT, VOTE_AT};
+use stobbarel::layout::{table_len, BODY_AT, DECIDED_AT, FOLD, FOLDS_AT, HEAD, LOG_AT, LOG_VIEW_AT, LOW_AT, REASON_AT, ROW, VIEW_AT, VOTE_AT};
 
 fn u16_at(bytes: &[u8], at: usize) -> u16 {
     u16::from_le_bytes([bytes[at], bytes[at + 1]])
@@ -99,11 +99,24 @@ impl<'a> Row<'a> {
 
 /// The rows of a table that is taken.
 #[derive(Clone, Copy)]
-struct Rows<'a>(&'a [[u8; ROW]]);
+struct Rows<'a> {
+    head: &'a [u8],
+    rows: &'a [[u8; ROW]],
+}
 
 impl<'a> Rows<'a> {
     fn all(self) -> impl DoubleEndedIterator<Item = Row<'a>> {
-        self.0.iter().map(Row)
+        self.rows.iter().map(Row)
+    }
+
+    fn low(self) -> u64 {
+        u64_at(self.head, LOW_AT)
+    }
+
+    /// Stamp and value.
+    fn fold(self, key: u16) -> (u64, u64) {
+        let at = FOLDS_AT + FOLD * key as usize;
+        (u64_at(self.head, at), u64_at(self.head, at + 8))
     }
 
     fn live(self) -> impl Iterator<Item = Body<'a>> {
@@ -115,10 +128,13 @@ impl<'a> Rows<'a> {
     }
 
     fn held(self, stamp: u64) -> Option<Row<'a>> {
-        self.place(stamp).map(|place| Row(&self.0[place]))
+        self.place(stamp).map(|place| Row(&self.rows[place]))
     }
 
     fn names(self, key: u16, version: u64) -> bool {
+        if version <= self.low() {
+            return self.fold(key).0 == version;
+        }
         self.held(version).is_some_and(|row| row.live() && row.body().writes_key(key))
     }
 
@@ -132,7 +148,7 @@ impl<'a> Rows<'a> {
             return Some(2);
         }
         let missed = |held: Body| held.stamp() < stamp && tx.reads().any(|(key, version)| version < held.stamp() && held.writes_key(key));
-        if self.live().any(missed) {
+        if tx.reads().any(|(key, version)| version < self.fold(key).0) || self.live().any(missed) {
             return Some(3);
         }
         let undercut = |held: Body| held.stamp() > stamp && held.reads().any(|(key, version)| version < stamp && tx.writes_key(key));
@@ -149,6 +165,12 @@ impl<'a> Rows<'a> {
     fn waiting_rule(self, tx: Body) -> (u8, u8) {
         let mut vote = COMMIT;
         for (key, version) in tx.reads().filter(|(_, version)| *version != 0) {
+            if version <= self.low() {
+                if self.fold(key).0 == version {
+                    continue;
+                }
+                return (ABORT, 6);
+            }
             match self.held(version) {
                 Some(row) if row.decided() == NONE => vote = WAITING,
                 Some(row) if row.decided() == COMMIT && row.body().writes_key(key) => {}
@@ -165,18 +187,18 @@ impl<'a> Rows<'a> {
         }
     }
 
-    /// Version and value of the writer with the highest stamp strictly below, the first among equals.
-    fn newest(self, key: u16, below: u64, wanted: impl Fn(Row) -> bool) -> (u64, u64) {
-        let mut best = (0, 0);
+    /// Version and value of the writer with the highest stamp strictly below, the first among equals, or what stands for it where there is none.
+    fn newest(self, key: u16, below: u64, or: (u64, u64), wanted: impl Fn(Row) -> bool) -> (u64, u64) {
+        let (mut best, mut found) = (0, or);
         for row in self.all().rev() {
             let stamp = row.body().stamp();
-            if stamp < below && stamp >= best.0 && wanted(row) {
+            if stamp < below && stamp >= best && wanted(row) {
                 if let Some((_, value)) = row.body().writes().find(|(written, _)| *written == key) {
-                    best = (stamp, value);
+                    (best, found) = (stamp, (stamp, value));
                 }
             }
         }
-        best
+        found
     }
 }
 
@@ -308,13 +330,13 @@ fn keep(answer: Answer) -> Step {
 
 fn prepare(rows: Rows, marks: &[u64], tx: Body, settings: &Settings) -> Step {
     let Some(place) = rows.place(tx.stamp()) else {
-        if rows.0.len() as u64 >= settings.capacity {
+        if rows.rows.len() as u64 >= settings.capacity {
             return keep(Answer::Refused(13));
         }
         let (vote, reason) = rows.first_vote(marks, tx, settings);
-        return (told(vote, reason), Some((rows.0.len(), Codes { vote, reason, ..NEW })));
+        return (told(vote, reason), Some((rows.rows.len(), Codes { vote, reason, ..NEW })));
     };
-    let held = Row(&rows.0[place]);
+    let held = Row(&rows.rows[place]);
     if !held.same(tx) {
         return keep(Answer::Refused(9));
     }
@@ -336,13 +358,13 @@ fn log(rows: Rows, tx: Body, list: &List, settings: &Settings) -> Step {
         if lacking > 0 {
             return keep(Answer::TooFew(lacking));
         }
-        if rows.0.len() as u64 >= settings.capacity {
+        if rows.rows.len() as u64 >= settings.capacity {
             return keep(Answer::Refused(13));
         }
         let stored = Codes { log: list.decision, ..NEW };
-        return (Answer::Logged(decision(list.decision), 0), Some((rows.0.len(), stored)));
+        return (Answer::Logged(decision(list.decision), 0), Some((rows.rows.len(), stored)));
     };
-    let held = Row(&rows.0[place]);
+    let held = Row(&rows.rows[place]);
     if !held.same(tx) {
         return keep(Answer::Refused(9));
     }
@@ -367,12 +389,12 @@ fn decide(rows: Rows, tx: Body, list: &List, settings: &Settings) -> Step {
     }
     let alone = Codes { decided: list.decision, ..NEW };
     let Some(place) = rows.place(tx.stamp()) else {
-        if rows.0.len() as u64 >= settings.capacity {
+        if rows.rows.len() as u64 >= settings.capacity {
             return keep(Answer::Refused(13));
         }
-        return (Answer::Done, Some((rows.0.len(), alone)));
+        return (Answer::Done, Some((rows.rows.len(), alone)));
     };
-    let held = Row(&rows.0[place]);
+    let held = Row(&rows.rows[place]);
     match (held.same(tx), held.decided()) {
         (true, NONE) => (Answer::Done, Some((place, Codes { decided: list.decision, ..held.codes() }))),
         (true, decided) if decided == list.decision => keep(Answer::Done),
@@ -446,7 +468,7 @@ fn leader(settings: &Settings, view: u16, stamp: u64) -> u8 {
 
 fn invoke(rows: Rows, tx: Body, told: &Told, settings: &Settings) -> Step {
     let Some(place) = rows.place(tx.stamp()) else { return keep(Answer::Refused(22)) };
-    let (held, codes) = (Row(&rows.0[place]), Row(&rows.0[place]).codes());
+    let (held, codes) = (Row(&rows.rows[place]), Row(&rows.rows[place]).codes());
     if !held.same(tx) {
         return keep(Answer::Refused(9));
     }
@@ -469,7 +491,7 @@ fn invoke(rows: Rows, tx: Body, told: &Told, settings: &Settings) -> Step {
 
 fn lead(rows: Rows, tx: Body, told: &Told, settings: &Settings) -> Step {
     let place = rows.place(tx.stamp());
-    let codes = match place.map(|place| Row(&rows.0[place])) {
+    let codes = match place.map(|place| Row(&rows.rows[place])) {
         Some(held) if !held.same(tx) => return keep(Answer::Refused(9)),
         Some(held) => held.codes(),
         None => NEW,
@@ -486,10 +508,10 @@ fn lead(rows: Rows, tx: Body, told: &Told, settings: &Settings) -> Step {
     if codes.view > view || codes.log_view >= view {
         return keep(Answer::Refused(21));
     }
-    if place.is_none() && rows.0.len() as u64 >= settings.capacity {
+    if place.is_none() && rows.rows.len() as u64 >= settings.capacity {
         return keep(Answer::Refused(13));
     }
-    (Answer::Logged(decision(decided), view), Some((place.unwrap_or(rows.0.len()), Codes { log: decided, log_view: view, view, ..codes })))
+    (Answer::Logged(decision(decided), view), Some((place.unwrap_or(rows.rows.len()), Codes { log: decided, log_view: view, view, ..codes })))
 }
 
 fn read(rows: Rows, marks: &mut [u64], message: &[u8], settings: &Settings) -> Result<Answer, u8> {
@@ -506,10 +528,13 @@ fn read(rows: Rows, marks: &mut [u64], message: &[u8], settings: &Settings) -> R
     if ahead(settings, stamp) {
         return Err(15);
     }
+    if stamp <= rows.low() {
+        return Err(18);
+    }
     let mark = &mut marks[key as usize];
     *mark = stamp.max(*mark);
-    let committed = rows.newest(key, stamp, |row| row.decided() == COMMIT);
-    let undecided = rows.newest(key, stamp, |row| row.decided() == NONE && row.live());
+    let committed = rows.newest(key, stamp, rows.fold(key), |row| row.decided() == COMMIT);
+    let undecided = rows.newest(key, stamp, (0, 0), |row| row.decided() == NONE && row.live());
     Ok(Answer::Found { committed, undecided })
 }
 
@@ -518,12 +543,21 @@ fn taken(table: &[u8], capacity: usize) -> Result<Rows<'_>, u8> {
     if table.len() < table_len(capacity) || table[0] as usize > capacity {
         return Err(16);
     }
-    let rows = Rows(&table[HEAD..].as_chunks().0[..table[0] as usize]);
+    let (head, rows) = table.split_at(HEAD);
+    let rows = Rows { head, rows: &rows.as_chunks().0[..head[0] as usize] };
     if rows.all().all(Row::in_order) {
         Ok(rows)
     } else {
         Err(16)
     }
+}
+
+/// 18: the first that the state refuses.
+fn not_old(rows: Rows, tx: Body) -> Result<(), u8> {
+    if tx.stamp() <= rows.low() {
+        return Err(18);
+    }
+    Ok(())
 }
 
 /// Any message but an RD as one step, and the length of its body.
@@ -534,6 +568,7 @@ fn step(rows: Rows, marks: &[u64], message: &[u8], settings: &Settings) -> Resul
             return Err(4);
         }
         judge_transaction(tx)?;
+        not_old(rows, tx)?;
         return Ok((prepare(rows, marks, tx, settings), tx.0.len()));
     }
     if message.starts_with(b"IV") || message.starts_with(b"LD") {
@@ -541,6 +576,7 @@ fn step(rows: Rows, marks: &[u64], message: &[u8], settings: &Settings) -> Resul
         let told = cut_told(behind, if invoking { b"VS" } else { b"EL" })?;
         judge_transaction(tx)?;
         told.judge(settings)?;
+        not_old(rows, tx)?;
         let step = if invoking { invoke(rows, tx, &told, settings) } else { lead(rows, tx, &told, settings) };
         return Ok((step, tx.0.len()));
     }
@@ -548,6 +584,7 @@ fn step(rows: Rows, marks: &[u64], message: &[u8], settings: &Settings) -> Resul
     judge_transaction(tx)?;
     let logging = message.starts_with(b"LG");
     list.judge(settings, !logging)?;
+    not_old(rows, tx)?;
     let step = if logging { log(rows, tx, &list, settings) } else { decide(rows, tx, &list, settings) };
     Ok((step, tx.0.len()))
 }
