@@ -15,7 +15,7 @@ use Rattle.terms.specs.Checks.{orElse, ifLess}
 use Rattle.terms.specs.Refusals.{refusalOf}
 use Rattle.rules.proofs.Running.{running}
 use Rattle.terms.specs.Choice.{pick}
-use Rattle.terms.specs.Group.{boxes, groupWrong}
+use Rattle.terms.specs.Group.{boxes, capacityWrong, groupWrong}
 use Rattle.terms.specs.declared.Decision.the-variants.{Commit as commit, Abort as abort}
 use Rattle.rules.specs.Bodies.{Body, sameBody}
 use Rattle.rules.specs.Lists.{bit}
@@ -123,7 +123,7 @@ unfolding keptAt busyFirst each at eight
 untouched = refl
 
 short-told : lentWrong (toldAt 1 tooLarge) (keptAt 1 eight 4 busyFirst .table) ≡ 16
-unfolding lentWrong toldWrong tooLarge orElse ifLess groupWrong
+unfolding lentWrong toldWrong tooLarge orElse ifLess groupWrong capacityWrong
 short-told = rw (untouched, too-short 8 9 (omega arith))
 
 no-list : (g : Given) → HonestBy 1 liar g (tooLarge .entry) (tooLarge .message)

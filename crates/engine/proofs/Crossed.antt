@@ -6,7 +6,7 @@ use mathlib.Core.Path.{_≡_, refl, ap, sym, _∙_}
 use mathlib.Core.List.{List, [], _∷_}
 use lib.ListN.{length, length-replicate}
 use Rattle.terms.specs.Checks.{orElse, ifLess, table}
-use Rattle.terms.specs.Group.{groupWrong}
+use Rattle.terms.specs.Group.{capacityWrong, groupWrong}
 use Rattle.terms.proofs.Checks.{halt, less-no, less-yes, pass}
 use Rattle.rules.specs.Bodies.{stampOf}
 use Rattle.rules.specs.Table.{Box, Entry, empty}
@@ -62,7 +62,7 @@ module _ {x : Kept} {y : Box} (h : Holds x y) (c : Call)
 
 -- so are later calls
 follows : {x : Kept} {y : Box} → Holds x y → length (y .table) ≤ 8 → (ms : List (List ℕ)) → replies ofCalls x (calls ms) ≡ replies ofRules y (calls ms)
-unfolding calls replies line toldWrong orElse groupWrong ifLess next
+unfolding calls replies line toldWrong orElse groupWrong capacityWrong ifLess next
 follows h n [] = refl
 follows {x} {y} h n (m ∷ ms) =
     let c : Call = record { entry = receive; told = line; message = m } in

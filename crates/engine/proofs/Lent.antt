@@ -4,17 +4,17 @@ use mathlib.Core.Path.{_≡_, refl}
 use mathlib.Core.List.{List}
 use lib.ListN.{length, drop}
 use Rattle.terms.specs.Group.{largestF}
-use Rattle.terms.proofs.Checks.{first-none, rest-none, not-less}
-use Rattle.terms.proofs.Groups.{group-small}
+use Rattle.terms.proofs.Checks.{first-none, rest-none}
+use Rattle.terms.proofs.Groups.{capacity-small, group-small}
 use Rattle.rules.specs.declared.Told.{Told}
 use Rattle.rules.specs.Act.{toldWrong}
 use Rattle.table.specs.Table.{tableWrong, countOf, Wf, headLen, rowLen}
 use Rattle.table.proofs.Checked.{table-room, table-count, table-wf}
 use Rattle.engine.specs.Outcome.{lentWrong}
 
-pub capacity-small : (told : Told) → toldWrong told ≡ 0 → told .capacity ≤ 255
+pub told-small : (told : Told) → toldWrong told ≡ 0 → told .capacity ≤ 255
 unfolding toldWrong
-capacity-small told e = not-less _ _ _ (rest-none _ _ (rest-none _ _ e))
+told-small told e = capacity-small _ (rest-none _ _ e)
 
 module _ (told : Told) (t : List ℕ) (e : lentWrong told t ≡ 0) where
   pub in-order : toldWrong told ≡ 0
@@ -30,7 +30,7 @@ module _ (told : Told) (t : List ℕ) (e : lentWrong told t ≡ 0) where
   small-f = group-small _ _ refl (first-none _ _ in-order) .1
 
   pub small-capacity : told .capacity ≤ 255
-  small-capacity = capacity-small told in-order
+  small-capacity = told-small told in-order
 
   pub long : headLen + told .capacity * rowLen ≤ length t
   long = table-room (told .capacity) t taken

@@ -25,10 +25,7 @@ pub fn told_wrong(told: Told) -> u8
 {
     terms::first(
         terms::group_wrong(told.f),
-        terms::first(
-            terms::refuse_if(told.capacity < 1, terms::GROUP),
-            terms::refuse_if(255 < told.capacity, terms::GROUP),
-        ),
+        terms::capacity_wrong(told.capacity),
     )
 }
 

@@ -5,27 +5,15 @@ use mathlib.Core.Path.{_≡_, refl, ap}
 use mathlib.Core.List.{List}
 use mathlib.Core.Option.{some, none}
 use lib.ListN.{length, drop}
-use Rattle.terms.specs.Checks.{orElse}
-use Rattle.terms.specs.Group.{groupWrong}
-use Rattle.terms.proofs.Checks.{first-none, rest-none, not-less}
-use Rattle.rules.specs.declared.Told.{Told}
+use Rattle.terms.proofs.Checks.{first-none, rest-none}
+use Rattle.terms.proofs.Groups.{capacity-small}
 use Rattle.rules.specs.Table.{find}
-use Rattle.rules.specs.Act.{toldWrong}
 use Rattle.table.specs.declared.State.{State}
 use Rattle.table.specs.Table.{headLen, rowLen, bodyAt, rowAt, entryWith, entryOf, entries, entriesOf, stateAt, stateIn, countOf, tableWrong, place, Wf}
 use Rattle.table.proofs.Checked.{table-room, table-count, table-wf}
 use Rattle.table.proofs.Looking.{find-none, find-some, entries-are}
 use Rattle.held.specs.declared.Holding.{Holding}
-use Rattle.held.specs.Held.{capacityWrong, heldWrong, nothing, holdingOf, bodyPlace, foundIn, heldBy, heldOf}
-
--- 14 is the rules' check of the capacity
-pub as-told : (told : Told) → toldWrong told ≡ orElse (groupWrong (told .f)) (capacityWrong (told .capacity))
-unfolding toldWrong capacityWrong
-as-told told = refl
-
-pub capacity-small : (capacity : ℕ) → capacityWrong capacity ≡ 0 → capacity ≤ 255
-unfolding capacityWrong
-capacity-small capacity e = not-less _ _ _ (rest-none _ _ e)
+use Rattle.held.specs.Held.{heldWrong, nothing, holdingOf, bodyPlace, foundIn, heldBy, heldOf}
 
 -- what 14 and 16 leave of a table
 module _ (t : List ℕ) (capacity : ℕ) (e : heldWrong capacity t ≡ 0) where

@@ -5,6 +5,7 @@ use mathlib.Core.List.{List, [], _∷_}
 use mathlib.Core.Path.{_≡_, refl}
 use lib.ListN.{replicate, take}
 use Rattle.terms.specs.Checks.{orElse, when, ifLess, ifSame}
+use Rattle.terms.specs.Group.{capacityWrong}
 use Rattle.terms.specs.declared.Decision.the-variants.{Abort as abort}
 use Rattle.records.specs.Numbers.{numAt}
 use Rattle.records.specs.Tx.{txOf}
@@ -17,7 +18,7 @@ use Rattle.rules.specs.Table.{find}
 use Rattle.table.specs.declared.State.{State}
 use Rattle.table.specs.Table.{entriesOf, entryOf, entryWith, newCount, newRow, place, reasonWrong, rowBody, rowWrong, stateAt, stateIn, stored, tableLen, tableWrong}
 use Rattle.held.specs.declared.Holding.{Holding}
-use Rattle.held.specs.Held.{bodyBy, bodyHeld, capacityWrong, foundIn, heldBy, heldOf, heldWrong, holdingOf, nothing}
+use Rattle.held.specs.Held.{bodyBy, bodyHeld, foundIn, heldBy, heldOf, heldWrong, holdingOf, nothing}
 use Rattle.held.proofs.Stored.{stored-held}
 
 abbrev body : Body

@@ -4,7 +4,8 @@ use mathlib.Core.List.{List, [], _∷_}
 use mathlib.Core.Option.{Option, some, none}
 use mathlib.Core.Path.{_≡_}
 use lib.ListN.{length, take, drop}
-use Rattle.terms.specs.Checks.{orElse, ifLess, group}
+use Rattle.terms.specs.Checks.{orElse}
+use Rattle.terms.specs.Group.{capacityWrong}
 use Rattle.records.specs.Tx.{txLen, TxThere}
 use Rattle.rules.specs.declared.Log.the-variants.{None as unlogged}
 use Rattle.rules.specs.declared.Settled.the-variants.{None as unsettled}
@@ -16,11 +17,7 @@ use Rattle.table.specs.declared.State.{State}
 use Rattle.table.specs.Table.{headLen, rowLen, bodyAt, entriesOf, tableWrong, stateIn, place, stored}
 use Rattle.held.specs.declared.Holding.{Holding}
 
--- 14: "capacity not 1 to 255"; f is not told here
-unfoldable pub capacityWrong : ℕ → ℕ
-capacityWrong capacity = orElse (ifLess capacity 1 group) (ifLess 255 capacity group)
-
--- "Order: 14, 16"
+-- "Order: 14, 16"; of 14 the capacity, since f is not told here
 unfoldable pub heldWrong : ℕ → List ℕ → ℕ
 heldWrong capacity t = orElse (capacityWrong capacity) (tableWrong capacity t)
 

@@ -5,7 +5,7 @@ ghost use mathlib.Core.Option.{some};
 ghost use Prim.Native.Nat.{_+_, _*_, _≤_, _<_};
 ghost use lib.ListN.{drop, length};
 ghost use Rattle.table.specs.Table.{headLen, rowLen, bodyAt, countOf, entryOf, WfRow, Wf};
-ghost use Rattle.held.specs.Held.{capacityWrong, heldWrong, nothing, holdingOf, foundIn, heldOf, bodyHeld, holdingRow};
+ghost use Rattle.held.specs.Held.{heldWrong, nothing, holdingOf, foundIn, heldOf, bodyHeld, holdingRow};
 use rules::Log;
 use rules::Settled;
 use rules::Vote;
@@ -40,21 +40,11 @@ fn nothing(wrong: u8) -> Holding
     }
 }
 
-// 14 where the capacity is not 1 to 255.
-fn capacity_wrong(capacity: u64) -> u8
-    ensures { λ r. ⌜ r ≡ capacityWrong capacity ⌝ }
-{
-    terms::first(
-        terms::refuse_if(capacity < 1, terms::GROUP),
-        terms::refuse_if(255 < capacity, terms::GROUP),
-    )
-}
-
 // 14, then 16.
 fn held_wrong(t: &[u8], capacity: u64) -> u8
     ensures { λ r. ⌜ r ≡ heldWrong capacity (now (t .entry)) ⌝ }
 {
-    let wrong = capacity_wrong(capacity);
+    let wrong = terms::capacity_wrong(capacity);
     if wrong != 0 {
         return wrong;
     }

@@ -13,18 +13,18 @@ use Rattle.rules.specs.System.{Event, boxAt}
 use Rattle.rules.proofs.Laws.{lt-cases}
 use Rattle.passage.specs.declared.Seen.{Seen}
 use Rattle.passage.specs.Passages.{keyAt, passageWrong, seenWrong, reportedBy, reportOf}
-use Rattle.passage.specs.Register.{seenIn, reportIn, SameTaken, SameReports, SameStanding}
+use Rattle.passage.specs.Register.{seenIn, reportIn, TakenBelow, NewestTaken, never, top, SameTaken, SameReports, SameStanding}
 use Rattle.passage.proofs.Boxes.{shown, seen-is, report-is}
-use Rattle.passage.proofs.History.{Below, Top, never, top, Sees, sees-above, sees-all, shown-top, once, all-stand, stands-taken}
+use Rattle.passage.proofs.History.{Sees, sees-above, sees-all, shown-top, once, all-stand, stands-taken}
 
 module _ (f g i j : ℕ) (es ds : List Event) (same : SameTaken f i es g j ds) (s : ℕ) (seesF : Sees f i es s) (seesG : Sees g j ds s) where
-  over : {k : ℕ} {b : List ℕ} → Below f i es k s b → Below g j ds k s b
+  over : {k : ℕ} {b : List ℕ} → TakenBelow f i es k s b → TakenBelow g j ds k s b
   over {k} {b} w = record { taken = same b .0 (w .taken); writes = w .writes; below = w .below }
 
-  back : {k : ℕ} {b : List ℕ} → Below g j ds k s b → Below f i es k s b
+  back : {k : ℕ} {b : List ℕ} → TakenBelow g j ds k s b → TakenBelow f i es k s b
   back {k} {b} w = record { taken = same b .1 (w .taken); writes = w .writes; below = w .below }
 
-  by : (k : ℕ) {u v : Version} → Top f i es k s u → Top g j ds k s v → u ≡ v
+  by : (k : ℕ) {u v : Version} → NewestTaken f i es k s u → NewestTaken g j ds k s v → u ≡ v
   by k (never n) (never m) = refl
   by k (never n) (top c w up) = absurd (n c (back w))
   by k (top b w up) (never m) = absurd (m b (over w))
@@ -39,8 +39,14 @@ module _ (f g i j : ℕ) (es ds : List Event) (same : SameTaken f i es g j ds) (
 
   seen-same : (p : ℕ) → p ≤ 127 → seenIn (boxAt f i es) p s ≡ seenIn (boxAt g j ds) p s
   seen-same p h =
-      rw (seen-is (boxAt f i es) p s, seen-is (boxAt g j ds) p s,
-      shown-same (keyAt p 0) (omega arith), shown-same (keyAt p 1) (omega arith), shown-same (keyAt p 2) (omega arith), shown-same (keyAt p 3) (omega arith))
+      rw (
+        seen-is (boxAt f i es) p s,
+        seen-is (boxAt g j ds) p s,
+        shown-same (keyAt p 0) (omega arith),
+        shown-same (keyAt p 1) (omega arith),
+        shown-same (keyAt p 2) (omega arith),
+        shown-same (keyAt p 3) (omega arith),
+      )
 
   -- 26 stands before what was seen
   past : (p : ℕ) (x y : Seen) → 127 < p → reportOf p x ≡ reportOf p y
@@ -60,7 +66,8 @@ same-reports f g i j es ds same p s l m = report-same f g i j es ds same s (sees
 pub same-standing : SameStanding
 same-standing f g i j es ds l m same p s =
     report-same f g i j es ds
-    (λ b.
-    (λ t. stands-taken g j b ds (same b .0 (all-stand f i b es l t)),
-    λ t. stands-taken f i b es (same b .1 (all-stand g j b ds m t))))
+    (λ b. (
+      λ t. stands-taken g j b ds (same b .0 (all-stand f i b es l t)),
+      λ t. stands-taken f i b es (same b .1 (all-stand g j b ds m t)),
+    ))
     s (sees-all f i es s l) (sees-all g j ds s m) p

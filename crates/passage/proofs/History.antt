@@ -1,17 +1,17 @@
 -- What a box has taken, along every trace: it stands or was let go, and what is shown of a key is the newest of it.
-use Prim.Native.Nat.{ℕ, zero, suc, _≤_, _<_}
+use Prim.Native.Nat.{ℕ, suc, _≤_, _<_}
 use mathlib.Core.Path.{_≡_, refl, sym, ap, _∙_}
 use mathlib.Core.Logic.{_⊎_, inl, inr}
 use mathlib.Core.Option.{Option}
 use mathlib.Core.List.{List, [], _∷_, List·Memᴰ as In}
 use native.Mathlib.Omega.{arith}
 use lib.Dec.{T, ltb}
-use lib.ListN.{getD, replicate}
+use lib.ListN.{getD-replicate}
 use Rattle.records.specs.Contents.{largestKey}
 use Rattle.rules.specs.declared.Version.{Version}
 use Rattle.rules.specs.Bodies.{Body, stampOf, writesOf, writesKey}
 use Rattle.rules.specs.Table.{Entry, empty, foldAt, noVersion}
-use Rattle.rules.specs.Calls.{valueAt, versionOr}
+use Rattle.rules.specs.Calls.{rdAnswer, valueAt, versionOr}
 use Rattle.rules.specs.Low.{foldUpTo, newerFold}
 use Rattle.rules.specs.System.{Event, boxAt}
 use Rattle.rules.proofs.Laws.{pick-elim, find-in, lt-cases}
@@ -19,7 +19,8 @@ use Rattle.rules.proofs.Moves.{some-eq}
 use Rattle.rules.proofs.Folds.{fold-is, fold-over, fold-up, find-above}
 use Rattle.rules.proofs.Trace.{table, low, folds, Step, still, arrives, lifts, Lifted, step}
 use Rattle.rules.proofs.Local.{local}
-use Rattle.passage.specs.Register.{versionAt, Takes, Taken, LetGo, Stands, TakenStands, StandsTaken, AllStand, TakenOnce}
+use Rattle.passage.specs.Register.{versionAt, Takes, Taken, LetGo, Stands, TakenBelow, NewestTaken, never, top}
+use Rattle.passage.specs.Register.{TakenStands, StandsTaken, AllStand, TakenOnce, ShowsTaken}
 use Rattle.passage.proofs.Newest.{Fits, committed, Newest, no-one, this, newest-is}
 use Rattle.passage.proofs.Boxes.{shown}
 use Rattle.passage.proofs.Taking.{Held, stays, taken-now}
@@ -132,7 +133,7 @@ module _ (f i : ℕ) where
       → Newest k (suc l) (table f i es) o → Folded (e ∷ es) k (newerFold k g o)
   unfolding newerFold versionOr Taken
   fold-new e es l k g q y (no-one n) = y
-  fold-new e es l k g q y (this o m w top) =
+  fold-new e es l k g q y (this o m w most) =
       pick-elim (Folded (e ∷ es) k) (ltb (g .stamp .0) (stampOf o.body))
       (λ _. inr (record {
         body = o.body;
@@ -143,14 +144,9 @@ module _ (f i : ℕ) where
       }))
       (λ _. y)
 
-  none-there : (n k : ℕ) → getD (replicate n noVersion) k noVersion ≡ noVersion
-  none-there zero k = refl
-  none-there (suc n) zero = refl
-  none-there (suc n) (suc k) = none-there n k
-
   folded-is : (k : ℕ) → k ≤ largestKey → (es : List Event) → Folded es k (foldAt (folds f i es) k)
   unfolding folds boxAt empty foldUpTo
-  folded-is k h [] = inl (none-there 512 k)
+  folded-is k h [] = inl (getD-replicate 512 k noVersion noVersion (omega arith))
   folded-is k h (e ∷ es) = go (step f i e es) (folded-is k h es)
     where
       go : Step f i e es → Folded es k (foldAt (folds f i es) k) → Folded (e ∷ es) k (foldAt (folds f i (e ∷ es)) k)
@@ -163,15 +159,6 @@ module _ (f i : ℕ) where
           (newest-is k (suc (s .mark)) (table f i es)))
 
   -- ---- what is shown of a key: the newest of what was taken below the stamp, or none
-  pub record Below (es : List Event) (k s : ℕ) (b : Body) : Type 0 where
-    pub taken : Taken f i b es
-    pub writes : T (writesKey b k)
-    pub below : stampOf b < s
-
-  pub data Top (es : List Event) (k s : ℕ) : Version → Type 0 where
-    never : ((b : Body) → Below es k s b → ⊥) → Top es k s noVersion
-    top : (b : Body) → Below es k s b → ((c : Body) → Below es k s c → stampOf c ≤ stampOf b) → Top es k s (versionAt (stampOf b) (valueAt k (writesOf b)))
-
   -- s is above what was let go
   abbrev pub Sees : List Event → ℕ → Type 0
   Sees es s = (n : ℕ) → 1 ≤ n → n ≤ low f i es → n < s
@@ -185,21 +172,21 @@ module _ (f i : ℕ) where
   sees-all es s z n a b = absurd (omega arith)
 
   module _ (es : List Event) (k s : ℕ) (h : k ≤ largestKey) (sees : Sees es s) where
-    fits-held : (b : Body) → Below es k s b → (y : Held (table f i es) b) → Fits k s (y .entry)
+    fits-held : (b : Body) → TakenBelow f i es k s b → (y : Held (table f i es) b) → Fits k s (y .entry)
     fits-held b w y = record { committed = y .committed; writes = rw (y .body) (w .writes); below = rw (y .body) (w .below) }
 
     inside-held : (b : Body) (y : Held (table f i es) b) → In (y .entry) (table f i es)
     inside-held b y = find-in (stampOf b) (table f i es) (y .entry) (y .at)
 
     -- where no entry fits, all was let go
-    all-gone : ((e : Entry) → In e (table f i es) → Fits k s e → ⊥) → (b : Body) → Below es k s b → Gone es b
+    all-gone : ((e : Entry) → In e (table f i es) → Fits k s e → ⊥) → (b : Body) → TakenBelow f i es k s b → Gone es b
     all-gone n b w = go (where-is b es (w .taken))
       where
         go : Where es b → Gone es b
         go (inl y) = absurd (n (y .entry) (inside-held b y) (fits-held b w y))
         go (inr y) = y
 
-    by-fold : ((e : Entry) → In e (table f i es) → Fits k s e → ⊥) → (v : Version) → foldAt (folds f i es) k ≡ v → Folded es k v → Top es k s v
+    by-fold : ((e : Entry) → In e (table f i es) → Fits k s e → ⊥) → (v : Version) → foldAt (folds f i es) k ≡ v → Folded es k v → NewestTaken f i es k s v
     by-fold n v q (inl z) =
         rw z (never (λ b w.
         omega (arith, not-0 b es (w .taken), all-gone n b w .folded k h (w .writes), ap (λ (u : Version). u .stamp .0) (q ∙ z))))
@@ -209,18 +196,18 @@ module _ (f i : ℕ) where
         (record { taken = y .taken; writes = y .writes; below = sees (stampOf (y .body)) (not-0 (y .body) es (y .taken)) (y .below) })
         (λ c w. omega (arith, all-gone n c w .folded k h (w .writes), ap (λ (u : Version). u .stamp .0) (q ∙ y .version))))
 
-    by-table : {o : Option Entry} → Newest k s (table f i es) o → Top es k s (versionOr k (foldAt (folds f i es) k) o)
+    by-table : {o : Option Entry} → Newest k s (table f i es) o → NewestTaken f i es k s (versionOr k (foldAt (folds f i es) k) o)
     unfolding versionOr
     by-table (no-one n) = by-fold n (foldAt (folds f i es) k) refl (folded-is k h es)
     by-table (this e m q up) =
         top e.body (record { taken = committed-taken f i es e m (q .committed); writes = q .writes; below = q .below })
         (λ c w. go c w (where-is c es (w .taken)))
       where
-        go : (c : Body) → Below es k s c → Where es c → stampOf c ≤ stampOf e.body
+        go : (c : Body) → TakenBelow f i es k s c → Where es c → stampOf c ≤ stampOf e.body
         go c w (inl y) = rw (y .body) at (up (y .entry) (inside-held c y) (fits-held c w y))
         go c w (inr y) = omega (arith, y .below, local f i es .high e m)
 
-    pub shown-top : Top es k s (shown (boxAt f i es) k s)
+    pub shown-top : NewestTaken f i es k s (shown (boxAt f i es) k s)
     unfolding shown table folds
     shown-top = by-table (newest-is k s (table f i es))
 
@@ -247,3 +234,7 @@ all-stand f i b es z t = go (taken-stands f i b es t)
 
 pub taken-once : TakenOnce
 taken-once f i b c es t u q = once f i b c es t u q
+
+pub shows-taken : ShowsTaken
+unfolding shown rdAnswer
+shows-taken f i es k s h l = shown-top f i es k s h (sees-above f i es s l)

@@ -20,14 +20,14 @@ use Rattle.passage.specs.declared.Seen.{Seen}
 use Rattle.passage.specs.declared.Reported.the-variants.{Of}
 use Rattle.passage.specs.Passages.{keyAt, valuesOf, passageWrong, valuesWrong, seenWrong, reported, reportOf}
 use Rattle.passage.specs.Corrections.{writeOf, turned, passageTx, madeBy, madeAfter, directionCorrected, entered}
-use Rattle.passage.specs.Register.{versionAt, standing, seenIn, reportIn, Alone, Last, LastTaken, MadeAs}
+use Rattle.passage.specs.Register.{versionAt, standing, seenIn, reportIn, Alone, Last, NewestTaken, never, top, LastTaken, MadeAs}
 use Rattle.passage.specs.Register.{EntryShown, CorrectionShown, ReportBack, BoxBack, AloneTaken}
 use Rattle.passage.proofs.Checked.{right}
 use Rattle.passage.proofs.Making.{low, tx-held}
 use Rattle.passage.proofs.Leading.{turned-back, stays-right, report-standing}
 use Rattle.passage.proofs.Newest.{Fits, Newest, no-one, this, newest-is}
 use Rattle.passage.proofs.Boxes.{shown, seen-is, report-is, stands-of}
-use Rattle.passage.proofs.History.{Top, never, top, shown-top, sees-above, all-stand}
+use Rattle.passage.proofs.History.{shown-top, sees-above, all-stand}
 
 -- what RDs below s show of what b writes of the passage: b
 unfoldable pub Shows : Box → ℕ → ℕ → Body → Type 0
@@ -55,7 +55,7 @@ last-shows x p s b l n h w = last-by (foldAt x.folds (keyAt p n)) l n h w (newes
 
 -- ---- the last one that was taken
 module _ (f i : ℕ) (es : List Event) (p s : ℕ) (b : Body) (low : p ≤ 127) (l : LastTaken f i es p s b) where
-  taken-by : (n : ℕ) → n < 4 → T (writesKey b (keyAt p n)) → {v : Version} → Top f i es (keyAt p n) s v
+  taken-by : (n : ℕ) → n < 4 → T (writesKey b (keyAt p n)) → {v : Version} → NewestTaken f i es (keyAt p n) s v
       → v ≡ versionAt (stampOf b) (valueAt (keyAt p n) (writesOf b))
   taken-by n h w (never none) = absurd (none b (record { taken = l .taken; writes = w; below = l .below }))
   taken-by n h w (top c y up) =

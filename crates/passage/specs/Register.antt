@@ -16,10 +16,10 @@ use Rattle.rules.specs.declared.Version.{Version}
 use Rattle.terms.specs.declared.Decision.the-variants.{Commit as commit}
 use Rattle.rules.specs.declared.Answer.the-variants.{Done}
 use Rattle.rules.specs.declared.Settled.the-variants.{Is as settled}
-use Rattle.rules.specs.Bodies.{Body, stampOf, writesKey}
+use Rattle.rules.specs.Bodies.{Body, stampOf, writesKey, writesOf}
 use Rattle.rules.specs.Lists.{decisionOf}
-use Rattle.rules.specs.Table.{Box, Entry, foldedAt}
-use Rattle.rules.specs.Calls.{rdAnswer, raises}
+use Rattle.rules.specs.Table.{Box, Entry, foldedAt, noVersion}
+use Rattle.rules.specs.Calls.{rdAnswer, raises, valueAt}
 use Rattle.rules.specs.Act.{boxAfter, markBy}
 use Rattle.rules.specs.System.{Event, Fair, Proof, answerTo, boxAt, howMany}
 use Rattle.passage.specs.declared.Values.{Values}
@@ -27,7 +27,7 @@ use Rattle.passage.specs.declared.Seen.{Seen}
 use Rattle.passage.specs.declared.Made.{Made}
 use Rattle.passage.specs.declared.Reported.{Reported}
 use Rattle.passage.specs.declared.Reported.the-variants.{Of}
-use Rattle.passage.specs.Passages.{keyAt, valuesOf, seenWrong, fromLead, reported, reportOf, halves, reportFrom, asksWrong}
+use Rattle.passage.specs.Passages.{half, keyAt, valuesOf, seenWrong, fromLead, reported, reportOf, halves, reportFrom, asksWrong}
 use Rattle.passage.specs.Corrections.{turned, directionCorrected, corrected, entered}
 
 -- ---- "The report counts from the train's leading end"
@@ -139,6 +139,22 @@ AllStand = (f i : ℕ) (b : Body) (es : List Event) → boxAt f i es .low ≡ 0 
 abbrev pub TakenOnce : Type 0
 TakenOnce = (f i : ℕ) (b c : Body) (es : List Event) → Taken f i b es → Taken f i c es → stampOf b ≡ stampOf c → b ≡ c
 
+-- taken, a writer of the key, below the stamp
+pub record TakenBelow (f i : ℕ) (es : List Event) (k s : ℕ) (b : Body) : Type 0 where
+  pub taken : Taken f i b es
+  pub writes : T (writesKey b k)
+  pub below : stampOf b < s
+
+-- a version: none where nothing such was taken, else of the newest
+pub data NewestTaken (f i : ℕ) (es : List Event) (k s : ℕ) : Version → Type 0 where
+  never : ((b : Body) → TakenBelow f i es k s b → ⊥) → NewestTaken f i es k s noVersion
+  top : (b : Body) → TakenBelow f i es k s b → ((c : Body) → TakenBelow f i es k s c → stampOf c ≤ stampOf b)
+      → NewestTaken f i es k s (versionAt (stampOf b) (valueAt k (writesOf b)))
+
+-- A11: "RD shows only what that box took", and of that the newest, let go or not
+abbrev pub ShowsTaken : Type 0
+ShowsTaken = (f i : ℕ) (es : List Event) (k s : ℕ) → k ≤ largestKey → boxAt f i es .low < s → NewestTaken f i es k s (half (rdAnswer (boxAt f i es) k s))
+
 -- a passage's transaction that is the last one is what every RD shows: an entry, and the direction's correction
 abbrev pub EntryShown : Type 0
 EntryShown = (x : Box) (p s : ℕ) (seen : Seen) (v : Values) (b : Body) → MadeAs (entered p seen (stampOf b) v) b → Last x p s b
@@ -187,7 +203,7 @@ abbrev pub AloneTaken : Type 0
 AloneTaken = (f i : ℕ) (es : List Event) (p s : ℕ) (b : Body) → boxAt f i es .low ≡ 0 → Taken f i b es → stampOf b < s → Alone (boxAt f i es) p s b
     → LastTaken f i es p s b
 
--- the same on a box that has taken all three, at three moments of its own; each may have been let go by then
+-- the first report is back on a box that has taken all three, looked at in three moments of its own; each may have been let go by then
 abbrev pub BoxBack : Type 0
 BoxBack = (f i : ℕ) (es ds cs : List Event) (p q r s : ℕ) (seen : Seen) (v : Values) (b c d : Body)
     → MadeAs (entered p seen (stampOf b) v) b → LastTaken f i es p q b

@@ -11,6 +11,7 @@ use borrow.Author.Tests.{lt-ltb, ltb-true, ltb-false}
 use Rattle.terms.specs.Choice.{pick}
 use Rattle.terms.specs.Refusals.{refusalOf}
 use Rattle.terms.proofs.Checks.{not-less, first-none, rest-none}
+use Rattle.terms.proofs.Groups.{capacity-small}
 use Rattle.records.specs.Numbers.{numAt}
 use Rattle.rules.specs.declared.Answer.the-variants.{Refused}
 use Rattle.rules.specs.declared.Told.{Told}
@@ -285,7 +286,7 @@ zeros-empty n = rw (low-none (suc n), folds-none (suc n))
 pub zeros-start : (input : List ℕ) → gpRefusal input ≡ 0 → (tableWrong (getD input 3 0) (replicate 54101 0) ≡ 0) × (boxIn (kept (replicate 54101 0) (replicate 512 0)) ≡ empty)
 unfolding gpRefusal toldWrong toldBy
 zeros-start input z =
-    let c : getD input 3 0 ≤ 255 = not-less _ _ _ (rest-none _ _ (rest-none _ _ (rest-none _ _ (rest-none _ _ z)))) in
+    let c : getD input 3 0 ≤ 255 = capacity-small _ (rest-none _ _ (rest-none _ _ (rest-none _ _ z))) in
     (zeros-taken (getD input 3 0) 54100 (omega arith), zeros-empty 54100)
 
 -- the first line, then the rest

@@ -3,13 +3,12 @@ use Prim.Native.Nat.{ℕ, _≤_, _<_}
 use mathlib.Core.Bool.{Bool, _&&_}
 use mathlib.Core.Path.{_≡_, refl, sym, _∙_, ap}
 use mathlib.Core.Logic.{_⊎_, inl, inr}
-use mathlib.Core.Option.{Option, some, none}
 use mathlib.Core.List.{List, [], _∷_, List·Memᴰ as In, List·Memᴰ·head as here}
 use native.Mathlib.Omega.{arith}
 use lib.Dec.{T, ltb, ltb→lt}
 use Rattle.records.specs.Contents.{largestKey}
 use Rattle.records.specs.Tx.{readKey, readVersion}
-use Rattle.rules.specs.Answers.{Decision, Version, commit, abort, settled, Settled, unsettled}
+use Rattle.rules.specs.Answers.{Version, commit, abort, settled, Settled, unsettled}
 use Rattle.rules.specs.Bodies.{Body, stampOf, readsOf, writesKey}
 use Rattle.rules.specs.Table.{Entry, empty, foldAt}
 use Rattle.rules.specs.Tests.{undercut}
@@ -18,7 +17,7 @@ use Rattle.rules.specs.Low.{above, foldsUpTo}
 use Rattle.rules.specs.Act.{tableAfter}
 use Rattle.rules.specs.System.{Event, boxAt, vote, gave, Sound, Fair, Proof}
 use Rattle.rules.proofs.Laws.{ands, any-found, find-stamp, find-in, lt-cases}
-use Rattle.rules.proofs.Moves.{none-some, abort-commit, stands-cast, Clear, un-settled}
+use Rattle.rules.proofs.Moves.{abort-commit, stands-cast, Clear, un-settled}
 use Rattle.rules.proofs.Folds.{fold-over, fold-up, in-above}
 use Rattle.rules.proofs.Kept.{Keeps, Kept}
 use Rattle.rules.proofs.Said.{spoken}
@@ -111,8 +110,8 @@ module _ (f : ℕ) (faulty : ℕ → Bool) where
   here-or-dead i es R b g l = kept-or-dead i es R b (local f i es .kept b (vote commit) g l)
 
   -- a body that passed the tests, against one accepted before
-  module _ (i : ℕ) (es : List Event) (R : Rests f faulty i es) (P : Parted i es) (b : Body) (high : low f i es < stampOf b) (C : Clear (boxAt f i es) b)
-      where
+  module _ (i : ℕ) (es : List Event) (R : Rests f faulty i es) (P : Parted i es) (b : Body) (high : low f i es < stampOf b)
+      (C : Clear (boxAt f i es) b) where
     under-entry : (c : Body) → T (undercut b c) → Dead es c ⊎ Upright (table f i es) c → Dead es c
     unfolding table
     under-entry c h (inl d) = d

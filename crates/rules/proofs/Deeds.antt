@@ -9,7 +9,7 @@ use mathlib.Core.List.{List, List·Memᴰ as In}
 use native.Mathlib.Omega.{arith}
 use lib.Dec.{T, eqb, eqb-refl, leb, le→leb, nleb→lt}
 use Rattle.terms.specs.Choice.{any, pick}
-use Rattle.terms.specs.Checks.{ifSame, when, old}
+use Rattle.terms.specs.Checks.{ifSame}
 use Rattle.terms.specs.Refusals.{refusalOf}
 use Rattle.terms.specs.declared.Refusal.{Refusal}
 use Rattle.terms.proofs.Checks.{first-none, rest-none, not-less, when-none}
@@ -24,7 +24,7 @@ use Rattle.rules.specs.Answers.{Answer, Raised, unsettled, votes}
 use Rattle.rules.specs.Bodies.{Body, stampOf}
 use Rattle.rules.specs.Lists.{kindOf}
 use Rattle.rules.specs.Table.{Box, Entry, Told}
-use Rattle.rules.specs.Calls.{Act, keep, refuse, guarded, isUndecided, lookAct, oldWrong, prRule, lgRule, dcRule, raisesLow, rdRule}
+use Rattle.rules.specs.Calls.{Act, keep, refuse, guarded, isUndecided, lookAct, oldWrong, raisesLow, rdRule}
 use Rattle.rules.specs.Low.{lowRule, lowWrong, openUpTo, upTo}
 use Rattle.records.specs.Cutting.{txPart}
 use Rattle.rules.specs.Act.{EntryPoint, receive, due, raising, toldWrong, unlessOld, rule, dueAct, markedAct, markBy, actBy, act}

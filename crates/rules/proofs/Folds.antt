@@ -1,6 +1,6 @@
 -- The newest writer of a key, and what a raised low mark leaves: the folds only rise, over what they take in, and the entries above it stay.
 use Prim.Native.Nat.{ℕ, zero, suc, _+_, _≤_, _<_}
-use mathlib.Core.Bool.{Bool, true, false, not, _&&_}
+use mathlib.Core.Bool.{Bool, not, _&&_}
 use mathlib.Core.Path.{_≡_, refl, sym, _∙_, ap}
 use mathlib.Core.Logic.{_⊎_, inl, inr}
 use mathlib.Core.Option.{Option, some, none}
@@ -165,8 +165,11 @@ module _ (l : ℕ) (t : List Entry) (folds : List Version) where
   unfolding foldUpTo isCommitted
   fold-over k h e w =
       rw (fold-is k h)
-      (omega (arith, newest-up k (λ o. isCommitted o.decided) (suc l) t e (w .inside) (rw (w .committed) tt) (w .writes) (omega (arith, w .below)),
-      newer-over k (foldAt folds k) (newest (λ o. isCommitted o.decided) k (suc l) t)))
+      (omega (
+        arith,
+        newest-up k (λ o. isCommitted o.decided) (suc l) t e (w .inside) (rw (w .committed) tt) (w .writes) (omega (arith, w .below)),
+        newer-over k (foldAt folds k) (newest (λ o. isCommitted o.decided) k (suc l) t),
+      ))
 
   -- and is what it was, none, or one of those
   pub data From (k : ℕ) : Type 0 where

@@ -7,7 +7,7 @@ use mathlib.Core.Option.{Option, some}
 use mathlib.Core.List.{List}
 use native.Mathlib.Omega.{arith}
 use lib.Dec.{T, eqb, eqb→eq}
-use Rattle.rules.specs.Answers.{Decision, Version, commit, settled, Log, logged, unlogged, logView, viewAs}
+use Rattle.rules.specs.Answers.{Decision, commit, settled, Log, logged, unlogged, logView, viewAs}
 use Rattle.rules.specs.Bodies.{Body, stampOf}
 use Rattle.rules.specs.Table.{Entry, Box, find, put}
 use Rattle.rules.specs.Calls.{Act, Change, nothing, puts, raises, raisesLow, castAct, logAct, decideAct}

@@ -143,9 +143,13 @@ module _ (f i : ℕ) where
 
       vote-by : (b c : Body) (d d′ : Decision) → stampOf b ≡ stampOf c → New f i e es a b (vote d) → New f i e es a c (vote d′) → (b ≡ c) × (d ≡ d′)
       vote-by b c d d′ q (inl u) (inl v) = let k : vote d ≡ vote d′ = some-eq (u .1) (v .1) in (sym (u .0) ∙ v .0, cc)
-      vote-by b c d d′ q (inl u) (inr v) = rw (← u .0) (vote-once (said m (vote d) (u .1)) (L .kept c (vote d′) v (omega (arith, s .high, q, ap stampOf (u .0)))) (rw (u .0) q))
+      vote-by b c d d′ q (inl u) (inr v) =
+          let l : low f i es < stampOf c = omega (arith, s .high, q, ap stampOf (u .0)) in
+          rw (← u .0) (vote-once (said m (vote d) (u .1)) (L .kept c (vote d′) v l) (rw (u .0) q))
       vote-by b c d d′ q (inr u) (inl v) =
-          let w = vote-once (said m (vote d′) (v .1)) (L .kept b (vote d) u (omega (arith, s .high, q, ap stampOf (v .0)))) (rw (v .0) (sym q)) in (sym (w .0) ∙ v .0, sym (w .1))
+          let l : low f i es < stampOf b = omega (arith, s .high, q, ap stampOf (v .0)) in
+          let w = vote-once (said m (vote d′) (v .1)) (L .kept b (vote d) u l) (rw (v .0) (sym q)) in
+          (sym (w .0) ∙ v .0, sym (w .1))
       vote-by b c d d′ q (inr u) (inr v) = L .one-vote b c d d′ u v q
 
       log-by : (b : Body) (d d′ : Decision) (v : ℕ) → New f i e es a b (log d v) → New f i e es a b (log d′ v) → d ≡ d′

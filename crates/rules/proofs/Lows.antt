@@ -1,6 +1,6 @@
 -- The vectors and traces of specs/Lows, by computation.
-use Prim.Native.Nat.{ℕ, zero, suc, _<_}
-use mathlib.Core.Bool.{Bool, true, not}
+use Prim.Native.Nat.{ℕ, zero, suc}
+use mathlib.Core.Bool.{Bool, true}
 use mathlib.Core.Path.{_≡_, refl}
 use mathlib.Core.List.{[]}
 use native.Mathlib.Omega.{arith}
@@ -15,18 +15,21 @@ use Rattle.rules.specs.System.{Fair, Sound, answerTo, howMany}
 use Rattle.rules.specs.SlipUnder.{asks, holds, isFound, isRd, watched}
 use Rattle.rules.specs.Cases.{PR, RD, commits, found, reads, writes}
 use Rattle.rules.specs.Counts.{abortsBy, commitsBy, done, writers}
-use Rattle.rules.specs.Traces.{at, each, liar}
+use Rattle.rules.specs.Traces.{liar}
 use Rattle.rules.specs.Lows.{FoldCounts, Left, Lowered, NowIsTooWeak, Reused, called, countDue, countOf, counts, emptied, filled, folded, foldings}
 use Rattle.rules.specs.Lows.{heldBy, leavings, leaves, leftBy, lentLow, letGo, lowCases, named, olds, packEach, packed, readWithoutNow}
 use Rattle.rules.specs.Lows.{readsWithoutNow, reused, roomy, shown, version}
-use Rattle.rules.proofs.Laws.{no-both}
 use Rattle.rules.proofs.Made.{provable, provable-proof}
 use Rattle.rules.proofs.Running.{running, tracing}
 use Rattle.rules.proofs.Safety.{safety}
 use Rattle.rules.proofs.Traces.{checking, fair-by, fairTest, few}
 
+unfoldable lowering : ℕ
+unfolding called version folded lentLow olds named shown roomy lowCases
+lowering = 0
+
 unfoldable letting : ℕ
-unfolding called version folded lentLow olds named shown roomy lowCases leaves heldBy leftBy leavings done writers commitsBy abortsBy countOf countDue counts foldings
+unfolding lowering leaves heldBy leftBy leavings done writers commitsBy abortsBy countOf countDue counts foldings
 letting = 0
 
 pub lowered : Lowered

@@ -226,7 +226,8 @@ module _ (x : Box) (p q : Call) (dp : IsDC p) (dq : IsDC q) (apart : stampIn p �
   y = next x p
 
   -- what p puts is not seen under q's stamp
-  find-by : (c : Change) (a : Answer) → FitsIn (p .told) x (txPart (p .message)) c → Takes c a → find (stampIn q) (tableAfter x.table c) ≡ find (stampIn q) x.table
+  find-by : (c : Change) (a : Answer) → FitsIn (p .told) x (txPart (p .message)) c → Takes c a
+      → find (stampIn q) (tableAfter x.table c) ≡ find (stampIn q) x.table
   unfolding FitsBy Takes tableAfter
   find-by nothing a h k = refl
   find-by (raises n s) a h k = refl

@@ -35,7 +35,8 @@ refused-move r (elects told v e d u p h c) q = let z : _≡_ {A = ℕ} 0 1 = cc 
 refused-move r (decides l o w p) q = let z : _≡_ {A = ℕ} 0 1 = cc in absurd (omega arith)
 refused-move r (replaces l e w p d) q = let z : _≡_ {A = ℕ} 0 1 = cc in absurd (omega arith)
 
-refused-change : {f : ℕ} {x : Box} {way : EntryPoint} {m : List ℕ} {b : Body} {a : Act} (r : Refusal) → Deed f x way m b a → a .answer ≡ Refused r → a .change ≡ nothing
+refused-change : {f : ℕ} {x : Box} {way : EntryPoint} {m : List ℕ} {b : Body} {a : Act} (r : Refusal) → Deed f x way m b a
+    → a .answer ≡ Refused r → a .change ≡ nothing
 unfolding lookAct rdAnswer
 refused-change r (moves l k) q = refused-move r k q
 refused-change r (idles n) q = refl

@@ -28,7 +28,7 @@ use Rattle.rules.specs.System.{Event, boxAt, vote, log, elect, cast, gav
 use Rattle.rules.proofs.Laws.{find-stamp, find-in}
 use Rattle.rules.proofs.Moves.{un-settled, abort-commit, Names, start, here-held, here-folded, Ready, Listed, in-lg, in-dc, Brings, Leads, Move}
 use Rattle.rules.proofs.Said.{Said, repeats, by-tests, by-list, by-leader, by-log, said}
-use Rattle.rules.proofs.Folds.{FoldsIn, From, as-it-was, fold-from, folded-in, in-above, without}
+use Rattle.rules.proofs.Folds.{From, as-it-was, fold-from, folded-in, in-above, without}
 use Rattle.rules.proofs.Fresh.{Fresh, after-cases}
 use Rattle.rules.proofs.Trace.{table, folds, New, Idle, Moved, Lifted, Step, still, arrives, lifts, step}
 use Rattle.rules.proofs.Local.{carried-gave, local}

@@ -24,8 +24,8 @@ use Rattle.rules.specs.Answers.{Decision, commit, abort, Log, logged, un
 use Rattle.rules.specs.Bodies.{Body, stampOf, sameBody}
 use Rattle.rules.specs.Lists.{decisionOf, meets}
 use Rattle.rules.specs.Table.{Entry, Box, Told, find, put}
-use Rattle.rules.specs.Calls.{Act, Change, nothing, puts, raises, raisesLow, isFull, roomFor, needing, sameDecision, castAct, prByVote, prByDecision, prByEntry, prRule, logAct}
-use Rattle.rules.specs.Calls.{lgByLog, lgByDecision, lgByEntry, lgRule, decideAct, dcSame, dcOther, dcByEntry, dcRule, guarded, lookAct, rdRule}
+use Rattle.rules.specs.Calls.{Act, Change, nothing, puts, raises, raisesLow, isFull, roomFor, needing, sameDecision, castAct, prByVote, prByDecision}
+use Rattle.rules.specs.Calls.{prByEntry, prRule, logAct, lgByLog, lgByDecision, lgByEntry, lgRule, decideAct, dcSame, dcOther, dcByEntry, dcRule, guarded, lookAct, rdRule}
 use Rattle.records.specs.Cutting.{txPart}
 use Rattle.records.specs.Messages.{listBehind, viewsBehind}
 use Rattle.rules.specs.Fallback.{largestView, nextView, electAct, ivByLog, ivByDecision, ivByEntry, ivRule}

@@ -1,7 +1,7 @@
 -- For proofs by computation: `unfolding running` opens all that a box computes with, `unfolding tracing` all that a trace does.
 use Prim.Native.Nat.{ℕ}
 use Rattle.terms.specs.Checks.{orElse, when, ifLess, ifSame, ifOther}
-use Rattle.terms.specs.Group.{groupWrong}
+use Rattle.terms.specs.Group.{groupWrong, capacityWrong}
 use Rattle.terms.specs.Refusals.{refusalOf}
 use Rattle.records.specs.Numbers.{numAt}
 use Rattle.records.specs.Tx.{txOf, txBytes, readAt, writeAt}
@@ -35,7 +35,7 @@ use Rattle.rules.specs.Cases.{aborts, logs0, lg, dc, iv, ld, logsAt, bal
 use Rattle.rules.specs.Vectors.{group, marked, lent, atFirst, viewed, entry, logsIn, elects, zeros, stores, run, held, wanted}
 
 unfoldable checks : ℕ
-unfolding orElse when ifLess ifSame ifOther refusalOf groupWrong
+unfolding orElse when ifLess ifSame ifOther refusalOf groupWrong capacityWrong
 checks = 0
 
 unfoldable bytes : ℕ

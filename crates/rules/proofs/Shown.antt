@@ -38,8 +38,13 @@ shows-what-stands x k s b w l u h = go (e .decided) refl
     -- what passes is not above what is shown
     not-above : (p : Entry → Bool) (g : Version) → T (p e) → T (ltb (versionOr k g (newest p k s x.table) .stamp .0) (stampOf b)) → ⊥
     not-above p g y n =
-        omega (arith, stamp, newest-up k p s x.table e (u .inside) y writes (omega (arith, stamp)), shown-or k g (newest p k s x.table),
-        ltb→lt (versionOr k g (newest p k s x.table) .stamp .0) (stampOf b) n)
+        omega (
+          arith,
+          stamp,
+          newest-up k p s x.table e (u .inside) y writes (omega (arith, stamp)),
+          shown-or k g (newest p k s x.table),
+          ltb→lt (versionOr k g (newest p k s x.table) .stamp .0) (stampOf b) n,
+        )
 
     first : T (ltb (versionOr k (foldAt x.folds k) (newest committed k s x.table) .stamp .0) (stampOf b))
     first = search ands

@@ -185,8 +185,11 @@ module _ {x y : Box} (w : Twins x y) where
   look-twins : (k s : ℕ) → lookAct x k s ≡ lookAct y k s
   unfolding lookAct rdAnswer
   look-twins k s =
-      rw (newest-same (λ e. isCommitted e.decided) k s (w .table), newest-same (λ e. isUndecided e.decided && live e) k s (w .table),
-      ap (λ (g : List Version). foldAt g k) (w .folds))
+      rw (
+        newest-same (λ e. isCommitted e.decided) k s (w .table),
+        newest-same (λ e. isUndecided e.decided && live e) k s (w .table),
+        ap (λ (g : List Version). foldAt g k) (w .folds),
+      )
 
   rd-twins : (told : Told) (k s : ℕ) → rdRule told x k s ≡ rdRule told y k s
   unfolding rdRule

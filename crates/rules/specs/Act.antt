@@ -2,8 +2,8 @@
 use Prim.Native.Nat.{ℕ, max}
 use mathlib.Core.List.{List}
 use lib.ListN.{getD, set}
-use Rattle.terms.specs.Checks.{orElse, ifLess, group, mark}
-use Rattle.terms.specs.Group.{groupWrong}
+use Rattle.terms.specs.Checks.{orElse, mark}
+use Rattle.terms.specs.Group.{capacityWrong, groupWrong}
 use Rattle.terms.specs.Refusals.{refusalOf}
 use Rattle.records.specs.declared.Mark.{Mark}
 use Rattle.records.specs.declared.Mark.the-variants.{PR, LG, DC, RD, IV, LD}
@@ -21,7 +21,7 @@ use Rattle.rules.specs.Low.{above, foldsUpTo, lowRule}
 
 -- 14: "f not 1 to 5, or capacity not 1 to 255". "Order: 14, 16; then cutting": 16 is about a lent table, and is asked where one is lent
 unfoldable pub toldWrong : Told → ℕ
-toldWrong told = orElse (groupWrong (told .f)) (orElse (ifLess (told .capacity) 1 group) (ifLess 255 (told .capacity) group))
+toldWrong told = orElse (groupWrong (told .f)) (capacityWrong (told .capacity))
 
 -- A11: "18 old, for PR, LG, DC, RD or a fallback message with a stamp at or below L .., the first state refusal"
 unfoldable pub unlessOld : Box → Body → Act → Act

@@ -1,13 +1,14 @@
 -- A9 is not empty: on a lent table that holds one stamp twice, two decisions for stamps that it does not hold, in either order.
 use Prim.Native.Nat.{ℕ}
 use mathlib.Core.Path.{_≡_}
-use mathlib.Core.List.{List, [], _∷_}
-use Rattle.terms.specs.declared.Refusal.the-variants.{Full}
+use mathlib.Core.List.{List, [], _∷_, _++_}
+use Rattle.terms.specs.declared.Refusal.the-variants.{Full, Old}
 use Rattle.records.specs.declared.Mark.the-variants.{DC as markedDC}
 use Rattle.records.specs.declared.Marked.the-variants.{Is}
-use Rattle.rules.specs.Answers.{Answer, Decided, Done, NoVersion, Refused, abort, commit, settled, unsettled, unvoted, voteCommit, votes, waiting}
+use Rattle.rules.specs.Answers.{Answer, Decided, Done, NoVersion, Raised, Refused, abort, commit, settled, unsettled, unvoted, voteCommit, votes}
+use Rattle.rules.specs.Answers.{waiting}
 use Rattle.rules.specs.Table.{Box, Entry}
-use Rattle.rules.specs.Act.{due, receive}
+use Rattle.rules.specs.Act.{due, raising, receive}
 use Rattle.rules.specs.Order.{Call, EitherOrder, NeedsNew, next, ofRules, replies, reply}
 use Rattle.rules.specs.Cases.{DC, LG, PR, RD, aborts, commits, elections, found, iv, ld, line, logs0, reads, seen, write, tx, writes}
 use Rattle.rules.specs.Vectors.{elects, entry, logsIn, marked}
@@ -56,6 +57,16 @@ laterAnswers =
     Decided abort ∷ aborts NoVersion ∷ commits ∷ found 70 7 0 0 ∷ logs0 commit ∷ elects commit 1 5
     ∷ logsIn commit 2 ∷ Done ∷ commits ∷ found 50 7 0 0 ∷ Refused Full ∷ []
 
+-- A11: 50 and 60 are decided, 50 twice, and the low mark is raised over all five: of 50 the first folds
+unfoldable pub lowCalls : List Call
+lowCalls =
+    calls (DC (writes 50 3) votes commit 6 ∷ DC (reads 60 3 50) votes commit 6 ∷ [])
+    ++ (record { entry = raising 70; told = line; message = [] }
+    ∷ calls (RD 3 90 ∷ RD 5 90 ∷ PR (reads 80 5 70) ∷ PR (reads 81 5 65) ∷ PR (writes 65 5) ∷ []))
+
+unfoldable pub lowAnswers : List Answer
+lowAnswers = Done ∷ Done ∷ Raised ∷ found 50 7 0 0 ∷ found 70 7 0 0 ∷ commits ∷ aborts NoVersion ∷ Refused Old ∷ []
+
 pub record Crossed : Type 0 where
   -- both need a new entry, and with capacities of 8 and 5 there is room for both
   pub one-new : NeedsNew ofRules lentThree (committing 8)
@@ -67,6 +78,8 @@ pub record Crossed : Type 0 where
   -- the answers do not
   pub answers-this-way : replies ofRules (next (next lentThree (committing 8)) (aborting 5)) laterCalls ≡ laterAnswers
   pub answers-that-way : replies ofRules (next (next lentThree (aborting 5)) (committing 8)) laterCalls ≡ laterAnswers
+  pub low-this-way : replies ofRules (next (next lentThree (committing 8)) (aborting 5)) lowCalls ≡ lowAnswers
+  pub low-that-way : replies ofRules (next (next lentThree (aborting 5)) (committing 8)) lowCalls ≡ lowAnswers
   -- with room for one, the second is refused with 13, whichever it is
   pub one-alone : reply lentThree (committing 4) ≡ Done
   pub other-alone : reply lentThree (aborting 4) ≡ Done

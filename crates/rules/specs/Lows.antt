@@ -7,18 +7,18 @@ use lib.Dec.{eqb}
 use lib.ListN.{replicate}
 use Rattle.terms.specs.declared.Refusal.the-variants.{Ahead as AheadOfClock, Full, Group, Misbehaviour, Old, Undecided}
 use Rattle.records.specs.Tx.{Tx, txBytes}
-use Rattle.rules.specs.Answers.{Answer, Decided, Done, NoVersion, Overwritten, Dependency, Raised, Refused, Version, apartFromNumber}
+use Rattle.rules.specs.Answers.{Answer, Dependency, Done, NoVersion, Overwritten, Raised, Refused, Version, apartFromNumber}
 use Rattle.rules.specs.Answers.{abort, commit, settled, unsettled, unvoted, voteAbort, voteCommit, votes, waiting}
 use Rattle.rules.specs.Bodies.{Body}
-use Rattle.rules.specs.Table.{Box, Entry, Told, boxWith, empty, noVersion}
+use Rattle.rules.specs.Table.{Box, Entry, boxWith, empty, noVersion}
 use Rattle.rules.specs.Act.{EntryPoint, act, raising, receive}
 use Rattle.rules.specs.System.{Event, Fair, Proof, Safe, answerTo}
 use Rattle.rules.specs.SlipUnder.{ReadBy, Watched, asks, holds, isFound, watched}
 use Rattle.rules.specs.Cases.{Case, DC, LG, LM, PR, RD, Sent, aborts, commits, dc, due, elections, found, given, got, iv, ld, line, list, logs0}
-use Rattle.rules.specs.Cases.{pairs, read, reads, seen, tx, waits, write, writes}
+use Rattle.rules.specs.Cases.{read, reads, seen, tx, waits, write, writes}
 use Rattle.rules.specs.Vectors.{entry, run}
 use Rattle.rules.specs.Counts.{abortsBy, commitsBy, done, writers}
-use Rattle.rules.specs.Traces.{at, each, liar, withLiar}
+use Rattle.rules.specs.Traces.{each, liar, withLiar}
 
 -- from an empty box, as any are called; and from entries that are lent, with a low mark and what is folded of key 0
 unfoldable pub called : List Sent → List Answer → Case
@@ -65,7 +65,8 @@ olds =
     (commits ∷ waits ∷ Done ∷ Refused Undecided ∷ Raised ∷ [])
     ∷ called (got (LG (writes 50 3) commit 4) ∷ LM 50 ∷ []) (logs0 commit ∷ Refused Undecided ∷ [])
     -- 18 before 19
-    ∷ lentLow (entry (writes 50 3) voteCommit unsettled unsettled ∷ []) 60 noVersion (LM 55 ∷ LM 60 ∷ LM 61 ∷ []) (Refused Old ∷ Refused Old ∷ Refused Undecided ∷ [])
+    ∷ lentLow (entry (writes 50 3) voteCommit unsettled unsettled ∷ []) 60 noVersion (LM 55 ∷ LM 60 ∷ LM 61 ∷ [])
+    (Refused Old ∷ Refused Old ∷ Refused Undecided ∷ [])
     -- 14 before both
     ∷ record {
       told = record { f = 1; capacity = 256; clock = 100; delta = 10 };
@@ -99,7 +100,8 @@ named =
     ∷ called (got (PR (writes 50 3)) ∷ got (PR (reads 60 3 50)) ∷ got (DC (writes 50 4) votes commit 6) ∷ LM 50 ∷ got (PR (reads 60 3 50)) ∷ [])
     (commits ∷ waits ∷ Done ∷ Raised ∷ aborts Dependency ∷ [])
     -- "never looked up": a lent entry at or below L does not make its version one that may be read, nor waited for
-    ∷ lentLow (done (writes 40 0) ∷ entry (reads 61 0 40) waiting unsettled unsettled ∷ []) 50 noVersion (got (PR (reads 60 0 40)) ∷ got (PR (reads 61 0 40)) ∷ [])
+    ∷ lentLow (done (writes 40 0) ∷ entry (reads 61 0 40) waiting unsettled unsettled ∷ []) 50 noVersion
+    (got (PR (reads 60 0 40)) ∷ got (PR (reads 61 0 40)) ∷ [])
     (aborts NoVersion ∷ aborts Dependency ∷ [])
     ∷ []
 

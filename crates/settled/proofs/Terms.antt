@@ -31,6 +31,9 @@ module _ {M : Type 1} (𝓤 : URA M) (H : Heap 𝓤) where
   pub group-wrong : Settled 𝓤 H terms.group_wrong.ended (terms.group_wrong.spec 𝓤 H) (terms.group_wrong.clauses 𝓤 H)
   group-wrong A mem run = (refl, λ k o o′. settled 𝓤 (λ p q. one p q & refl))
 
+  pub capacity-wrong : Settled 𝓤 H terms.capacity_wrong.ended (terms.capacity_wrong.spec 𝓤 H) (terms.capacity_wrong.clauses 𝓤 H)
+  capacity-wrong A mem run = (refl, λ k o o′. settled 𝓤 (λ p q. one p q & refl))
+
   pub group-of : Settled 𝓤 H terms.Group.of.ended (terms.Group.of.spec 𝓤 H) (terms.Group.of.clauses 𝓤 H)
   group-of A mem run = (refl, λ k o o′. settled 𝓤 (λ p q. one p q & refl))
 

@@ -2,17 +2,14 @@
 use Prim.Native.Nat.{ℕ, zero, suc, _+_, _*_, _<_, _≤_}
 use native.Mathlib.Omega.{arith}
 use native.Mathlib.Nat.{add-zero, zero-add}
-use mathlib.Core.Path.{_≡_, refl, sym, _∙_}
+use mathlib.Core.Path.{_≡_, refl, sym}
 use mathlib.Core.List.{List}
 use mathlib.Core.Bool.{Bool, true, false, _||_, false≢true}
-use borrow.Author.Tests.{ltb-false, ne-eqb}
-use lib.ListN.{length, getD, drop, length-take, length-drop}
+use borrow.Author.Tests.{ltb-false}
+use lib.ListN.{length, drop, length-take, length-drop}
 use Rattle.terms.specs.Choice.{tab, any}
-use Rattle.terms.specs.Checks.{orElse}
-use Rattle.terms.proofs.Checks.{pass, stop, less-no, first-none, rest-none, not-less, when-none}
-use Rattle.records.specs.Numbers.{numAt}
-use Rattle.records.proofs.Bytes.{take-at-0}
-use Rattle.table.specs.Table.{headLen, rowLen, voteAt, reasonAt, tableLen, rowAt, reasonWrong, voteWrong, settledWrong, decidedAt, logAt, rowWrong, rowBad, tableWrong, countOf, WfRow, Wf}
+use Rattle.terms.proofs.Checks.{first-none, rest-none, not-less, when-none}
+use Rattle.table.specs.Table.{headLen, rowLen, tableLen, rowAt, rowWrong, rowBad, tableWrong, countOf, WfRow, Wf}
 
 -- a scan that found nothing: the test fails at each, and the other way
 or-left : (a b : Bool) → (a || b) ≡ false → a ≡ false
@@ -33,20 +30,6 @@ all-false P f s (suc n) e (suc i) l =
 pub any-false : {A : Type 0} (P : A → Bool) (f : ℕ → A) (s n : ℕ) → ((j : ℕ) → s ≤ j → j < s + n → P (f j) ≡ false) → any P (tab f s n) ≡ false
 any-false P f s zero h = refl
 any-false P f s (suc n) h = rw (h s (omega arith) (omega arith)) (any-false P f (s + 1) n (λ j a b. h j (omega arith) (omega arith)))
-
--- vote and reason as one number of two bytes
-pub codes-fine : (r : List ℕ) (x : ℕ) → length r ≡ rowLen → x ≡ numAt 2 voteAt r → x < 2 → 0 ≡ voteWrong r
-unfolding numAt reasonWrong
-codes-fine r x l e h =
-    let n : x ≡ getD r voteAt 0 + 256 * (getD r reasonAt 0 + 256 * 0) = e ∙ (rw (take-at-0 r voteAt 2 (omega arith))) in
-    pass (less-no _ _ _ (omega arith)) (rw (ne-eqb (getD r voteAt 0) 2 (omega arith)) (sym (less-no _ _ _ (omega arith))))
-
--- decision and log likewise
-pub settled-fine : (r : List ℕ) (x : ℕ) → length r ≡ rowLen → x ≡ numAt 2 decidedAt r → x < 3 → 0 ≡ settledWrong r
-unfolding numAt
-settled-fine r x l e h =
-    let n : x ≡ getD r decidedAt 0 + 256 * (getD r logAt 0 + 256 * 0) = e ∙ (rw (take-at-0 r decidedAt 2 (omega arith))) in
-    pass (less-no _ _ _ (omega arith)) (sym (less-no _ _ _ (omega arith)))
 
 pub row-long : (t : List ℕ) (i : ℕ) → i * rowLen + rowLen ≤ length t → length (rowAt t i) ≡ rowLen
 row-long t i h = simp (length-take, length-drop) (omega arith)

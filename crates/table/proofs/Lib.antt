@@ -1,5 +1,6 @@
 pub mod Bodies
 pub mod Looking
+pub mod Looks
 pub mod Checked
 pub mod Comparing
 pub mod Copying

@@ -38,6 +38,14 @@ largestF = 5
 unfoldable pub groupWrong : ℕ → ℕ
 groupWrong f = orElse (ifLess f 1 group) (ifLess largestF f group)
 
+-- "capacity 1 to 255"
+abbrev pub largestCapacity : ℕ
+largestCapacity = 255
+
+-- "or capacity not 1 to 255"
+unfoldable pub capacityWrong : ℕ → ℕ
+capacityWrong capacity = orElse (ifLess capacity 1 group) (ifLess largestCapacity capacity group)
+
 -- a group, or the refusal
 unfoldable pub groupBy : ℕ → ℕ → GroupAnswer
 groupBy zero f = Of (record { f = f })

@@ -3,7 +3,7 @@ ghost use mathlib.Core.Path.{_≡_};
 ghost use Rattle.terms.specs.Checks.{orElse, when};
 ghost use Rattle.terms.specs.Codes.{decisionNumber};
 ghost use Rattle.terms.specs.Refusals.{refusalValues, numberOf, lackingOf, refusalOf};
-ghost use Rattle.terms.specs.Group.{boxes, commitList, abortList, commitProof, abortProof, logProof, groupWrong, groupOf};
+ghost use Rattle.terms.specs.Group.{boxes, commitList, abortList, commitProof, abortProof, logProof, groupWrong, groupOf, capacityWrong};
 
 // A moment and a writer; 1 or more where it is in order.
 pub struct Stamp(pub u64);
@@ -17,6 +17,8 @@ pub struct View(pub u16);
 pub const LARGEST_KEY: u16 = 511;
 
 pub const LARGEST_F: u64 = 5;
+
+pub const LARGEST_CAPACITY: u64 = 255;
 
 // The numbers of the refusals that a check of bytes or numbers gives; 0 is none.
 pub const SHORT: u8 = 1;
@@ -231,6 +233,16 @@ pub fn group_wrong(f: u64) -> u8
     ensures { λ r. ⌜ r ≡ groupWrong f ⌝ }
 {
     first(refuse_if(f < 1, GROUP), refuse_if(LARGEST_F < f, GROUP))
+}
+
+// 14 unless the capacity is 1 to 255, else 0.
+pub fn capacity_wrong(capacity: u64) -> u8
+    ensures { λ r. ⌜ r ≡ capacityWrong capacity ⌝ }
+{
+    first(
+        refuse_if(capacity < 1, GROUP),
+        refuse_if(LARGEST_CAPACITY < capacity, GROUP),
+    )
 }
 
 impl Group {

@@ -1,7 +1,7 @@
 use mathlib.Core.Path.{sym, _∙_, ap, refl}
 use Rattle.terms.proofs.Checks.{pass, stop}
 use Rattle.engine.specs.Outcome.{lentWrong}
-use Rattle.engine.proofs.Lent.{capacity-small}
+use Rattle.engine.proofs.Lent.{told-small}
 use native.Mathlib.Omega.{arith}
 use borrow.Author.Needs.{needs}
 use Rattle.engine.proofs.lent_wrong.Statement.{statement}
@@ -19,7 +19,7 @@ unfolding lentWrong
 returns c = stop _ _ _ (c .before .told-wrong .ensures) (c .if1 .taken)
 
 table-wrong-requires : tie.Need-table-wrong-requires
-table-wrong-requires c κs = capacity-small _ (sym (c .before .told-wrong .ensures) ∙ c .if1 .left)
+table-wrong-requires c κs = told-small _ (sym (c .before .told-wrong .ensures) ∙ c .if1 .left)
 
 returns-2 : tie.Need-returns-2
 unfolding lentWrong

@@ -1,4 +1,4 @@
-use Rattle.held.proofs.Found.{capacity-small}
+use Rattle.terms.proofs.Groups.{capacity-small}
 use Rattle.held.specs.Held.{heldWrong}
 use Rattle.terms.proofs.Checks.{pass, stop}
 use mathlib.Core.Path.{sym, _∙_}

@@ -1,25 +1,14 @@
 use Rattle.terms.proofs.Checks.{pass, halt, less-no, less-yes}
-use Rattle.table.proofs.Checked.{codes-fine}
 use native.Mathlib.Omega.{arith}
 use borrow.Author.Needs.{needs}
 use Rattle.table.proofs.vote_wrong.Statement.{statement}
 use Rattle.table.proofs.vote_wrong.Tie as tie
-use Rattle.table.proofs.vote_wrong.Reads as reads
-use Rattle.table.proofs.vote_wrong.Lts as lts
-use Rattle.records.proofs.u16_at.Reads as u16-at-reads
-use Rattle.table.proofs.reason_wrong.Reads as reason-wrong-reads
 
-u16-at-requires : tie.Need-u16-at-requires
-u16-at-requires c κs = search needs
+shared-slice-read-if1 : tie.Need-shared-slice-read-if1
+shared-slice-read-if1 c = search needs
 
 returns : tie.Need-returns
-returns c = codes-fine (c .before .before .before .args .e .now) (c .before .u16-at .result) (c .before .before .before .pre) (c .before .u16-at .ensures) (c .if1 .taken)
-
-shared-slice-read-if2 : tie.Need-shared-slice-read-if2
-shared-slice-read-if2 c = search needs
-
-returns-2 : tie.Need-returns-2
-returns-2 c = halt _ _ _ (less-yes _ _ _ (c .if2 .taken)) (omega arith)
+returns c = halt _ _ _ (less-yes _ _ _ (c .if1 .taken)) (omega arith)
 
 shared-slice-read-reason-wrong : tie.Need-shared-slice-read-reason-wrong
 shared-slice-read-reason-wrong c = search needs
@@ -30,18 +19,16 @@ shared-slice-read-reason-wrong-2 c = search needs
 reason-wrong-requires : tie.Need-reason-wrong-requires
 reason-wrong-requires c κs = search needs
 
-returns-3 : tie.Need-returns-3
-returns-3 c = pass (less-no _ _ _ (c .before .before .before .if2 .left)) (c .reason-wrong .ensures)
+returns-2 : tie.Need-returns-2
+returns-2 c = pass (less-no _ _ _ (c .before .before .before .if1 .left)) (c .reason-wrong .ensures)
 
 pub vote-wrong-spec : {M : Type 1} → statement M
 vote-wrong-spec =
     tie.close
     (tie.spec
-    u16-at-requires
+    shared-slice-read-if1
     returns
-    shared-slice-read-if2
-    returns-2
     shared-slice-read-reason-wrong
     shared-slice-read-reason-wrong-2
     reason-wrong-requires
-    returns-3)
+    returns-2)

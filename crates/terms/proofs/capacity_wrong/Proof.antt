@@ -1,8 +1,8 @@
 use Rattle.terms.specs.Checks.{when, ifLess}
-use Rattle.held.specs.Held.{capacityWrong}
+use Rattle.terms.specs.Group.{capacityWrong}
 use borrow.Author.Needs.{needs}
-use Rattle.held.proofs.capacity_wrong.Statement.{statement}
-use Rattle.held.proofs.capacity_wrong.Tie as tie
+use Rattle.terms.proofs.capacity_wrong.Statement.{statement}
+use Rattle.terms.proofs.capacity_wrong.Tie as tie
 
 refuse-if-requires : tie.Need-refuse-if-requires
 refuse-if-requires c κs = search needs
