@@ -27,13 +27,13 @@ use Rattle.rules.specs.Traces.{liar, at, each, busyFirst, busyThen, busy}
 use Rattle.rules.proofs.Laws.{and-l, and-r}
 use Rattle.rules.proofs.Alike.{Alike, carries-alike, proof-alike}
 use Rattle.rules.proofs.Traces.{busy-trace}
-use Rattle.table.specs.Table.{entriesOf, tableWrong}
+use Rattle.table.specs.Table.{tableWrong}
 use Rattle.engine.specs.Outcome.{Kept, boxIn, lentWrong}
 use Rattle.engine.specs.Safety.{leaves, keptAt, answered, gaveBy, FairCalls, Empty}
 use Rattle.engine.specs.Busy.{zeros, eight, tooLarge, busyCalls, BusyCalls}
 use Rattle.engine.proofs.Bridge.{called-act, bridge}
 use Rattle.engine.proofs.Safety.{all-left, no-word, engine-safety, and-none, is-refused}
-use Rattle.engine.proofs.Starts.{starts-empty, starts-taken, too-short}
+use Rattle.engine.proofs.Starts.{empty-box, starts-empty, starts-taken, too-short}
 
 -- a trace of calls beside one of the rules: the same calls, all told a capacity of eight, but for those that are refused with 14 or 16
 pub data Runs : List Event → List Event → Type 0 where
@@ -47,8 +47,8 @@ pub record Held (x : Kept) (y : Box) : Type 0 where
   pub same : boxIn x ≡ y
 
 begun : (i : ℕ) → Held (eight i) empty
-unfolding eight boxIn entriesOf empty
-begun i = record { taken = starts-taken 8; same = rw (starts-empty 8 .none, starts-empty 8 .unread) }
+unfolding eight
+begun i = record { taken = starts-taken 8; same = empty-box (zeros 8) (starts-empty 8) }
 
 pub started : (i : ℕ) → Empty (eight i)
 unfolding eight

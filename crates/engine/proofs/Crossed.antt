@@ -24,7 +24,7 @@ use Rattle.engine.specs.Busy.{zeros}
 use Rattle.engine.specs.Order.{nextBy, ofCalls, replyBy}
 use Rattle.engine.specs.Crossed.{CrossedCalls, laterAnswered, thatWay, thisWay}
 use Rattle.engine.proofs.Safety.{is-refused}
-use Rattle.engine.proofs.Starts.{starts-empty, starts-taken}
+use Rattle.engine.proofs.Starts.{empty-box, starts-empty, starts-taken}
 use Rattle.engine.proofs.Order.{badIn, calls-commute, count-is, next-fine, next-long, none-bad, one-call-refused, same-next, same-reply, taken-by}
 
 -- a table with room for eight, beside the rules' box that it holds
@@ -34,11 +34,11 @@ record Holds (x : Kept) (y : Box) : Type 0 where
   box : boxIn x ≡ y
 
 begun : Holds (zeros 8) empty
-unfolding zeros boxIn entriesOf empty
+unfolding zeros
 begun = record {
   long = length-replicate {A = ℕ} (tableLen 8) 0;
   right = none-bad 8 _ (starts-taken 8);
-  box = rw (starts-empty 8 .none, starts-empty 8 .unread);
+  box = empty-box (zeros 8) (starts-empty 8);
 }
 
 -- a call that is told no more than eight, and no less than the box holds, is the rules' call

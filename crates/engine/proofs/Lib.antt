@@ -2,6 +2,8 @@ pub mod Guards
 pub mod Lent
 pub mod Raised
 pub mod Steps
+pub mod Old
+pub mod Lowered
 pub mod Bridge
 pub mod Alone
 pub mod Watching

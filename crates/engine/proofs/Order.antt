@@ -18,7 +18,7 @@ use Rattle.rules.specs.declared.Answer.the-variants.{Done, Refused}
 use Rattle.rules.specs.declared.Told.{Told}
 use Rattle.rules.specs.Bodies.{stampOf}
 use Rattle.rules.specs.Table.{Box}
-use Rattle.rules.specs.Calls.{Act, Change, nothing, puts, raises}
+use Rattle.rules.specs.Calls.{Act, Change, nothing, puts, raises, raisesLow}
 use Rattle.rules.specs.Act.{act, toldWrong}
 use Rattle.rules.specs.Answers.{apartFromNumber}
 use Rattle.rules.specs.Order.{Call, IsDC, NeedsNew, Room, next, ofRules, replies, reply, same, stampIn}
@@ -30,6 +30,7 @@ use Rattle.table.specs.Table.{countOf, entriesOf, headLen, newRow, place, rowAt
 use Rattle.table.specs.declared.State.{State}
 use Rattle.table.proofs.Checked.{table-count, table-room}
 use Rattle.table.proofs.Looking.{entries-count}
+use Rattle.low.proofs.Raised.{raised-long}
 use Rattle.steps.proofs.Stored.{below}
 use Rattle.engine.specs.Outcome.{Kept, boxIn, called, lentWrong, tableBy}
 use Rattle.engine.specs.Safety.{leaves}
@@ -50,6 +51,7 @@ long-by : (told : Told) (x : Kept) (m : List ℕ) → tableWrong (told .capacity
 unfolding tableBy FitsBy Bodied boxIn entriesOf
 long-by told x m fine nothing h d = refl
 long-by told x m fine (raises k s) h d = refl
+long-by told x m fine (raisesLow l) h d = raised-long (told .capacity) l (x .table) fine
 long-by told x m fine (puts e) h d =
     let f : place (stampOf (e .body)) (entriesOf (x .table)) < told .capacity =
     rw (h .0)
@@ -248,7 +250,7 @@ record Kin (x y : Kept) : Type 0 where
   bad : badIn (x .table) ≡ badIn (y .table)
 
 itself : (x : Kept) → Kin x x
-itself x = record { twins = record { table = same; marks = refl }; long = refl; bad = refl }
+itself x = record { twins = record { table = same; marks = refl; low = refl; folds = refl }; long = refl; bad = refl }
 
 module _ {x y : Kept} (k : Kin x y) (c : Call) where
   kin-count : countOf (x .table) ≡ countOf (y .table)
@@ -324,6 +326,8 @@ calls-commute x p q dp dq apart r u =
       later = kin-replies _ _ k;
       tables = k .twins .table;
       marks = k .twins .marks;
+      low = k .twins .low;
+      folds = k .twins .folds;
     }
 
 pub one-capacity : OneCapacity

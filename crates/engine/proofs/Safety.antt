@@ -23,11 +23,12 @@ use Rattle.rules.proofs.Laws.{decideT, no-both, or-cases, or-l, or-r}
 use Rattle.rules.proofs.Safety.{safety}
 use Rattle.rules.proofs.Alike.{Alike, carries-alike, safe-alike}
 use Rattle.table.specs.Table.{entriesOf, tableWrong}
-use Rattle.engine.specs.Outcome.{Kept, boxIn, lentWrong, calledBy, called, tableBy}
+use Rattle.engine.specs.Outcome.{Kept, boxIn, lentWrong, called, tableBy}
 use Rattle.engine.specs.Safety.{leaves, keptAt, answered, gaveBy, Empty, FairCalls, EngineSafety, Tracks, EngineTracks}
 use Rattle.engine.specs.SlipUnder.{keptFor}
 use Rattle.engine.proofs.Lent.{taken}
 use Rattle.engine.proofs.Bridge.{called-act, bridge}
+use Rattle.engine.proofs.Starts.{empty-box}
 use Rattle.engine.proofs.Watching.{reads-none, reads-on, shows-none, shows-on}
 
 pub and-none : (a : Bool) → (a && false) ≡ false
@@ -37,7 +38,7 @@ and-none false = refl
 -- ---- a call that is refused with 14 or 16 changes nothing and gives no word
 module _ (way : EntryPoint) (told : Told) (x : Kept) (m : List ℕ) (n : ℕ) (q : lentWrong told (x .table) ≡ suc n) where
   pub is-refused : called way told x m ≡ refuse (refusalOf (suc n))
-  unfolding calledBy guarded
+  unfolding called guarded
   is-refused = rw q
 
   pub all-left : leaves way told x m ≡ x
@@ -215,7 +216,7 @@ module _ (f : ℕ) (faulty : ℕ → Bool) where
     unfolding keptAt boxAt boxIn empty entriesOf gaveBy gave Fair everHeld holds readWithout shownBelow
     shadow fresh [] = record {
       rules = [];
-      held = λ i s. rw (fresh i s .none, fresh i s .unread);
+      held = λ i s. empty-box (start i) (fresh i s);
       said = λ i s b w. refl;
       fair = λ _. tt;
       ever = λ i s b h. absurd h;

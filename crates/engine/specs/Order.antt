@@ -5,7 +5,7 @@ use Rattle.terms.specs.declared.Refusal.the-variants.{Full}
 use Rattle.rules.specs.declared.Answer.{Answer}
 use Rattle.rules.specs.declared.Answer.the-variants.{Refused}
 use Rattle.rules.specs.Order.{Answering, Call, EitherOrder, IsDC, NeedsNew, stampIn}
-use Rattle.table.specs.Table.{countOf, entriesOf}
+use Rattle.table.specs.Table.{countOf, entriesOf, foldsOf, lowOf}
 use Rattle.engine.specs.Outcome.{Kept, called, lentWrong}
 use Rattle.engine.specs.Safety.{leaves}
 
@@ -17,7 +17,15 @@ unfoldable pub nextBy : Kept → Call → Kept
 nextBy x c = leaves (c .entry) (c .told) x (c .message)
 
 abbrev pub ofCalls : Answering Kept
-ofCalls = record { reply = replyBy; next = nextBy; entries = λ x. entriesOf (x .table); marks = λ x. x .marks }
+ofCalls =
+    record {
+      reply = replyBy;
+      next = nextBy;
+      entries = λ x. entriesOf (x .table);
+      marks = λ x. x .marks;
+      low = λ x. lowOf (x .table);
+      folds = λ x. foldsOf (x .table);
+    }
 
 -- "with room for both", by the capacity that p is told: for its new entry beside q's; and where p needs none, for q's alone, since "more entries
 -- than the capacity" is 16. It is asked only where the table is taken: what is refused with 14 or 16 is refused so in either order

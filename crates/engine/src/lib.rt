@@ -1,9 +1,12 @@
 // The entry points of a box: one for any message, one where a certain mark is due, one that raises its low mark. Each is 14, 16, the message's refusal, then one act of the rules.
 ghost use mathlib.Core.Path.{_≡_};
-ghost use Prim.Native.Nat.{_≤_};
+ghost use Prim.Native.Nat.{ℕ, _≤_};
+ghost use mathlib.Core.Bool.{false};
+ghost use lib.ListN.{length};
 ghost use Rattle.records.specs.Cutting.{txPart};
 ghost use Rattle.records.specs.Messages.{dueRefusal};
 ghost use Rattle.rules.specs.Act.{receive, due, dueAct, dueMark, toldWrong, rule, raise};
+ghost use Rattle.table.specs.Table.{headLen, lowOf};
 ghost use Rattle.engine.specs.Outcome.{kept, boxIn, lentWrong, calledBy, called, lowered, oldNow, tableBy, tableOf, marksOf, Leaves, Ready, Does};
 use records::Mark;
 use records::Marked;

@@ -21,8 +21,8 @@ use Rattle.records.specs.declared.ViewMark.the-variants.{VS, EL}
 use Rattle.records.specs.Cutting.{behindMark, listPart, messageCut, listedLen, viewedLen, messageLen, rdLen, markPR, markLG, markDC, markRD, markIV, markLD}
 use Rattle.records.specs.Messages.{isMark, markOf}
 use Rattle.reading.proofs.Cuts.{ListedCut, ViewedCut, tx-there, vl-there, views-there, pr-cuts, lg-cuts, dc-cuts, viewed-cuts, rd-long}
-use Rattle.lines.specs.Lines.{markCK}
-use Rattle.replay.specs.Bench.{markedCut, markedLen, recordCut, recordLen, ckLen}
+use Rattle.lines.specs.Lines.{markCK, markLM}
+use Rattle.replay.specs.Bench.{markedCut, markedLen, recordCut, recordLen, ckLen, lmLen}
 
 module _ {A : Type 0} (b : Bool) (x y : A) where
   pub yes : b ≡ true → pick b x y ≡ x
@@ -42,10 +42,14 @@ module _ (s : List ℕ) where
     unfolding recordCut
     cut-ck p x e = pass (less-no _ _ _ l) (e ∙ sym (yes _ _ _ p))
 
-    module _ (n : isMark markCK s ≡ false) (w : Marked) (e : w ≡ markOf s) where
+    pub cut-lm : isMark markCK s ≡ false → isMark markLM s ≡ true → (x : ℕ) → x ≡ ifLess (length s) lmLen short → x ≡ recordCut s
+    unfolding recordCut
+    cut-lm n p x e = pass (less-no _ _ _ l) (e ∙ sym (no _ _ _ n ∙ yes _ _ _ p))
+
+    module _ (n : isMark markCK s ≡ false) (o : isMark markLM s ≡ false) (w : Marked) (e : w ≡ markOf s) where
       other : (x : ℕ) → x ≡ markedCut w s → x ≡ recordCut s
       unfolding recordCut
-      other x q = pass (less-no _ _ _ l) (q ∙ ap (λ (v : Marked). markedCut v s) e ∙ sym (no _ _ _ n))
+      other x q = pass (less-no _ _ _ l) (q ∙ ap (λ (v : Marked). markedCut v s) e ∙ sym (no _ _ _ n ∙ no _ _ _ o))
 
       pub cut-message : (k : Mark) → w ≡ Is k → (x : ℕ) → x ≡ messageCut k s → x ≡ recordCut s
       unfolding markedCut
@@ -123,7 +127,7 @@ module _ (s : List ℕ) (z : recordCut s ≡ 0) where
   unfolding recordCut
   cut-long = not-less _ _ _ (first-none _ _ z)
 
-  rest : pick (isMark markCK s) (ifLess (length s) ckLen short) (markedCut (markOf s) s) ≡ 0
+  rest : pick (isMark markCK s) (ifLess (length s) ckLen short) (pick (isMark markLM s) (ifLess (length s) lmLen short) (markedCut (markOf s) s)) ≡ 0
   unfolding recordCut
   rest = rest-none _ _ z
 
@@ -131,38 +135,47 @@ module _ (s : List ℕ) (z : recordCut s ≡ 0) where
   unfolding recordLen
   len-ck p = (sym (yes _ _ _ p), omega arith, not-less _ _ _ (sym (yes _ _ _ p) ∙ rest))
 
-  module _ (n : isMark markCK s ≡ false) (w : Marked) (e : w ≡ markOf s) where
-    chosen : markedCut w s ≡ 0
-    chosen = ap (λ (v : Marked). markedCut v s) e ∙ sym (no _ _ _ n) ∙ rest
+  module _ (n : isMark markCK s ≡ false) where
+    behind-ck : pick (isMark markLM s) (ifLess (length s) lmLen short) (markedCut (markOf s) s) ≡ 0
+    behind-ck = sym (no _ _ _ n) ∙ rest
 
-    long : recordLen s ≡ markedLen w s
+    pub len-lm : isMark markLM s ≡ true → Sized s 10
     unfolding recordLen
-    long = no _ _ _ n ∙ ap (λ (v : Marked). markedLen v s) (sym e)
+    len-lm p = (sym (no _ _ _ n ∙ yes _ _ _ p), omega arith, not-less _ _ _ (sym (yes _ _ _ p) ∙ behind-ck))
 
-    module _ (k : Mark) (p : w ≡ Is k) where
-      pub message-passes : messageCut k s ≡ 0
+    module _ (o : isMark markLM s ≡ false) (w : Marked) (e : w ≡ markOf s) where
+      chosen : markedCut w s ≡ 0
+      chosen = ap (λ (v : Marked). markedCut v s) e ∙ sym (no _ _ _ o) ∙ behind-ck
+
+      long : recordLen s ≡ markedLen w s
+      unfolding recordLen
+      long = no _ _ _ n ∙ no _ _ _ o ∙ ap (λ (v : Marked). markedLen v s) (sym e)
+
+      module _ (k : Mark) (p : w ≡ Is k) where
+        pub message-passes : messageCut k s ≡ 0
+        unfolding markedCut
+        message-passes = rw p at chosen
+
+        pub len-message : (x : ℕ) → x ≡ messageLen k s → Sized s x
+        unfolding markedLen
+        len-message x q =
+            let f = message-fits k s message-passes in
+            let g : recordLen s ≡ messageLen k s = rw p at long in
+            (q ∙ sym g, omega arith, omega arith)
+
+      pub len-none : (k : ℕ) → w ≡ Unmarked k → Sized s 0
       unfolding markedCut
-      message-passes = rw p at chosen
-
-      pub len-message : (x : ℕ) → x ≡ messageLen k s → Sized s x
-      unfolding markedLen
-      len-message x q =
-          let f = message-fits k s message-passes in
-          let g : recordLen s ≡ messageLen k s = rw p at long in
-          (q ∙ sym g, omega arith, omega arith)
-
-    pub len-none : (k : ℕ) → w ≡ Unmarked k → Sized s 0
-    unfolding markedCut
-    len-none k p = absurd (let c : k ≡ 0 = rw p at chosen in unmarked (markOf s) k (refusing s) (sym e ∙ p) c)
+      len-none k p = absurd (let c : k ≡ 0 = rw p at chosen in unmarked (markOf s) k (refusing s) (sym e ∙ p) c)
 
   -- whichever it is
   pub cut-sized : 10 ≤ recordLen s
-  cut-sized = by (isMark markCK s) refl (markOf s) refl
+  cut-sized = by (isMark markCK s) refl (isMark markLM s) refl (markOf s) refl
     where
       of : (x : ℕ) → Sized s x → 10 ≤ recordLen s
       of x h = let e = h .0 in let a = h .1 in omega arith
 
-      by : (b : Bool) → isMark markCK s ≡ b → (w : Marked) → w ≡ markOf s → 10 ≤ recordLen s
-      by true p w e = of 10 (len-ck p)
-      by false p (Is k) e = of _ (len-message p (Is k) e k refl _ refl)
-      by false p (Unmarked n) e = of 0 (len-none p (Unmarked n) e n refl)
+      by : (b : Bool) → isMark markCK s ≡ b → (c : Bool) → isMark markLM s ≡ c → (w : Marked) → w ≡ markOf s → 10 ≤ recordLen s
+      by true p c q w e = of 10 (len-ck p)
+      by false p true q w e = of 10 (len-lm p q)
+      by false p false q (Is k) e = of _ (len-message p q (Is k) e k refl _ refl)
+      by false p false q (Unmarked n) e = of 0 (len-none p q (Unmarked n) e n refl)

@@ -19,7 +19,7 @@ use Rattle.rules.specs.Table.{Box, empty}
 use Rattle.rules.specs.Act.{toldWrong}
 use Rattle.table.specs.Table.{tableWrong, entriesOf}
 use Rattle.engine.specs.Outcome.{Kept, kept, boxIn}
-use Rattle.engine.proofs.Starts.{zeros-taken}
+use Rattle.engine.proofs.Starts.{folds-none, low-none, zeros-taken}
 use Rattle.lines.specs.declared.Said.{Said}
 use Rattle.lines.specs.declared.Said.the-variants.{Taken, Answered}
 use Rattle.lines.specs.Lines.{lineOf, Puts}
@@ -281,17 +281,17 @@ module _ {input out₀ : List ℕ} {first number at clock n : ℕ} {table marks 
 -- ---- a table of zeros is empty, for each capacity that a GP may ask
 zeros-empty : (n : ℕ) → boxIn (kept (replicate (suc n) 0) (replicate 512 0)) ≡ empty
 unfolding boxIn empty entriesOf
-zeros-empty n = refl
+zeros-empty n = rw (low-none (suc n), folds-none (suc n))
 
-pub zeros-start : (input : List ℕ) → gpRefusal input ≡ 0 → (tableWrong (getD input 3 0) (replicate 45901 0) ≡ 0) × (boxIn (kept (replicate 45901 0) (replicate 512 0)) ≡ empty)
+pub zeros-start : (input : List ℕ) → gpRefusal input ≡ 0 → (tableWrong (getD input 3 0) (replicate 54101 0) ≡ 0) × (boxIn (kept (replicate 54101 0) (replicate 512 0)) ≡ empty)
 unfolding gpRefusal toldWrong toldBy
 zeros-start input z =
     let c : getD input 3 0 ≤ 255 = capacity-small _ (rest-none _ _ (rest-none _ _ (rest-none _ _ z))) in
-    (zeros-taken (getD input 3 0) 45900 (omega arith), zeros-empty 45900)
+    (zeros-taken (getD input 3 0) 54100 (omega arith), zeros-empty 54100)
 
 -- the first line, then the rest
 pub rest-ready : (input : List ℕ) {o e : List ℕ} {a : ℕ} → (gpRefusal input ≡ 0) × (length input ≤ longest) × (room ≤ length o) → Puts o 0 (lineOf 0 input Taken) 112 e a
-    → (gpRefusal input ≡ 0) × (length input ≤ longest) × (room ≤ length e) × (a ≤ 112) × (tableWrong (getD input 3 0) (replicate 45901 0) ≡ 0) × (boxIn (kept (replicate 45901 0) (replicate 512 0)) ≡ empty)
+    → (gpRefusal input ≡ 0) × (length input ≤ longest) × (room ≤ length e) × (a ≤ 112) × (tableWrong (getD input 3 0) (replicate 54101 0) ≡ 0) × (boxIn (kept (replicate 54101 0) (replicate 512 0)) ≡ empty)
 rest-ready input h p =
     let w = h .2 in
     let l = puts-same p (omega arith) in

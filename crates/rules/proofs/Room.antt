@@ -175,18 +175,19 @@ unfolding dueRefusal contentsWrong rdWrong
 rd-key f m e = not-less _ _ _ (first-none _ _ (rest-none _ _ (rest-none _ _ (rest-none _ _ e))))
 
 module _ (told : Told) (x : Box) (m : List ℕ) where
-  pub rule-fits : (k : Mark) → dueRefusal k told.f m ≡ 0 → Fits told x (txPart m) (rule k told x m)
+  -- no message raises a low mark, so whatever is asked of one
+  pub rule-fits : (L : ℕ → Type 0) (k : Mark) → dueRefusal k told.f m ≡ 0 → Fit (λ n. n ≤ largestKey) L told x (txPart m) (rule k told x m)
   unfolding rule
-  rule-fits PR h = old-fits _ _ told x (txPart m) _ (pr-fits _ _ told x (txPart m))
-  rule-fits LG h = old-fits _ _ told x (txPart m) _ (lg-fits _ _ told x (txPart m) (listBehind m))
-  rule-fits DC h = old-fits _ _ told x (txPart m) _ (dc-fits _ _ told x (txPart m) (listBehind m))
-  rule-fits IV h = old-fits _ _ told x (txPart m) _ (iv-fits _ _ told x (txPart m) (viewsBehind VS m))
-  rule-fits LD h = old-fits _ _ told x (txPart m) _ (ld-fits _ _ told x (txPart m) (viewsBehind EL m))
-  rule-fits RD h = rd-fits _ _ told x (txPart m) (rdKey m) (rdStamp m) (rd-key told.f m h)
+  rule-fits L PR h = old-fits _ L told x (txPart m) _ (pr-fits _ L told x (txPart m))
+  rule-fits L LG h = old-fits _ L told x (txPart m) _ (lg-fits _ L told x (txPart m) (listBehind m))
+  rule-fits L DC h = old-fits _ L told x (txPart m) _ (dc-fits _ L told x (txPart m) (listBehind m))
+  rule-fits L IV h = old-fits _ L told x (txPart m) _ (iv-fits _ L told x (txPart m) (viewsBehind VS m))
+  rule-fits L LD h = old-fits _ L told x (txPart m) _ (ld-fits _ L told x (txPart m) (viewsBehind EL m))
+  rule-fits L RD h = rd-fits _ L told x (txPart m) (rdKey m) (rdStamp m) (rd-key told.f m h)
 
   marked-fits : (k : Marked) → Fits told x (txPart m) (markedAct k told x m)
   unfolding markedAct dueAct Fit FitsBy
-  marked-fits (Is k) = guarded-fits _ _ told x (txPart m) _ _ (rule-fits k)
+  marked-fits (Is k) = guarded-fits _ _ told x (txPart m) _ _ (rule-fits _ k)
   marked-fits (Unmarked n) = tt
 
   way-fits : (way : EntryPoint) → Fits told x (txPart m) (actBy way told x m)

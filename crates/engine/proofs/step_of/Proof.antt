@@ -20,7 +20,7 @@ tx-part-of-requires : tie.Need-tx-part-of-requires
 tx-part-of-requires c κs = pr-due _ _ (rw (c .enum-told .given .1) at (c .before .before .before .before .before .before .before .pre .1))
 
 pr-step-requires : tie.Need-pr-step-requires
-pr-step-requires c κs = (wf _ _ (c .before .before .before .before .before .before .before .before .pre .0) _ _ (c .before .before .before .rows .ensures) (c .before .before .before .before .count-of .ensures .0), c .tx-part-of .ensures .1)
+pr-step-requires c κs = let l = long _ _ (c .before .before .before .before .before .before .before .before .pre .0) in (wf _ _ (c .before .before .before .before .before .before .before .before .pre .0) _ _ (c .before .before .before .rows .ensures) (c .before .before .before .before .count-of .ensures .0), c .tx-part-of .ensures .1, omega arith)
 
 enum-told-2 : tie.Need-enum-told-2
 enum-told-2 c = search needs
@@ -56,7 +56,7 @@ rd-stamp-requires : tie.Need-rd-stamp-requires
 rd-stamp-requires c κs = rd-due _ _ (rw (c .before .enum-told4 .given .1) at (c .before .before .before .before .before .before .before .before .pre .1)) .0
 
 rd-step-requires : tie.Need-rd-step-requires
-rd-step-requires c κs = wf _ _ (c .before .before .before .before .before .before .before .before .before .pre .0) _ _ (c .before .before .before .before .rows .ensures) (c .before .before .before .before .before .count-of .ensures .0)
+rd-step-requires c κs = let l = long _ _ (c .before .before .before .before .before .before .before .before .before .pre .0) in (wf _ _ (c .before .before .before .before .before .before .before .before .before .pre .0) _ _ (c .before .before .before .before .rows .ensures) (c .before .before .before .before .before .count-of .ensures .0), omega arith)
 
 enum-told-5 : tie.Need-enum-told-5
 enum-told-5 c = search needs
@@ -83,22 +83,22 @@ ld-step-requires : tie.Need-ld-step-requires
 ld-step-requires c κs = (wf _ _ (c .before .before .before .before .before .before .before .before .before .pre .0) _ _ (c .before .before .before .before .rows .ensures) (c .before .before .before .before .before .count-of .ensures .0), c .tx-part-of5 .ensures .1, small-f _ _ (c .before .before .before .before .before .before .before .before .before .pre .0), c .before .views-behind2 .ensures .1)
 
 returns : tie.Need-returns
-returns c = let m = c .before .before .enum-told .given .1 in let z = rw m at (c .before .before .before .before .before .before .before .before .before .pre .1) in rw m (does _ _ _ _ (c .before .before .before .before .before .before .before .before .before .pre .0) _ z _ (pr-is _ _ _ _ _ (c .before .before .before .before .rows .ensures) (c .before .before .before .before .before .count-of .ensures .0) _ _ _ (c .before .tx-part-of .ensures .0) (c .pr-step .ensures)))
+returns c = let m = c .before .before .enum-told .given .1 in let z = rw m at (c .before .before .before .before .before .before .before .before .before .pre .1) in let o = rw m at (c .before .before .before .before .before .before .before .before .before .pre .2) in rw m (does _ _ _ _ (c .before .before .before .before .before .before .before .before .before .pre .0) _ z _ (pr-is _ _ _ _ _ (c .before .before .before .before .rows .ensures) (c .before .before .before .before .before .count-of .ensures .0) _ _ _ (c .before .tx-part-of .ensures .0) o (c .pr-step .ensures)))
 
 returns-2 : tie.Need-returns-2
-returns-2 c = let m = c .before .before .before .enum-told2 .given .1 in let z = rw m at (c .before .before .before .before .before .before .before .before .before .before .pre .1) in rw m (does _ _ _ _ (c .before .before .before .before .before .before .before .before .before .before .pre .0) _ z _ (lg-is _ _ _ _ _ (c .before .before .before .before .before .rows .ensures) (c .before .before .before .before .before .before .count-of .ensures .0) _ _ _ (c .before .tx-part-of2 .ensures .0) _ (list-is _ _ (c .before .before .list-behind .ensures .0)) (c .lg-step .ensures _)))
+returns-2 c = let m = c .before .before .before .enum-told2 .given .1 in let z = rw m at (c .before .before .before .before .before .before .before .before .before .before .pre .1) in let o = rw m at (c .before .before .before .before .before .before .before .before .before .before .pre .2) in rw m (does _ _ _ _ (c .before .before .before .before .before .before .before .before .before .before .pre .0) _ z _ (lg-is _ _ _ _ _ (c .before .before .before .before .before .rows .ensures) (c .before .before .before .before .before .before .count-of .ensures .0) _ _ _ (c .before .tx-part-of2 .ensures .0) o _ (list-is _ _ (c .before .before .list-behind .ensures .0)) (c .lg-step .ensures _ _ _)))
 
 returns-3 : tie.Need-returns-3
-returns-3 c = let m = c .before .before .before .enum-told3 .given .1 in let z = rw m at (c .before .before .before .before .before .before .before .before .before .before .pre .1) in rw m (does _ _ _ _ (c .before .before .before .before .before .before .before .before .before .before .pre .0) _ z _ (dc-is _ _ _ _ _ (c .before .before .before .before .before .rows .ensures) (c .before .before .before .before .before .before .count-of .ensures .0) _ _ _ (c .before .tx-part-of3 .ensures .0) _ (list-is _ _ (c .before .before .list-behind2 .ensures .0)) (c .dc-step .ensures _)))
+returns-3 c = let m = c .before .before .before .enum-told3 .given .1 in let z = rw m at (c .before .before .before .before .before .before .before .before .before .before .pre .1) in let o = rw m at (c .before .before .before .before .before .before .before .before .before .before .pre .2) in rw m (does _ _ _ _ (c .before .before .before .before .before .before .before .before .before .before .pre .0) _ z _ (dc-is _ _ _ _ _ (c .before .before .before .before .before .rows .ensures) (c .before .before .before .before .before .before .count-of .ensures .0) _ _ _ (c .before .tx-part-of3 .ensures .0) o _ (list-is _ _ (c .before .before .list-behind2 .ensures .0)) (c .dc-step .ensures _ _ _)))
 
 returns-4 : tie.Need-returns-4
 returns-4 c = let m = c .before .before .before .enum-told4 .given .1 in let z = rw m at (c .before .before .before .before .before .before .before .before .before .before .pre .1) in rw m (does _ _ _ _ (c .before .before .before .before .before .before .before .before .before .before .pre .0) _ z _ (rd-is _ _ _ _ _ (c .before .before .before .before .before .rows .ensures) (c .before .before .before .before .before .before .count-of .ensures .0) _ _ _ _ (c .before .before .rd-key .ensures) (c .before .rd-stamp .ensures) (c .rd-step .ensures _ _)))
 
 returns-5 : tie.Need-returns-5
-returns-5 c = let m = c .before .before .before .enum-told5 .given .1 in let z = rw m at (c .before .before .before .before .before .before .before .before .before .before .pre .1) in rw m (does _ _ _ _ (c .before .before .before .before .before .before .before .before .before .before .pre .0) _ z _ (iv-is _ _ _ _ _ (c .before .before .before .before .before .rows .ensures) (c .before .before .before .before .before .before .count-of .ensures .0) _ _ _ (c .before .tx-part-of4 .ensures .0) _ (views-are VS _ _ (c .before .before .views-behind .ensures .0)) (c .iv-step .ensures _)))
+returns-5 c = let m = c .before .before .before .enum-told5 .given .1 in let z = rw m at (c .before .before .before .before .before .before .before .before .before .before .pre .1) in let o = rw m at (c .before .before .before .before .before .before .before .before .before .before .pre .2) in rw m (does _ _ _ _ (c .before .before .before .before .before .before .before .before .before .before .pre .0) _ z _ (iv-is _ _ _ _ _ (c .before .before .before .before .before .rows .ensures) (c .before .before .before .before .before .before .count-of .ensures .0) _ _ _ (c .before .tx-part-of4 .ensures .0) o _ (views-are VS _ _ (c .before .before .views-behind .ensures .0)) (c .iv-step .ensures _ _ _)))
 
 returns-6 : tie.Need-returns-6
-returns-6 c = let m = c .before .before .before .enum-told6 .given .1 in let z = rw m at (c .before .before .before .before .before .before .before .before .before .before .pre .1) in rw m (does _ _ _ _ (c .before .before .before .before .before .before .before .before .before .before .pre .0) _ z _ (ld-is _ _ _ _ _ (c .before .before .before .before .before .rows .ensures) (c .before .before .before .before .before .before .count-of .ensures .0) _ _ _ (c .before .tx-part-of5 .ensures .0) _ (views-are EL _ _ (c .before .before .views-behind2 .ensures .0)) (c .ld-step .ensures _)))
+returns-6 c = let m = c .before .before .before .enum-told6 .given .1 in let z = rw m at (c .before .before .before .before .before .before .before .before .before .before .pre .1) in let o = rw m at (c .before .before .before .before .before .before .before .before .before .before .pre .2) in rw m (does _ _ _ _ (c .before .before .before .before .before .before .before .before .before .before .pre .0) _ z _ (ld-is _ _ _ _ _ (c .before .before .before .before .before .rows .ensures) (c .before .before .before .before .before .before .count-of .ensures .0) _ _ _ (c .before .tx-part-of5 .ensures .0) o _ (views-are EL _ _ (c .before .before .views-behind2 .ensures .0)) (c .ld-step .ensures _ _ _)))
 
 pub step-of-spec : {M : Type 1} → statement M
 step-of-spec =

@@ -35,6 +35,9 @@ stops-at-requires c κs = search needs
 enum-told-6 : tie.Need-enum-told-6
 enum-told-6 c = search needs
 
+enum-told-7 : tie.Need-enum-told-7
+enum-told-7 c = search needs
+
 returns : tie.Need-returns
 returns c = search needs
 
@@ -56,6 +59,9 @@ returns-6 c = rw (c .before .before .before .a .given .1, ← c .before .number 
 returns-7 : tie.Need-returns-7
 returns-7 c = search needs
 
+returns-8 : tie.Need-returns-8
+returns-8 c = search needs
+
 pub answer-stops-spec : {M : Type 1} → statement M
 answer-stops-spec =
     tie.close
@@ -69,10 +75,12 @@ answer-stops-spec =
     number-requires
     stops-at-requires
     enum-told-6
+    enum-told-7
     returns
     returns-2
     returns-3
     returns-4
     returns-5
     returns-6
-    returns-7)
+    returns-7
+    returns-8)

@@ -1,14 +1,8 @@
 use mathlib.Core.Path.{sym, _∙_}
-use Rattle.replay.proofs.Cuts.{cut-short, cut-ck, cut-message, cut-none}
+use Rattle.replay.proofs.Cuts.{cut-short, cut-ck, cut-lm, cut-message, cut-none}
 use borrow.Author.Needs.{needs}
 use Rattle.replay.proofs.record_cut.Statement.{statement}
 use Rattle.replay.proofs.record_cut.Tie as tie
-use Rattle.replay.proofs.record_cut.Reads as reads
-use Rattle.replay.proofs.record_cut.Lts as lts
-use Rattle.reading.proofs.is_mark.Reads as is-mark-reads
-use Rattle.reading.proofs.mark_of.Reads as mark-of-reads
-use Rattle.reading.proofs.message_cut.Reads as message-cut-reads
-use Rattle.replay.proofs.ck_cut.Reads as ck-cut-reads
 
 returns : tie.Need-returns
 returns c = cut-short _ (c .if1 .taken)
@@ -22,6 +16,15 @@ ck-cut-requires c κs = search needs
 returns-2 : tie.Need-returns-2
 returns-2 c = cut-ck _ (c .before .before .before .before .if1 .left) (sym (c .before .before .is-mark .ensures) ∙ c .before .if2 .taken) _ (c .ck-cut .ensures)
 
+is-mark-requires-2 : tie.Need-is-mark-requires-2
+is-mark-requires-2 c κs = search needs
+
+ck-cut-requires-2 : tie.Need-ck-cut-requires-2
+ck-cut-requires-2 c κs = search needs
+
+returns-3 : tie.Need-returns-3
+returns-3 c = cut-lm _ (c .before .before .before .before .before .before .before .if1 .left) (sym (c .before .before .before .before .before .is-mark .ensures) ∙ c .before .before .before .before .if2 .left) (sym (c .before .before .is-mark2 .ensures) ∙ c .before .if3 .taken) _ (c .ck-cut2 .ensures)
+
 mark-of-requires : tie.Need-mark-of-requires
 mark-of-requires c κs = search needs
 
@@ -34,11 +37,11 @@ message-cut-requires c κs = search needs
 enum-known-marked-2 : tie.Need-enum-known-marked-2
 enum-known-marked-2 c = search needs
 
-returns-3 : tie.Need-returns-3
-returns-3 c = cut-message _ (c .before .before .before .before .before .before .before .before .if1 .left) (sym (c .before .before .before .before .before .before .is-mark .ensures) ∙ c .before .before .before .before .before .if2 .left) _ (c .before .before .before .before .mark-of .ensures) _ (c .before .before .marked .given .1) _ (c .message-cut .ensures)
-
 returns-4 : tie.Need-returns-4
-returns-4 c = cut-none _ (c .before .before .before .before .before .before .before .if1 .left) (sym (c .before .before .before .before .before .is-mark .ensures) ∙ c .before .before .before .before .if2 .left) _ (c .before .before .before .mark-of .ensures) _ (c .before .marked2 .given .1)
+returns-4 c = cut-message _ (c .before .before .before .before .before .before .before .before .before .before .before .if1 .left) (sym (c .before .before .before .before .before .before .before .before .before .is-mark .ensures) ∙ c .before .before .before .before .before .before .before .before .if2 .left) (sym (c .before .before .before .before .before .before .is-mark2 .ensures) ∙ c .before .before .before .before .before .if3 .left) _ (c .before .before .before .before .mark-of .ensures) _ (c .before .before .marked .given .1) _ (c .message-cut .ensures)
+
+returns-5 : tie.Need-returns-5
+returns-5 c = cut-none _ (c .before .before .before .before .before .before .before .before .before .before .if1 .left) (sym (c .before .before .before .before .before .before .before .before .is-mark .ensures) ∙ c .before .before .before .before .before .before .before .if2 .left) (sym (c .before .before .before .before .before .is-mark2 .ensures) ∙ c .before .before .before .before .if3 .left) _ (c .before .before .before .mark-of .ensures) _ (c .before .marked2 .given .1)
 
 pub record-cut-spec : {M : Type 1} → statement M
 record-cut-spec =
@@ -48,9 +51,12 @@ record-cut-spec =
     is-mark-requires
     ck-cut-requires
     returns-2
+    is-mark-requires-2
+    ck-cut-requires-2
+    returns-3
     mark-of-requires
     enum-known-marked
     message-cut-requires
     enum-known-marked-2
-    returns-3
-    returns-4)
+    returns-4
+    returns-5)
