@@ -14,8 +14,9 @@
  * call on a mapped file that is cut off in the middle can leave a row half written. A box that answered and then lost what it had answered counts as one
  * of the f that lie. After a refusal nothing has changed, and nothing has to be written.
  *
- * A full box stays full. No entry is ever dropped, and at capacity a new transaction is refused with 13, even one that would be voted down. Until
- * forgetting lands, 255 transactions are a box's life.
+ * A full box stays full until you raise its low mark. At capacity a new transaction is refused with 13, even one that would be voted down.
+ * stobbarel_raise lets decided entries go, and only the box's own host calls it: it is no message, and no peer may ask for it. What is at or below the
+ * mark is refused with 18 from then on, and a commit there that the box had not received by then it will not learn.
  *
  * 16 is no check of damage. It tells codes outside their lists, counts that cannot be, and a table too short; a spoiled value or stamp it takes as it
  * stands, and in read marks it sees nothing. Keep a checksum of both, and do not call with what fails it.
@@ -35,9 +36,10 @@
  *   3 logged   decision (1 commit, 2 abort), the view that it was logged in (0 to 65535), 0, 0
  *   4 done     0, 0, 0, 0
  *   5 found    committed version, its value, undecided version, its value (0, 0 where there is none)
- *   6 refused  number (1 to 16, 21 to 24), beside 11 how many counted answers the list lacks (1 to its threshold), else 0, 0, 0;
+ *   6 refused  number (1 to 16, 18, 19, 21 to 24), beside 11 how many counted answers the list lacks (1 to its threshold), else 0, 0, 0;
  *              table and read marks are unchanged
  *   7 elected  the logged decision (1 commit, 2 abort), the current view (0 to 65535), the box that leads it, 0
+ *   8 raised   0, 0, 0, 0
  */
 #ifndef STOBBAREL_H
 #define STOBBAREL_H
@@ -45,11 +47,13 @@
 #include <stddef.h>
 #include <stdint.h>
 
-/* Of this header and what was installed with it. Before 1.0 a new minor number may come with another layout or other numbers. */
-#define STOBBAREL_VERSION "0.6.0"
+/* Of this header and what was installed with it. Before 1.0 a new minor number may come with another layout or other numbers. stobbarel_version tells
+ * the number of the library that a program runs with; where it is another than this one, do not go on. */
+#define STOBBAREL_VERSION "0.7.0"
 #define STOBBAREL_VERSION_MAJOR 0
-#define STOBBAREL_VERSION_MINOR 6
+#define STOBBAREL_VERSION_MINOR 7
 #define STOBBAREL_VERSION_PATCH 0
+#define STOBBAREL_VERSION_NUMBER (STOBBAREL_VERSION_MAJOR * 1000000 + STOBBAREL_VERSION_MINOR * 1000 + STOBBAREL_VERSION_PATCH)
 
 /* An array of so many numbers at least, and pointers that are not null, by their places: told to compilers that can be told. */
 #if defined(__cplusplus) || defined(_MSC_VER)
@@ -67,10 +71,16 @@
 extern "C" {
 #endif
 
+/* The library's own version, as STOBBAREL_VERSION_NUMBER: major * 1000000 + minor * 1000 + patch. */
+uint32_t stobbarel_version(void);
+
 /* A table: the head, then a row for each entry. What stands in a row behind the transaction's bytes, and in the table behind the
  * last entry's row, is not looked at. The package in rust/ takes its numbers from these lines; tests/layout holds them against
  * the engine's. */
-#define STOBBAREL_HEAD 1        /* Bytes in front of the rows: the count of entries. */
+#define STOBBAREL_LOW_AT 1      /* Where the low mark stands, eight bytes, the lowest first; in front of it the count of entries, a byte. */
+#define STOBBAREL_FOLDS_AT 9    /* Where the folded versions begin: for each key, from 0 on, a stamp and a value, eight bytes each, the lowest first. */
+#define STOBBAREL_FOLD 16       /* Bytes of a folded version. */
+#define STOBBAREL_HEAD 8201     /* Bytes in front of the rows: the count, the low mark, the folded versions. */
 #define STOBBAREL_ROW 180       /* Bytes of a row. */
 #define STOBBAREL_VOTE_AT 0     /* Where in a row the vote stands: 0 none, 1 commit, 2 abort, 3 waiting. */
 #define STOBBAREL_REASON_AT 1   /* Where in a row the reason stands: 1 to 6 beside an abort, else 0. */
@@ -133,7 +143,8 @@ enum stobbarel_answer {
     STOBBAREL_DONE = 4,
     STOBBAREL_FOUND = 5,
     STOBBAREL_REFUSED = 6,
-    STOBBAREL_ELECTED = 7
+    STOBBAREL_ELECTED = 7,
+    STOBBAREL_RAISED = 8
 };
 
 /* The first number of a tally's reply. */
@@ -171,6 +182,8 @@ enum stobbarel_refusal {
     STOBBAREL_AHEAD = 15,
     STOBBAREL_TABLE = 16,
     STOBBAREL_BUFFER = 17,
+    STOBBAREL_OLD = 18,
+    STOBBAREL_UNDECIDED = 19,
     STOBBAREL_PASSED = 21,
     STOBBAREL_NOT_LOGGED = 22,
     STOBBAREL_ELECTION = 23,
@@ -186,12 +199,17 @@ enum stobbarel_refusal {
 static inline const char *stobbarel_reason_text(uint64_t reason) {
     switch (reason) {
     case STOBBAREL_REASON_AHEAD: return "ahead: stamp above clock + delta";
-    case STOBBAREL_REASON_NO_VERSION: return "no version: a read names a nonzero version that is not a live entry writing that key";
+    case STOBBAREL_REASON_NO_VERSION:
+        return "no version: a read names a nonzero version that is not a live entry writing that key, nor the folded one where it is at or below the low "
+               "mark";
     case STOBBAREL_REASON_OVERWRITTEN:
-        return "overwritten: a live entry writes a key read here, its stamp above the version read and below this stamp";
+        return "overwritten: a live entry writes a key read here, its stamp above the version read and below this stamp, or the folded version is above "
+               "the version read";
     case STOBBAREL_REASON_UNDERCUTS: return "undercuts: a live entry with a higher stamp read a key written here at a version below this stamp";
     case STOBBAREL_REASON_READ_MARK: return "read mark: a written key's read mark is above this stamp";
-    case STOBBAREL_REASON_DEPENDENCY: return "dependency: a version read is decided abort, or committed by a body that lacks the key, or not held";
+    case STOBBAREL_REASON_DEPENDENCY:
+        return "dependency: a version read is decided abort, or committed by a body that lacks the key, or not held, or at or below the low mark and not "
+               "the folded one";
     default: return "";
     }
 }
@@ -218,6 +236,8 @@ static inline const char *stobbarel_refusal_text(uint64_t refusal) {
         return "table: in a lent table, fewer bytes than its capacity needs, more entries than the capacity, an entry's r or w above 8, or a vote, reason, "
                "log or decision code outside its list; in a lent tally sheet, a kind not 1 or 2, a box n or more, or a box under both answers";
     case STOBBAREL_BUFFER: return "buffer: output buffer shorter than the record";
+    case STOBBAREL_OLD: return "old: a stamp at or below the low mark, or a low mark that is not above the present one";
+    case STOBBAREL_UNDECIDED: return "undecided: an entry at or below the new low mark is not decided";
     case STOBBAREL_PASSED: return "passed: the box's view is above that of the leader's decision, or its logged view is not below";
     case STOBBAREL_NOT_LOGGED: return "not logged: the box holds no log for this body";
     case STOBBAREL_ELECTION: return "election: the leader, the number of answers, their view or their majority is wrong; fewer than 4f + 1 on a leader's sheet";
@@ -244,6 +264,12 @@ void stobbarel_receive(uint8_t *table, size_t table_len, uint64_t marks[STOBBARE
 STOBBAREL_NONNULL(4, 11)
 void stobbarel_due(uint64_t mark, uint8_t *table, size_t table_len, uint64_t marks[STOBBAREL_OF(512)], uint64_t f, uint64_t capacity, uint64_t clock,
                    uint64_t delta, const uint8_t *message, size_t message_len, uint64_t answer[STOBBAREL_OF(5)]);
+
+/* The low mark raised: the answer is raised, or refused with 14, 16, 18 (low is not above the present mark), 19 (an entry at or below it is undecided),
+ * the table being unchanged. Committed entries at or below it fold into one version and value for each key, the newest; they and the aborted ones leave,
+ * and the rest stay in their order. Read marks are not looked at. */
+STOBBAREL_NONNULL(6)
+void stobbarel_raise(uint8_t *table, size_t table_len, uint64_t f, uint64_t capacity, uint64_t low, uint64_t answer[STOBBAREL_OF(5)]);
 
 /* A box as its host keeps it, for the calls below. */
 struct stobbarel_box {
@@ -315,6 +341,12 @@ static inline void stobbarel_lead(const struct stobbarel_box *box, const uint8_t
     stobbarel_call_due(STOBBAREL_LD, box, message, message_len, answer);
 }
 
+/* The low mark raised; the clock is not looked at. */
+STOBBAREL_NONNULL(1, 3)
+static inline void stobbarel_raise_low(const struct stobbarel_box *box, uint64_t low, uint64_t answer[STOBBAREL_OF(5)]) {
+    stobbarel_raise(box->table, box->table_len, box->f, box->capacity, low, answer);
+}
+
 /* What a table holds under a stamp, that of its first entry with it. 0; or 14 (the capacity), 16, out being all 0. out is eight numbers, all 0
  * where nothing is held:
  *   where the transaction's bytes (TX) begin in the table, and how many they are
@@ -325,16 +357,23 @@ static inline void stobbarel_lead(const struct stobbarel_box *box, const uint8_t
 STOBBAREL_NONNULL(5)
 uint8_t stobbarel_held(const uint8_t *table, size_t table_len, uint64_t capacity, uint64_t stamp, uint64_t out[STOBBAREL_OF(8)]);
 
+/* How many entries a table has. 0; or 14 (the capacity), 16, the count being 0. */
+STOBBAREL_NONNULL(4)
+uint8_t stobbarel_entries(const uint8_t *table, size_t table_len, uint64_t capacity, size_t *count);
+
+/* Entry i of a table, the first being 0, in the order of their rows: the same eight numbers, all 0 where there are not so many entries. An entry that is
+ * there has a transaction of 12 bytes or more. 0; or 14 (the capacity), 16, out being all 0. */
+STOBBAREL_NONNULL(5)
+uint8_t stobbarel_entry(const uint8_t *table, size_t table_len, uint64_t capacity, uint64_t i, uint64_t out[STOBBAREL_OF(8)]);
+
 /* The same numbers by their names. */
 struct stobbarel_holding {
     uint64_t body_at, body_len; /* the transaction's bytes (TX) in the table; none where nothing is held */
     uint64_t vote, reason, decision, log, log_view, view;
 };
 
-STOBBAREL_NONNULL(1, 3)
-static inline uint8_t stobbarel_holding_of(const struct stobbarel_box *box, uint64_t stamp, struct stobbarel_holding *holding) {
-    uint64_t out[8] = {0};
-    uint8_t wrong = stobbarel_held(box->table, box->table_len, box->capacity, stamp, out);
+STOBBAREL_NONNULL(1, 2)
+static inline void stobbarel_holding_named(const uint64_t out[STOBBAREL_OF(8)], struct stobbarel_holding *holding) {
     holding->body_at = out[0];
     holding->body_len = out[1];
     holding->vote = out[2];
@@ -343,6 +382,21 @@ static inline uint8_t stobbarel_holding_of(const struct stobbarel_box *box, uint
     holding->log = out[5];
     holding->log_view = out[6];
     holding->view = out[7];
+}
+
+STOBBAREL_NONNULL(1, 3)
+static inline uint8_t stobbarel_holding_of(const struct stobbarel_box *box, uint64_t stamp, struct stobbarel_holding *holding) {
+    uint64_t out[8] = {0};
+    uint8_t wrong = stobbarel_held(box->table, box->table_len, box->capacity, stamp, out);
+    stobbarel_holding_named(out, holding);
+    return wrong;
+}
+
+STOBBAREL_NONNULL(1, 3)
+static inline uint8_t stobbarel_entry_of(const struct stobbarel_box *box, uint64_t i, struct stobbarel_holding *holding) {
+    uint64_t out[8] = {0};
+    uint8_t wrong = stobbarel_entry(box->table, box->table_len, box->capacity, i, out);
+    stobbarel_holding_named(out, holding);
     return wrong;
 }
 
@@ -386,6 +440,22 @@ uint8_t stobbarel_reading(uint64_t f, const uint8_t *message, size_t message_len
 
 /* A TX by itself: 0, or the refusal's number (1 to 7). */
 uint8_t stobbarel_reading_tx(const uint8_t *bytes, size_t bytes_len);
+
+/* The same, and its values: head is stamp, r and w; then the keys and versions read, the keys and values written. Every place that is not used, and all
+ * of them where it is refused, are 0. So the bytes that stobbarel_held or stobbarel_entry tells of give the transaction. */
+STOBBAREL_NONNULL(3, 4, 5, 6, 7)
+uint8_t stobbarel_tx_of(const uint8_t *bytes, size_t bytes_len, uint64_t head[STOBBAREL_OF(3)], uint16_t reads[STOBBAREL_OF(8)],
+                        uint64_t versions[STOBBAREL_OF(8)], uint16_t writes[STOBBAREL_OF(8)], uint64_t values[STOBBAREL_OF(8)]);
+
+STOBBAREL_NONNULL(3)
+static inline uint8_t stobbarel_tx_read(const uint8_t *bytes, size_t bytes_len, struct stobbarel_tx *tx) {
+    uint64_t head[3] = {0};
+    uint8_t wrong = stobbarel_tx_of(bytes, bytes_len, head, tx->reads, tx->versions, tx->writes, tx->values);
+    tx->stamp = head[0];
+    tx->r = (size_t)head[1];
+    tx->w = (size_t)head[2];
+    return wrong;
+}
 
 /* A VL by itself, of either kind: 0, or the refusal's number (14, 1 to 6, 8). */
 uint8_t stobbarel_reading_vl(uint64_t f, const uint8_t *bytes, size_t bytes_len);
@@ -578,6 +648,17 @@ uint8_t stobbarel_thresholds(uint64_t f, uint64_t out[STOBBAREL_OF(6)]);
 STOBBAREL_NONNULL(2, 3, 7)
 void stobbarel_take(uint8_t kind, uint32_t *commits, uint32_t *aborts, uint64_t f, uint64_t number, uint64_t answer, uint8_t reply[STOBBAREL_OF(5)]);
 
+/* What a sheet has reached as it is, with no answer given: the reply that an answer which brought it here was given; refused with 14 or 16. */
+STOBBAREL_NONNULL(5)
+void stobbarel_reached(uint8_t kind, uint32_t commits, uint32_t aborts, uint64_t f, uint8_t reply[STOBBAREL_OF(5)]);
+
+/* The list of a sheet's boxes under a decision (1 commit, 2 abort), as an LG or a DC takes it: head is kind, decision, view and count; then the boxes,
+ * rising, and their answers. A box goes on with it where stobbarel_reached lacks 0 of the threshold. Beside votes the view is 0. Every place that is not
+ * used is 0. 0; or 14, 16, 8 (another decision), all being 0. */
+STOBBAREL_NONNULL(7, 8, 9)
+uint8_t stobbarel_sheet_list(uint8_t kind, uint16_t view, uint32_t commits, uint32_t aborts, uint64_t f, uint64_t decision,
+                             uint64_t head[STOBBAREL_OF(4)], uint8_t numbers[STOBBAREL_OF(26)], uint8_t answers[STOBBAREL_OF(26)]);
+
 /* A sheet as a gateway keeps it for one transaction: its kind, the view of its logs, and the masks; a new one's are 0. */
 struct stobbarel_sheet {
     uint8_t kind;
@@ -589,6 +670,22 @@ STOBBAREL_NONNULL(1, 5)
 static inline void stobbarel_sheet_take(struct stobbarel_sheet *sheet, uint64_t f, uint64_t number, uint64_t answer,
                                         uint8_t reply[STOBBAREL_OF(5)]) {
     stobbarel_take(sheet->kind, &sheet->commits, &sheet->aborts, f, number, answer, reply);
+}
+
+STOBBAREL_NONNULL(1, 3)
+static inline void stobbarel_sheet_reached(const struct stobbarel_sheet *sheet, uint64_t f, uint8_t reply[STOBBAREL_OF(5)]) {
+    stobbarel_reached(sheet->kind, sheet->commits, sheet->aborts, f, reply);
+}
+
+STOBBAREL_NONNULL(1, 4)
+static inline uint8_t stobbarel_vl_of_sheet(const struct stobbarel_sheet *sheet, uint64_t f, uint64_t decision, struct stobbarel_vl *vl) {
+    uint64_t head[4] = {0};
+    uint8_t wrong = stobbarel_sheet_list(sheet->kind, sheet->view, sheet->commits, sheet->aborts, f, decision, head, vl->numbers, vl->answers);
+    vl->kind = (uint8_t)head[0];
+    vl->decision = (uint8_t)head[1];
+    vl->view = (uint16_t)head[2];
+    vl->count = (size_t)head[3];
+    return wrong;
 }
 
 /* ---- a transaction that a dead gateway left
