@@ -14,9 +14,11 @@
  * call on a mapped file that is cut off in the middle can leave a row half written. A box that answered and then lost what it had answered counts as one
  * of the f that lie. After a refusal nothing has changed, and nothing has to be written.
  *
- * A full box stays full until you raise its low mark. At capacity a new transaction is refused with 13, even one that would be voted down.
- * stobbarel_raise lets decided entries go, and only the box's own host calls it: it is no message, and no peer may ask for it. What is at or below the
- * mark is refused with 18 from then on, and a commit there that the box had not received by then it will not learn.
+ * A full box forgets only when you tell it to. At capacity a new transaction is refused with 13, even one that would be voted down. stobbarel_raise
+ * raises the box's low mark: of the entries at or below it, all of which have to be decided, the committed ones fold into one version and value for
+ * each key, and those and the aborted ones leave their room. It is a call and no message: no peer may ask for it, and each box has its own mark.
+ * Raise only to a mark below which every commit that the box should know has reached it: a box that never received a commit at or below its low
+ * mark will not learn it any more, since what is old is refused with 18. docs/KEEPERS.md says what to do first.
  *
  * 16 is no check of damage. It tells codes outside their lists, counts that cannot be, and a table too short; a spoiled value or stamp it takes as it
  * stands, and in read marks it sees nothing. Keep a checksum of both, and do not call with what fails it.
@@ -74,13 +76,13 @@ extern "C" {
 /* The library's own version, as STOBBAREL_VERSION_NUMBER: major * 1000000 + minor * 1000 + patch. */
 uint32_t stobbarel_version(void);
 
-/* A table: the head, then a row for each entry. What stands in a row behind the transaction's bytes, and in the table behind the
- * last entry's row, is not looked at. The package in rust/ takes its numbers from these lines; tests/layout holds them against
- * the engine's. */
-#define STOBBAREL_LOW_AT 1      /* Where the low mark stands, eight bytes, the lowest first; in front of it the count of entries, a byte. */
-#define STOBBAREL_FOLDS_AT 9    /* Where the folded versions begin: for each key, from 0 on, a stamp and a value, eight bytes each, the lowest first. */
-#define STOBBAREL_FOLD 16       /* Bytes of a folded version. */
-#define STOBBAREL_HEAD 8201     /* Bytes in front of the rows: the count, the low mark, the folded versions. */
+/* A table: the head, then a row for each entry. The head is the count of entries, the low mark, and for each key the folded version: its stamp, then its
+ * value; any numbers there are taken as they stand. What stands in a row behind the transaction's bytes, and in the table behind the last entry's row, is
+ * not looked at. The package in rust/ takes its numbers from these lines; tests/layout holds them against the engine's. */
+#define STOBBAREL_HEAD 8201     /* Bytes in front of the rows: the count of entries, the low mark and the folded versions. */
+#define STOBBAREL_LOW_AT 1      /* Where in a table the low mark stands, eight bytes, the lowest first. */
+#define STOBBAREL_FOLDS_AT 9    /* Where in a table the folded versions stand, in the order of their keys. */
+#define STOBBAREL_FOLD 16       /* Bytes of a folded version: eight for its stamp, 0 where there is none, then eight for its value, the lowest first. */
 #define STOBBAREL_ROW 180       /* Bytes of a row. */
 #define STOBBAREL_VOTE_AT 0     /* Where in a row the vote stands: 0 none, 1 commit, 2 abort, 3 waiting. */
 #define STOBBAREL_REASON_AT 1   /* Where in a row the reason stands: 1 to 6 beside an abort, else 0. */
@@ -200,16 +202,13 @@ static inline const char *stobbarel_reason_text(uint64_t reason) {
     switch (reason) {
     case STOBBAREL_REASON_AHEAD: return "ahead: stamp above clock + delta";
     case STOBBAREL_REASON_NO_VERSION:
-        return "no version: a read names a nonzero version that is not a live entry writing that key, nor the folded one where it is at or below the low "
-               "mark";
+        return "no version: a read names a nonzero version that is not a live entry writing that key, nor, at or below the low mark, the folded one";
     case STOBBAREL_REASON_OVERWRITTEN:
-        return "overwritten: a live entry writes a key read here, its stamp above the version read and below this stamp, or the folded version is above "
-               "the version read";
+        return "overwritten: a live entry writes a key read here, its stamp above the version read and below this stamp, or the key's folded version is above";
     case STOBBAREL_REASON_UNDERCUTS: return "undercuts: a live entry with a higher stamp read a key written here at a version below this stamp";
     case STOBBAREL_REASON_READ_MARK: return "read mark: a written key's read mark is above this stamp";
     case STOBBAREL_REASON_DEPENDENCY:
-        return "dependency: a version read is decided abort, or committed by a body that lacks the key, or not held, or at or below the low mark and not "
-               "the folded one";
+        return "dependency: a version read is decided abort, or committed by a body that lacks the key, or not held, or old and not the folded one";
     default: return "";
     }
 }
@@ -236,8 +235,8 @@ static inline const char *stobbarel_refusal_text(uint64_t refusal) {
         return "table: in a lent table, fewer bytes than its capacity needs, more entries than the capacity, an entry's r or w above 8, or a vote, reason, "
                "log or decision code outside its list; in a lent tally sheet, a kind not 1 or 2, a box n or more, or a box under both answers";
     case STOBBAREL_BUFFER: return "buffer: output buffer shorter than the record";
-    case STOBBAREL_OLD: return "old: a stamp at or below the low mark, or a low mark that is not above the present one";
-    case STOBBAREL_UNDECIDED: return "undecided: an entry at or below the new low mark is not decided";
+    case STOBBAREL_OLD: return "old: the stamp is at or below the low mark, or the low mark is not above the present one";
+    case STOBBAREL_UNDECIDED: return "undecided: an entry at or below the low mark is undecided";
     case STOBBAREL_PASSED: return "passed: the box's view is above that of the leader's decision, or its logged view is not below";
     case STOBBAREL_NOT_LOGGED: return "not logged: the box holds no log for this body";
     case STOBBAREL_ELECTION: return "election: the leader, the number of answers, their view or their majority is wrong; fewer than 4f + 1 on a leader's sheet";
@@ -265,9 +264,10 @@ STOBBAREL_NONNULL(4, 11)
 void stobbarel_due(uint64_t mark, uint8_t *table, size_t table_len, uint64_t marks[STOBBAREL_OF(512)], uint64_t f, uint64_t capacity, uint64_t clock,
                    uint64_t delta, const uint8_t *message, size_t message_len, uint64_t answer[STOBBAREL_OF(5)]);
 
-/* The low mark raised: the answer is raised, or refused with 14, 16, 18 (low is not above the present mark), 19 (an entry at or below it is undecided),
- * the table being unchanged. Committed entries at or below it fold into one version and value for each key, the newest; they and the aborted ones leave,
- * and the rest stay in their order. Read marks are not looked at. */
+/* Raises the low mark to `low`. Every held entry at or below it has to be decided. Committed ones fold into one version and value for each key, the
+ * newest; those and the aborted ones leave the table, and the others close up in their order. Answers raised, or refused with 14, 16, 18 (not above the
+ * present low mark), 19 (an entry at or below it is undecided). From then on a message with a stamp at or below it is refused with 18. What
+ * stands behind the rows that are left stays as it stood. Clock and read marks do not matter. */
 STOBBAREL_NONNULL(6)
 void stobbarel_raise(uint8_t *table, size_t table_len, uint64_t f, uint64_t capacity, uint64_t low, uint64_t answer[STOBBAREL_OF(5)]);
 
@@ -293,6 +293,12 @@ STOBBAREL_NONNULL(2, 5)
 static inline void stobbarel_call_due(uint64_t mark, const struct stobbarel_box *box, const uint8_t *message, size_t message_len,
                                       uint64_t answer[STOBBAREL_OF(5)]) {
     stobbarel_due(mark, box->table, box->table_len, box->marks, box->f, box->capacity, box->clock, box->delta, message, message_len, answer);
+}
+
+/* The low mark raised: the box lets old entries go. */
+STOBBAREL_NONNULL(1, 3)
+static inline void stobbarel_forget(const struct stobbarel_box *box, uint64_t low, uint64_t answer[STOBBAREL_OF(5)]) {
+    stobbarel_raise(box->table, box->table_len, box->f, box->capacity, low, answer);
 }
 
 /* PR: vote on a transaction. */
@@ -339,12 +345,6 @@ STOBBAREL_NONNULL(1, 4)
 static inline void stobbarel_lead(const struct stobbarel_box *box, const uint8_t *message, size_t message_len,
                                   uint64_t answer[STOBBAREL_OF(5)]) {
     stobbarel_call_due(STOBBAREL_LD, box, message, message_len, answer);
-}
-
-/* The low mark raised; the clock is not looked at. */
-STOBBAREL_NONNULL(1, 3)
-static inline void stobbarel_raise_low(const struct stobbarel_box *box, uint64_t low, uint64_t answer[STOBBAREL_OF(5)]) {
-    stobbarel_raise(box->table, box->table_len, box->f, box->capacity, low, answer);
 }
 
 /* What a table holds under a stamp, that of its first entry with it. 0; or 14 (the capacity), 16, out being all 0. out is eight numbers, all 0
