@@ -227,9 +227,9 @@ pub extern "C" fn stobbarel_tx_of(
     ensures { λ r. ⌜ (r ≡ readTX (now (bytes .entry)) .wrong) × (now (head .exit) ≡ txRow (readTX (now (bytes .entry)) .tx)) × (txFields (now (reads .exit)) (now (versions .exit)) (now (writes .exit)) (now (values .exit)) ≡ txFieldsOf (readTX (now (bytes .entry)) .tx)) ⌝ }
 {
     let reading = reading::read_tx(bytes);
-    let tx = reading.tx;
-    put_three(head, [tx.stamp.0, tx.r as u64, tx.w as u64]);
-    arrays::put_tx(tx, reads, versions, writes, values);
+    let x = reading.tx;
+    put_three(head, [x.stamp.0, x.r as u64, x.w as u64]);
+    arrays::put_tx(x, reads, versions, writes, values);
     reading.wrong
 }
 

@@ -401,7 +401,7 @@ fn put_list_head(l: VoteList, head: &mut [u64; 4])
 pub fn put_list(l: VoteList, head: &mut [u64; 4], numbers: &mut [u8; 26], answers: &mut [u8; 26])
     ensures { λ r. ⌜ listFields (now (head .exit)) (now (numbers .exit)) (now (answers .exit)) ≡ listFieldsOf l ⌝ }
 {
-    let pairs = l.pairs;
+    let listed = l.pairs;
     put_list_head(l, head);
-    put_pairs(pairs, numbers, answers);
+    put_pairs(listed, numbers, answers);
 }

@@ -6,16 +6,15 @@ use mathlib.Core.Path.{_≡_, refl, ap, sym, _∙_}
 use mathlib.Core.Logic.{_⊎_, inl, inr}
 use mathlib.Core.Bool.{Bool, true, false}
 use mathlib.Core.List.{List, [], _∷_}
-use mathlib.Core.Option.{Option, some, none}
+use mathlib.Core.Option.{some, none}
 use lib.Dec.{eqb}
 use lib.ListN.{length, drop}
 use Rattle.terms.specs.Choice.{pick, tab}
 use Rattle.rules.specs.Bodies.{stampOf}
 use Rattle.rules.specs.Table.{Entry, find}
-use Rattle.table.specs.Table.{headLen, rowLen, bodyAt, rowAt, entryOf, entryAt, entries, entriesOf, countOf, place, Wf}
+use Rattle.table.specs.Table.{headLen, rowLen, bodyAt, rowAt, entryOf, entryAt, entriesOf, countOf, place, Wf}
 use Rattle.table.proofs.Bodies.{row-fits}
 use Rattle.table.proofs.Looking.{entries-are, entries-count}
-use Rattle.held.specs.declared.Holding.{Holding}
 use Rattle.held.specs.declared.HowMany.{HowMany}
 use Rattle.held.specs.Held.{heldWrong, nothing, holdingOf, bodyPlace, foundIn, heldBy, heldOf, bodyIn, There, shortest}
 use Rattle.held.specs.Held.{nth, entryIn, entryBy, entryTold, entryBodyBy, entryBody, howManyBy, howManyTold, EntryThere, EachTold, HeldIsEntry}
@@ -112,9 +111,10 @@ entries-there t capacity i = by (heldWrong capacity t) refl
 -- Each entry that is counted is told with bytes, and nothing is told behind them.
 pub each-told : EachTold
 each-told t capacity i e =
-    let c : howManyTold t capacity .count ≡ countOf t = ap (λ (x : HowMany). x .count) (sym (count-passed t capacity _ refl e)) in
-    (λ h. rw (← entry-passed t capacity i e) (entry-long t i (right t capacity e .0) (rw c at h)),
-    λ h. rw (← entry-passed t capacity i e) (sym (tells-behind t i (rw c at h))))
+    let c : howManyTold t capacity .count ≡ countOf t = ap (λ (x : HowMany). x .count) (sym (count-passed t capacity _ refl e)) in (
+      λ h. rw (← entry-passed t capacity i e) (entry-long t i (right t capacity e .0) (rw c at h)),
+      λ h. rw (← entry-passed t capacity i e) (sym (tells-behind t i (rw c at h))),
+    )
 
 -- What is held under a stamp is the entry at that stamp's place.
 find-nth : (s : ℕ) (es : List Entry) → find s es ≡ nth es (place s es)

@@ -28,5 +28,5 @@ unfolding reachedOf reachedBy
 replies-reached s f number answer z off =
     let a : joined s number answer ≡ sheetAfter s f number answer = after-joined s f number answer z _ off refl in
     let w : sheetWrong f (joined s number answer) ≡ 0 =
-        joins-sound s number answer off f (right-sheet s f number answer z) (right-box s f number answer z) (one-or-two _ (right-answer s f number answer z)) in
+    joins-sound s number answer off f (right-sheet s f number answer z) (right-box s f number answer z) (one-or-two _ (right-answer s f number answer z)) in
     rw (← a, w) (sym (reply-lacking s f number answer z _ off refl))

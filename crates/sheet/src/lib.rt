@@ -309,9 +309,9 @@ pub fn reply_to(s: Sheet, f: u64, number: u64, answer: u64) -> Reply
 pub fn reached(s: Sheet, f: u64) -> Reply
     ensures { λ r. ⌜ r ≡ reachedOf s f ⌝ }
 {
-    let wrong = sheet_wrong(s, f);
-    if wrong != 0 {
-        return Reply::Refused(Refusal::of(wrong));
+    let refused = sheet_wrong(s, f);
+    if refused != 0 {
+        return Reply::Refused(Refusal::of(refused));
     }
     lacking_of(s, Group { f: f as u8 })
 }

@@ -17,7 +17,7 @@ same-length : tie.Need-same-length
 same-length c = search needs
 
 returns : tie.Need-returns
-returns c = (c .put .ensures ∙ c .before .values .ensures ∙ ap answerRow (c .before .before .before .raise-low .ensures .0), c .before .before .before .raise-low .ensures .1)
+returns c = (c .put .ensures ∙ c .before .values .ensures ∙ ap answerRow (c .before .before .before .before .before .raise-low .ensures .0), c .before .before .before .before .before .raise-low .ensures .1)
 
 pub stobbarel-raise-spec : {M : Type 1} → statement M
 stobbarel-raise-spec = tie.close (tie.spec raise-low-requires values-requires put-requires same-length returns)

@@ -1,5 +1,4 @@
 use Rattle.sheet.proofs.Listed.{listing-refused, listing-right}
-use mathlib.Core.Path.{sym, _∙_}
 use borrow.Author.Needs.{needs}
 use Rattle.sheet.proofs.list_by.Statement.{statement}
 use Rattle.sheet.proofs.list_by.Tie as tie
