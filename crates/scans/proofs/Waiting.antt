@@ -20,7 +20,7 @@ use Rattle.rules.specs.declared.Settled.{Settled}
 use Rattle.rules.specs.declared.Settled.the-variants.{None as unsettled, Is as settled}
 use Rattle.rules.specs.declared.Version.{Version}
 use Rattle.rules.specs.Bodies.{writesKey}
-use Rattle.rules.specs.Table.{Box, Entry, find, foldAt}
+use Rattle.rules.specs.Table.{Box, find, foldAt}
 use Rattle.rules.specs.Tests.{Status, bad, pending, fine, isBad, isFolded, isLow, isPending, statusBy, statusFolded, statusOf, status}
 use Rattle.table.specs.Table.{rowTx, stateAt, entryWith, entryOf, decidedAt, settledOf}
 use Rattle.table.proofs.Bodies.{body-writes-key}

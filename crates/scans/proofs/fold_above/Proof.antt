@@ -1,6 +1,4 @@
-use mathlib.Core.Path.{_∙_}
 use Rattle.rules.specs.Tests.{foldAbove}
-use native.Mathlib.Omega.{arith}
 use borrow.Author.Needs.{needs}
 use Rattle.scans.proofs.fold_above.Statement.{statement}
 use Rattle.scans.proofs.fold_above.Tie as tie

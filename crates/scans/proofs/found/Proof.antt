@@ -1,6 +1,5 @@
 use Rattle.table.specs.Table.{entries}
 use Rattle.scans.proofs.Written.{found-is}
-use native.Mathlib.Omega.{arith}
 use borrow.Author.Needs.{needs}
 use Rattle.scans.proofs.found.Statement.{statement}
 use Rattle.scans.proofs.found.Tie as tie

@@ -1,6 +1,5 @@
 use Rattle.table.specs.Table.{foldsOf}
 use Rattle.scans.proofs.Waiting.{low-fine, low-folded, low-other}
-use native.Mathlib.Omega.{arith}
 use borrow.Author.Needs.{needs}
 use Rattle.scans.proofs.low_version.Statement.{statement}
 use Rattle.scans.proofs.low_version.Tie as tie

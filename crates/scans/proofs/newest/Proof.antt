@@ -1,4 +1,3 @@
-use native.Mathlib.Omega.{arith}
 use borrow.Author.Needs.{needs}
 use Rattle.scans.proofs.newest.Statement.{statement}
 use Rattle.scans.proofs.newest.Tie as tie

@@ -1,6 +1,5 @@
 use Rattle.table.specs.Table.{entries}
 use Rattle.scans.proofs.Written.{writers-are}
-use native.Mathlib.Omega.{arith}
 use borrow.Author.Needs.{needs}
 use Rattle.scans.proofs.newest_or.Statement.{statement}
 use Rattle.scans.proofs.newest_or.Tie as tie

@@ -1,7 +1,6 @@
 use mathlib.Core.Path.{sym, _∙_}
 use Rattle.table.specs.Table.{entries}
 use Rattle.scans.proofs.Outcomes.{test3-fold, test3-entries}
-use native.Mathlib.Omega.{arith}
 use borrow.Author.Needs.{needs}
 use Rattle.scans.proofs.test_3.Statement.{statement}
 use Rattle.scans.proofs.test_3.Tie as tie

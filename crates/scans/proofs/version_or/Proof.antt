@@ -1,5 +1,4 @@
 use Rattle.scans.proofs.Written.{or-none, or-some}
-use native.Mathlib.Omega.{arith}
 use borrow.Author.Needs.{needs}
 use Rattle.scans.proofs.version_or.Statement.{statement}
 use Rattle.scans.proofs.version_or.Tie as tie
