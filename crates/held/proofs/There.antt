@@ -2,31 +2,24 @@
 use Prim.Native.Nat.{ℕ, zero, suc, _+_, _-_, _*_, _<_, _≤_}
 use native.Mathlib.Omega.{arith}
 use mathlib.Core.Path.{_≡_, refl, ap, sym, _∙_}
-use mathlib.Core.List.{List, [], _∷_}
+use mathlib.Core.List.{List}
 use mathlib.Core.Logic.{_⊎_, inl, inr}
 use mathlib.Core.Bool.{Bool, true, false}
 use mathlib.Core.Option.{some}
 use borrow.Author.Tests.{ltb-true, ltb-false}
 use lib.Dec.{ltb}
 use lib.ListN.{length, take, drop, length-take, length-drop}
-use lib.Seq.{take-take, drop-drop}
+use lib.Seq.{drop-drop}
 use Rattle.records.specs.Tx.{txLen}
 use Rattle.rules.specs.Table.{Entry, find}
 use Rattle.rules.proofs.Moves.{none-some}
 use Rattle.table.specs.Table.{headLen, rowLen, bodyAt, rowAt, rowTx, rowBody, entryWith, entryOf, entries, entriesOf, countOf, place, WfRow, Wf}
-use Rattle.table.proofs.Bodies.{row-there, row-fits}
+use Rattle.table.proofs.Bodies.{mid-take, row-there, row-fits}
 use Rattle.table.proofs.Placing.{place-within}
 use Rattle.table.proofs.Looking.{entries-are, entries-count}
 use Rattle.held.specs.declared.Holding.{Holding}
 use Rattle.held.specs.Held.{heldWrong, nothing, holdingOf, foundIn, heldBy, heldOf, bodyIn, bodyBy, bodyHeld, There, BodyThere, shortest, HeldLong}
 use Rattle.held.proofs.Found.{right, passed, found, not-found, tells-found, tells-none}
-
--- bytes that lie in the front of a list
-mid-take : (n p k : ℕ) (l : List ℕ) → p + n ≤ k → take n (drop p (take k l)) ≡ take n (drop p l)
-mid-take n zero k l h = take-take n k l (omega arith)
-mid-take n (suc p) zero l h = absurd (omega arith)
-mid-take n (suc p) (suc k) [] h = refl
-mid-take n (suc p) (suc k) (x ∷ l) h = mid-take n p k l (omega arith)
 
 module _ (t : List ℕ) (i : ℕ) (h : i * rowLen + rowLen ≤ length (drop headLen t)) (w : WfRow (rowAt (drop headLen t) i)) where
   pub long : length (entryOf (rowAt (drop headLen t) i) .body) ≡ txLen (rowTx (rowAt (drop headLen t) i))

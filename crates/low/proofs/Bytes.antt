@@ -1,9 +1,9 @@
 -- Numbers and folded versions in bytes: what is put down is read back.
-use Prim.Native.Nat.{ℕ, zero, suc, _+_, _*_, _^_, _/_, _%_, _<_, _≤_}
+use Prim.Native.Nat.{ℕ, zero, suc, _+_, _*_, _^_, _/_, _%_, _<_}
 use native.Mathlib.Omega.{arith}
 use native.Mathlib.Nat.{add-zero}
-use mathlib.Core.Path.{_≡_, refl, ap, sym, _∙_}
-use mathlib.Core.Bool.{Bool, true, false, _&&_, false≢true}
+use mathlib.Core.Path.{_≡_, refl, ap, _∙_}
+use mathlib.Core.Bool.{Bool, true, false, false≢true}
 use mathlib.Core.List.{List, [], _∷_}
 use borrow.Author.Tests.{eqb-true, eq-eqb, ne-eqb}
 use lib.Dec.{eqb}
@@ -54,7 +54,9 @@ pub fold-says : (t : List ℕ) (k : ℕ) → says (foldPart t k) ≡ foldIn t k
 unfolding foldIn
 fold-says t k =
     let a : numAt 8 0 (foldPart t k) ≡ numAt 8 (foldsAt + k * foldLen) t =
-    num-take 8 0 foldLen (drop (foldsAt + k * foldLen) t) (omega arith) ∙ num-drop 8 0 (foldsAt + k * foldLen) t ∙ ap (λ (q : ℕ). numAt 8 q t) (add-zero (foldsAt + k * foldLen)) in
+    num-take 8 0 foldLen (drop (foldsAt + k * foldLen) t) (omega arith)
+    ∙ num-drop 8 0 (foldsAt + k * foldLen) t
+    ∙ ap (λ (q : ℕ). numAt 8 q t) (add-zero (foldsAt + k * foldLen)) in
     let b : numAt 8 8 (foldPart t k) ≡ numAt 8 (foldsAt + k * foldLen + 8) t =
     num-take 8 8 foldLen (drop (foldsAt + k * foldLen) t) (omega arith) ∙ num-drop 8 8 (foldsAt + k * foldLen) t in
     rw (a, b)

@@ -1,12 +1,11 @@
 -- A row that moves: the loop that copies it, and the table then.
-use Prim.Native.Nat.{ℕ, zero, suc, _+_, _*_, _-_, _<_, _≤_, zero-le}
+use Prim.Native.Nat.{ℕ, suc, _+_, _*_, _-_, _<_, _≤_, zero-le}
 use native.Mathlib.Omega.{arith}
-use native.Mathlib.Numerals.{add-one}
 use mathlib.Core.Path.{_≡_, refl, ap, sym, _∙_}
-use mathlib.Core.List.{List, [], _∷_, _++_, append-assoc}
+use mathlib.Core.List.{List, [], _++_, append-assoc}
 use borrow.Rule.Slice.PartMut.{midOf, putMid, put-same}
-use lib.ListN.{length, take, drop, getD, set, length-set, length-take, length-drop}
-use lib.Seq.{drop-at, drop-drop, drop-paste, getD-drop, length-take-le, paste, paste-suc, paste-zero, take-add, take-at}
+use lib.ListN.{length, take, drop, getD, set, length-set, length-drop}
+use lib.Seq.{drop-at, drop-drop, drop-paste, getD-drop, length-take-le, paste, paste-suc, paste-zero, take-add}
 use Rattle.table.specs.Table.{foldLen, foldsAt, headLen, putRow, rowAt, rowLen}
 use Rattle.low.specs.Raising.{foldPart}
 use Rattle.low.specs.Passing.{moved}
@@ -52,7 +51,8 @@ module _ (t : List ℕ) (i free : ℕ) where
   row-mid : rowAt (drop headLen t) i ≡ midOf (headLen + i * rowLen) rowLen t
   row-mid = ap (take rowLen) (drop-drop (i * rowLen) headLen t)
 
-  copy-all : {c : List ℕ} {from to j : ℕ} → Copied t c from to j → rowLen ≤ j → from ≡ headLen + i * rowLen → to ≡ headLen + free * rowLen → c ≡ moved i free t
+  copy-all : {c : List ℕ} {from to j : ℕ} → Copied t c from to j → rowLen ≤ j
+      → from ≡ headLen + i * rowLen → to ≡ headLen + free * rowLen → c ≡ moved i free t
   unfolding moved
   copy-all {c} {from} {to} {j} h l p q =
       let z : j ≡ rowLen = let w = h .within in omega arith in
@@ -63,7 +63,8 @@ module _ (t : List ℕ) (i free : ℕ) where
   unfolding moved
   moved-long h l = put-long (headLen + free * rowLen) rowLen t (rowAt (drop headLen t) i) h l
 
-  pub moved-part : headLen + free * rowLen + rowLen ≤ length t → length (rowAt (drop headLen t) i) ≡ rowLen → (k : ℕ) → k < 512 → foldPart (moved i free t) k ≡ foldPart t k
+  pub moved-part : headLen + free * rowLen + rowLen ≤ length t → length (rowAt (drop headLen t) i) ≡ rowLen
+      → (k : ℕ) → k < 512 → foldPart (moved i free t) k ≡ foldPart t k
   unfolding moved
   moved-part h l k key = put-before (headLen + free * rowLen) rowLen t (rowAt (drop headLen t) i) h l foldLen (foldsAt + k * foldLen) (omega arith)
 
@@ -76,7 +77,8 @@ module _ (t : List ℕ) (i free : ℕ) where
           let s : putMid (a + m) n t r ≡ take a t ++ (take m (drop a t) ++ (r ++ drop n (drop m (drop a t)))) = rw (take-add a m t, append-assoc, ← drop-drop m a t) in
           ap (drop a) s ∙ drop-at (take a t) (take m (drop a t) ++ (r ++ drop n (drop m (drop a t)))) a (length-take-le a t g)
 
-pub copied-moved : {t c : List ℕ} {from to j : ℕ} → Copied t c from to j → (i free : ℕ) → rowLen ≤ j → from ≡ headLen + i * rowLen → to ≡ headLen + free * rowLen → c ≡ moved i free t
+pub copied-moved : {t c : List ℕ} {from to j : ℕ} → Copied t c from to j → (i free : ℕ) → rowLen ≤ j
+    → from ≡ headLen + i * rowLen → to ≡ headLen + free * rowLen → c ≡ moved i free t
 copied-moved {t} h i free l p q = copy-all t i free h l p q
 
 -- a row that stays where it is

@@ -1,7 +1,7 @@
 -- The pass at one key: folding each write where its stamp is above the one folded so far gives the newest.
-use Prim.Native.Nat.{ℕ, suc, _<_, _≤_}
+use Prim.Native.Nat.{ℕ, suc, _≤_}
 use native.Mathlib.Omega.{arith}
-use mathlib.Core.Path.{_≡_, refl, ap, sym, _∙_}
+use mathlib.Core.Path.{_≡_, refl, ap, _∙_}
 use mathlib.Core.Bool.{Bool, true, false, _&&_, _||_}
 use mathlib.Core.List.{List, [], _∷_}
 use mathlib.Core.Option.{Option, some, none}
@@ -59,7 +59,8 @@ unfoldable pub newerEntry : ℕ → ℕ → Entry → Version → Version
 newerEntry l k e v = pick (upTo l e && isCommitted (e .decided)) (newerWrites k (stampOf (e .body)) (writesOf (e .body)) v) v
 
 module _ (k : ℕ) (e : Entry) (v : Version) where
-  fold-one : (w : Bool) → any (λ x. eqb (writeKey x) k) (writesOf (e .body)) ≡ w → newerWrites k (stampOf (e .body)) (writesOf (e .body)) v ≡ pick w (newerFold k v (some e)) v
+  fold-one : (w : Bool) → any (λ x. eqb (writeKey x) k) (writesOf (e .body)) ≡ w
+      → newerWrites k (stampOf (e .body)) (writesOf (e .body)) v ≡ pick w (newerFold k v (some e)) v
   unfolding newerFold versionOr
   fold-one w q = writes-one k (stampOf (e .body)) (writesOf (e .body)) v ∙ (rw q)
 
@@ -98,21 +99,31 @@ module _ (k : ℕ) (v : Version) (e : Entry) where
   fold-better none = refl
   fold-better (some x) = by (ltb (v .stamp .0) (stampOf (e .body))) (ltb (stampOf (e .body)) (stampOf (x .body))) (ltb (v .stamp .0) (stampOf (x .body))) refl refl refl
     where
-      by : (a b d : Bool) → ltb (v .stamp .0) (stampOf (e .body)) ≡ a → ltb (stampOf (e .body)) (stampOf (x .body)) ≡ b → ltb (v .stamp .0) (stampOf (x .body)) ≡ d
+      by : (a b d : Bool) → ltb (v .stamp .0) (stampOf (e .body)) ≡ a → ltb (stampOf (e .body)) (stampOf (x .body)) ≡ b
+          → ltb (v .stamp .0) (stampOf (x .body)) ≡ d
           → newerFold k (pick a (versionAt (stampOf (e .body)) (valueAt k (writesOf (e .body)))) v) (some x) ≡ newerFold k v (pick b (some x) (some e))
-      by true true d p q r = rw (q, lt-ltb (v .stamp .0) (stampOf (x .body)) (let h = ltb-true (v .stamp .0) (stampOf (e .body)) p in let g = ltb-true (stampOf (e .body)) (stampOf (x .body)) q in omega arith))
+      by true true d p q r =
+          let h = ltb-true (v .stamp .0) (stampOf (e .body)) p in
+          let g = ltb-true (stampOf (e .body)) (stampOf (x .body)) q in
+          rw (q, lt-ltb (v .stamp .0) (stampOf (x .body)) (omega arith))
       by true false d p q r = rw (p, q)
       by false true d p q r = refl
-      by false false d p q r = rw (p, le-ltb (v .stamp .0) (stampOf (x .body)) (let h = ltb-false (v .stamp .0) (stampOf (e .body)) p in let g = ltb-false (stampOf (e .body)) (stampOf (x .body)) q in omega arith))
+      by false false d p q r =
+          let h = ltb-false (v .stamp .0) (stampOf (e .body)) p in
+          let g = ltb-false (stampOf (e .body)) (stampOf (x .body)) q in
+          rw (p, le-ltb (v .stamp .0) (stampOf (x .body)) (omega arith))
+
+abbrev committed : Entry → Bool
+committed e = isCommitted (e .decided)
 
 pub entries-newest : (l k : ℕ) (es : List Entry) (v : Version) → newerEntries l k es v ≡ newerFold k v (newest (λ e. isCommitted (e .decided)) k (suc l) es)
 unfolding newerEntries newest newerFold
 entries-newest l k [] v = refl
 entries-newest l k (e ∷ es) v =
     entries-newest l k es (newerEntry l k e v)
-    ∙ ap (λ (u : Version). newerFold k u (newest (λ x. isCommitted (x .decided)) k (suc l) es)) (entry-one l k e v)
-    ∙ by (isCommitted (e .decided) && (writesKey (e .body) k && ltb (stampOf (e .body)) (suc l)))
+    ∙ ap (λ (u : Version). newerFold k u (newest committed k (suc l) es)) (entry-one l k e v)
+    ∙ by (isCommitted (e .decided) && (writesKey (e .body) k && ltb (stampOf (e .body)) (suc l))) (newest committed k (suc l) es)
   where
-    by : (b : Bool) → newerFold k (pick b (newerFold k v (some e)) v) (newest (λ x. isCommitted (x .decided)) k (suc l) es) ≡ newerFold k v (pick b (better e (newest (λ x. isCommitted (x .decided)) k (suc l) es)) (newest (λ x. isCommitted (x .decided)) k (suc l) es))
-    by true = fold-better k v e (newest (λ x. isCommitted (x .decided)) k (suc l) es)
-    by false = refl
+    by : (b : Bool) (o : Option Entry) → newerFold k (pick b (newerFold k v (some e)) v) o ≡ newerFold k v (pick b (better e o) o)
+    by true o = fold-better k v e o
+    by false o = refl

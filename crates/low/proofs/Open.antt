@@ -1,20 +1,20 @@
 -- 18 and 19: a row that is open at or below the mark, by its outcomes.
 use Prim.Native.Nat.{ℕ, _<_, _≤_}
-use native.Mathlib.Omega.{arith}
-use mathlib.Core.Path.{_≡_, refl, sym, _∙_}
-use mathlib.Core.Bool.{Bool, true, false, _&&_}
+use mathlib.Core.Path.{_≡_, sym}
+use mathlib.Core.Bool.{true, false}
 use mathlib.Core.List.{List}
-use borrow.Author.Tests.{eq-eqb, le-leb, lt-leb, ne-eqb}
+use borrow.Author.Tests.{le-leb, lt-leb, ne-eqb}
 use lib.Dec.{leb}
-use lib.ListN.{getD}
+use lib.ListN.{drop, getD}
 use Rattle.terms.specs.Choice.{any}
 use Rattle.terms.specs.Checks.{old, orElse, undecided, when}
-use Rattle.terms.proofs.Checks.{halt, pass, when-no, when-yes}
+use Rattle.terms.proofs.Checks.{links}
 use Rattle.rules.specs.Bodies.{stampOf}
 use Rattle.rules.specs.Calls.{isUndecided, oldWrong}
 use Rattle.rules.specs.Low.{lowWrong, openUpTo, upTo}
 use Rattle.table.specs.Table.{boxFrom, countOf, decidedAt, entries, entriesOf, entryOf, entryWith, headLen, lowOf, rowTx, stateAt}
 use Rattle.table.proofs.Bodies.{body-stamp}
+use Rattle.table.proofs.Looking.{entries-are}
 
 module _ (l : ℕ) (r : List ℕ) where
   pub up-no : l < stampOf (rowTx r) → upTo l (entryOf r) ≡ false
@@ -46,17 +46,8 @@ module _ (l : ℕ) (r : List ℕ) where
     unfolding openUpTo entryOf entryWith stateAt isUndecided
     open-yes a b = rw (up-yes h, ne-eqb (getD r decidedAt 0) 1 a, ne-eqb (getD r decidedAt 0) 2 b)
 
--- the check of a low mark
-module _ (t : List ℕ) (l : ℕ) (marks : List ℕ) where
-  pub low-old : l ≤ lowOf t → old ≡ lowWrong (boxFrom t (entriesOf t) marks) l
-  unfolding lowWrong oldWrong
-  low-old h = halt _ _ _ (when-yes _ _ (le-leb l (lowOf t) h)) (omega arith)
-
-  module _ (h : lowOf t < l) where
-    pub low-open : true ≡ any (openUpTo l) (entriesOf t) → undecided ≡ lowWrong (boxFrom t (entriesOf t) marks) l
-    unfolding lowWrong oldWrong
-    low-open e = pass (when-no _ _ (lt-leb l (lowOf t) h)) (sym (when-yes _ _ (sym e)))
-
-    pub low-fine : false ≡ any (openUpTo l) (entriesOf t) → 0 ≡ lowWrong (boxFrom t (entriesOf t) marks) l
-    unfolding lowWrong oldWrong
-    low-fine e = pass (when-no _ _ (lt-leb l (lowOf t) h)) (sym (when-no _ _ (sym e)))
+-- the check of a low mark, by its links
+pub low-links : (t : List ℕ) (l : ℕ) (marks : List ℕ) {x a b : ℕ} → x ≡ orElse a b → a ≡ when (leb l (lowOf t)) old
+    → b ≡ when (any (openUpTo l) (entries (drop headLen t) (countOf t))) undecided → x ≡ lowWrong (boxFrom t (entriesOf t) marks) l
+unfolding lowWrong oldWrong
+low-links t l marks e p q = rw (entries-are t) (links e p q)

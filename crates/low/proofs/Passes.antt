@@ -3,11 +3,11 @@ use Prim.Native.Nat.{ℕ, zero, suc, _+_, _*_, _-_, _<_, _≤_, zero-le}
 use native.Mathlib.Omega.{arith}
 use native.Mathlib.Nat.{sub-zero, add-zero}
 use mathlib.Core.Path.{_≡_, refl, ap, sym, _∙_}
-use mathlib.Core.Bool.{Bool, true, false, _&&_}
+use mathlib.Core.Bool.{Bool, true, false}
 use mathlib.Core.List.{List, [], _∷_, _++_, append-assoc, append-nil}
 use borrow.Author.Tests.{ne-eqb}
 use lib.Dec.{eqb}
-use lib.ListN.{length, take, drop, getD, set, length-append, length-take, length-drop, take-append-drop}
+use lib.ListN.{length, take, drop, getD, set, length-append, length-drop, take-append-drop}
 use lib.Seq.{drop-at, drop-drop, getD-drop, getD-take, length-take-le, take-at}
 use Rattle.terms.specs.Choice.{pick, tab}
 use Rattle.terms.proofs.Scans.{tab-same}
@@ -17,12 +17,12 @@ use Rattle.rules.specs.declared.Version.{Version}
 use Rattle.rules.specs.Bodies.{stampOf, writesOf}
 use Rattle.rules.specs.Calls.{isCommitted, newest}
 use Rattle.rules.specs.Low.{foldUpTo, newerFold, upTo}
-use Rattle.rules.specs.Table.{Entry, foldAt}
-use Rattle.table.specs.Table.{countOf, decidedAt, entries, entriesOf, entryAt, entryOf, entryWith, foldIn, foldLen, foldsAt, foldsOf, headLen, putRow, rowAt, rowLen, rowTx, stateAt, Wf, WfRow}
+use Rattle.rules.specs.Table.{Entry}
+use Rattle.table.specs.Table.{countOf, decidedAt, entries, entriesOf, entryAt, entryOf, entryWith, foldIn, foldLen, foldsAt, foldsOf, headLen, putRow, rowAt, rowLen, stateAt}
 use Rattle.table.proofs.Bodies.{body-stamp, body-writes}
 use Rattle.table.proofs.Head.{fold-there}
 use Rattle.low.specs.Raising.{TableThere, foldOver, foldPart, joined, newFold, newFolds, newRows, openBytes, raised, rowsAbove, rowsOf}
-use Rattle.low.specs.Passing.{RowThere, foldEntry, foldWrites, moved, nextFree, passed}
+use Rattle.low.specs.Passing.{RowThere, foldEntry, foldWrites, moved, nextFree, passed, txAt}
 use Rattle.low.proofs.Newest.{entries-newest, newerEntries, newerEntry, newerWrites}
 use Rattle.low.proofs.Parts.{Beside, Kept, beside-same, kept-on, kept-same, part-fold, writes-beside, writes-fold, writes-kept}
 use Rattle.low.proofs.Open.{up-no, up-yes}
@@ -61,7 +61,8 @@ pub record Raising (l : ℕ) (t c : List ℕ) (i free : ℕ) : Type 0 where
   pub fits : free ≤ i
   pub long : length c ≡ length t
   pub keeps : (k : ℕ) → k < 512 → Kept t c k
-  pub folds : (k : ℕ) → k < 512 → newerEntries l k (tab (entryAt (drop headLen t)) i (countOf t - i)) (foldIn c k) ≡ newerEntries l k (entries (drop headLen t) (countOf t)) (foldIn t k)
+  pub folds : (k : ℕ) → k < 512
+      → newerEntries l k (tab (entryAt (drop headLen t)) i (countOf t - i)) (foldIn c k) ≡ newerEntries l k (entries (drop headLen t) (countOf t)) (foldIn t k)
   pub front : take (free * rowLen) (drop headLen c) ++ joined (rowsAbove l (tab (rowAt (drop headLen t)) i (countOf t - i))) ≡ joined (rowsAbove l (rowsOf t))
   pub behind : drop (free * rowLen) (drop headLen c) ≡ drop (free * rowLen) (drop headLen t)
   pub count : free + length (rowsAbove l (tab (rowAt (drop headLen t)) i (countOf t - i))) ≡ length (rowsAbove l (rowsOf t))
@@ -157,27 +158,40 @@ module _ {l : ℕ} {t c : List ℕ} {i free : ℕ} (h : Raising l t c i free) (t
     in-c : headLen ≤ length c
     in-c = let a = room-c in omega arith
 
-    moved-to : drop headLen (moved i free c) ≡ take (free * rowLen) (drop headLen c) ++ (rowAt (drop headLen t) i ++ drop rowLen (drop (free * rowLen) (drop headLen c)))
-    moved-to = moved-rows c i free in-c ∙ ap (putRow (drop headLen c) free) as-stood
+    abbrev front-then : List ℕ
+    front-then = take (free * rowLen) (drop headLen c) ++ rowAt (drop headLen t) i
 
-    head-long : length (take (free * rowLen) (drop headLen c) ++ rowAt (drop headLen t) i) ≡ (free + 1) * rowLen
-    head-long = let a = room-c in let r : length (rowAt (drop headLen t) i) ≡ rowLen = rw as-stood at own-long in let q = length-drop headLen c in ends (take (free * rowLen) (drop headLen c)) (rowAt (drop headLen t) i) (length-take-le (free * rowLen) (drop headLen c) (omega arith)) r
+    abbrev behind-then : List ℕ
+    behind-then = drop rowLen (drop (free * rowLen) (drop headLen c))
+
+    moved-parts : drop headLen (moved i free c) ≡ front-then ++ behind-then
+    moved-parts =
+        moved-rows c i free in-c
+        ∙ ap (putRow (drop headLen c) free) as-stood
+        ∙ sym (append-assoc (take (free * rowLen) (drop headLen c)) (rowAt (drop headLen t) i) behind-then)
+
+    head-long : length front-then ≡ (free + 1) * rowLen
+    head-long =
+        let a = room-c in
+        let r : length (rowAt (drop headLen t) i) ≡ rowLen = rw as-stood at own-long in
+        let q = length-drop headLen c in
+        ends (take (free * rowLen) (drop headLen c)) (rowAt (drop headLen t) i) (length-take-le (free * rowLen) (drop headLen c) (omega arith)) r
       where
         ends : (x y : List ℕ) → length x ≡ free * rowLen → length y ≡ rowLen → length (x ++ y) ≡ (free + 1) * rowLen
         ends x y p q = length-append x y ∙ omega arith
 
     front-to : take ((free + 1) * rowLen) (drop headLen (moved i free c)) ≡ take (free * rowLen) (drop headLen c) ++ rowAt (drop headLen t) i
     front-to =
-        ap (take ((free + 1) * rowLen)) (moved-to ∙ sym (append-assoc (take (free * rowLen) (drop headLen c)) (rowAt (drop headLen t) i) (drop rowLen (drop (free * rowLen) (drop headLen c)))))
-        ∙ take-at (take (free * rowLen) (drop headLen c) ++ rowAt (drop headLen t) i) (drop rowLen (drop (free * rowLen) (drop headLen c))) ((free + 1) * rowLen) head-long
+        ap (take ((free + 1) * rowLen)) moved-parts
+        ∙ take-at front-then behind-then ((free + 1) * rowLen) head-long
 
     next-row : (x : List ℕ) → drop rowLen (drop (free * rowLen) x) ≡ drop ((free + 1) * rowLen) x
     next-row x = let z : free * rowLen + rowLen ≡ (free + 1) * rowLen = omega arith in drop-drop rowLen (free * rowLen) x ∙ ap (λ (n : ℕ). drop n x) z
 
     behind-to : drop ((free + 1) * rowLen) (drop headLen (moved i free c)) ≡ drop ((free + 1) * rowLen) (drop headLen t)
     behind-to =
-        ap (drop ((free + 1) * rowLen)) (moved-to ∙ sym (append-assoc (take (free * rowLen) (drop headLen c)) (rowAt (drop headLen t) i) (drop rowLen (drop (free * rowLen) (drop headLen c)))))
-        ∙ drop-at (take (free * rowLen) (drop headLen c) ++ rowAt (drop headLen t) i) (drop rowLen (drop (free * rowLen) (drop headLen c))) ((free + 1) * rowLen) head-long
+        ap (drop ((free + 1) * rowLen)) moved-parts
+        ∙ drop-at front-then behind-then ((free + 1) * rowLen) head-long
         ∙ ap (drop rowLen) (h .behind)
         ∙ next-row (drop headLen t)
 
@@ -289,18 +303,22 @@ module _ (l i free : ℕ) (t : List ℕ) where
       ∙ getD-drop headLen t (i * rowLen + decidedAt) 0
       ∙ ap (λ (n : ℕ). getD t n 0) z
 
-  pub pass-high : l < stampOf (rowTx (rowAt (drop headLen t) i)) → (moved i free t ≡ passed l i free t) × (free + 1 ≡ nextFree l i free t)
+  pub pass-high : l < stampOf (txAt t i) → (moved i free t ≡ passed l i free t) × (free + 1 ≡ nextFree l i free t)
   unfolding passed nextFree
   pass-high h = (rw (up-no l (rowAt (drop headLen t) i) h), rw (up-no l (rowAt (drop headLen t) i) h))
 
-  module _ (h : stampOf (rowTx (rowAt (drop headLen t) i)) ≤ l) where
+  module _ (h : stampOf (txAt t i) ≤ l) where
     pub pass-committed : getD t (headLen + i * rowLen + decidedAt) 0 ≡ 1
-        → (foldWrites (stampOf (rowTx (rowAt (drop headLen t) i))) (writesOf (rowTx (rowAt (drop headLen t) i))) t ≡ passed l i free t) × (free ≡ nextFree l i free t)
+        → (foldWrites (stampOf (txAt t i)) (writesOf (txAt t i)) t ≡ passed l i free t) × (free ≡ nextFree l i free t)
     unfolding passed nextFree foldEntry
     pass-committed e =
-        (rw (up-yes l (rowAt (drop headLen t) i) h, committed-yes (rowAt (drop headLen t) i) (decided-at ∙ e), body-stamp (rowAt (drop headLen t) i), body-writes (rowAt (drop headLen t) i)), rw (up-yes l (rowAt (drop headLen t) i) h))
+        let u = up-yes l (rowAt (drop headLen t) i) h in
+        let d = committed-yes (rowAt (drop headLen t) i) (decided-at ∙ e) in
+        (rw (u, d, body-stamp (rowAt (drop headLen t) i), body-writes (rowAt (drop headLen t) i)), rw u)
 
     pub pass-dropped : (getD t (headLen + i * rowLen + decidedAt) 0 ≡ 1 → ⊥) → (t ≡ passed l i free t) × (free ≡ nextFree l i free t)
     unfolding passed nextFree foldEntry
     pass-dropped n =
-        (rw (up-yes l (rowAt (drop headLen t) i) h, committed-no (rowAt (drop headLen t) i) (λ (e : getD (rowAt (drop headLen t) i) decidedAt 0 ≡ 1). n (sym decided-at ∙ e))), rw (up-yes l (rowAt (drop headLen t) i) h))
+        let u = up-yes l (rowAt (drop headLen t) i) h in
+        let d = committed-no (rowAt (drop headLen t) i) (λ (e : getD (rowAt (drop headLen t) i) decidedAt 0 ≡ 1). n (sym decided-at ∙ e)) in
+        (rw (u, d), rw u)

@@ -1,22 +1,21 @@
 -- What a raised table is to the rules: the entries above the mark, the mark, the folds; and a table again.
-use Prim.Native.Nat.{ℕ, zero, suc, _+_, _*_, _-_, _<_, _≤_}
+use Prim.Native.Nat.{ℕ, zero, suc, _+_, _*_, _<_, _≤_}
 use native.Mathlib.Omega.{arith}
 use native.Mathlib.Nat.{add-zero, zero-add}
 use mathlib.Core.Path.{_≡_, refl, ap, sym, _∙_}
 use mathlib.Core.Bool.{Bool, true, false, _||_, false≢true}
 use mathlib.Core.List.{List, [], _∷_, _++_, append-assoc, map}
-use lib.ListN.{length, take, drop, getD, length-append, length-map, length-take, length-drop}
+use lib.ListN.{length, take, drop, length-append, length-drop}
 use lib.Seq.{drop-append-add, drop-at, drop-drop, length-take-le, take-at}
 use Rattle.terms.specs.Choice.{any, pick, tab}
 use Rattle.terms.proofs.Checks.{less-no, pass, when-no}
 use Rattle.terms.proofs.Scans.{tab-length, tab-map, tab-same, tab-shift}
 use Rattle.records.specs.Numbers.{numAt}
-use Rattle.rules.specs.declared.Version.{Version}
 use Rattle.rules.specs.Low.{above, foldUpTo, foldsUpTo, upTo}
 use Rattle.rules.specs.Table.{Entry}
-use Rattle.table.specs.Table.{countOf, entries, entriesOf, entryAt, entryOf, foldIn, foldLen, foldsAt, foldsOf, headLen, lowOf, rowAt, rowBad, rowLen, tableLen, tableWrong}
+use Rattle.table.specs.Table.{countOf, entriesOf, entryOf, foldIn, foldLen, foldsAt, foldsOf, headLen, lowOf, rowAt, rowBad, rowLen, tableWrong}
 use Rattle.table.proofs.Checked.{any-false, row-long, row-right, table-count, table-room}
-use Rattle.low.specs.Raising.{foldBytes, foldOver, foldPart, joined, newFold, newFolds, newRows, openBytes, raised, rowsAbove, rowsOf, sameFold}
+use Rattle.low.specs.Raising.{foldBytes, foldOver, foldPart, joined, newFold, newFolds, newRows, raised, rowsAbove, rowsOf, sameFold}
 use Rattle.low.proofs.Bytes.{fold-says, open-back, over-says, says}
 
 -- ---- parts of one length, one after the other
@@ -44,11 +43,13 @@ rows-back (one {x} {xs} h r) rest =
     let a : rowAt (joined (x ∷ xs) ++ rest) 0 ≡ x = rw append-assoc (take-at x (joined xs ++ rest) rowLen h) in
     let s : (j : ℕ) → rowAt (joined (x ∷ xs) ++ rest) (j + 1) ≡ rowAt (joined xs ++ rest) j =
     λ j. let z : (j + 1) * rowLen ≡ length x + j * rowLen = omega arith in
-        rw (append-assoc, z, drop-append-add x (joined xs ++ rest) (j * rowLen)) in
-    let t : tab (rowAt (joined (x ∷ xs) ++ rest)) 1 (length xs) ≡ xs = tab-shift (rowAt (joined (x ∷ xs) ++ rest)) (rowAt (joined xs ++ rest)) 0 (length xs) s ∙ rows-back r rest in
+    rw (append-assoc, z, drop-append-add x (joined xs ++ rest) (j * rowLen)) in
+    let t : tab (rowAt (joined (x ∷ xs) ++ rest)) 1 (length xs) ≡ xs =
+    tab-shift (rowAt (joined (x ∷ xs) ++ rest)) (rowAt (joined xs ++ rest)) 0 (length xs) s ∙ rows-back r rest in
     ap (λ (l : List (List ℕ)). rowAt (joined (x ∷ xs) ++ rest) 0 ∷ l) t ∙ ap (λ (l : List ℕ). l ∷ xs) a
 
-fold-at : (f : ℕ → List ℕ) (i m : ℕ) → Each foldLen (tab f i m) → (rest : List ℕ) (k : ℕ) → k < m → take foldLen (drop (k * foldLen) (joined (tab f i m) ++ rest)) ≡ f (i + k)
+fold-at : (f : ℕ → List ℕ) (i m : ℕ) → Each foldLen (tab f i m) → (rest : List ℕ) (k : ℕ) → k < m
+    → take foldLen (drop (k * foldLen) (joined (tab f i m) ++ rest)) ≡ f (i + k)
 fold-at f i zero e rest k h = absurd (omega arith)
 fold-at f i (suc m) (one l r) rest zero h = rw (append-assoc, add-zero) (take-at (f i) (joined (tab f (i + 1) m) ++ rest) foldLen l)
 fold-at f i (suc m) (one l r) rest (suc k) h =

@@ -11,12 +11,16 @@ use Rattle.rules.specs.Bodies.{stampOf, writesOf}
 use Rattle.rules.specs.Table.{Entry}
 use Rattle.rules.specs.Calls.{isCommitted}
 use Rattle.rules.specs.Low.{upTo}
-use Rattle.table.specs.Table.{entryAt, foldIn, foldLen, foldsAt, headLen, rowAt, rowLen, WfRow}
+use Rattle.table.specs.Table.{entryAt, foldIn, foldLen, foldsAt, headLen, rowAt, rowLen, rowTx, WfRow}
 use Rattle.low.specs.Raising.{foldBytes}
 
 -- row i of a table is there
 abbrev pub RowThere : List ℕ → ℕ → Type 0
 RowThere t i = (headLen + i * rowLen + rowLen ≤ length t) × WfRow (rowAt (drop headLen t) i)
+
+-- its TX
+abbrev pub txAt : List ℕ → ℕ → List ℕ
+txAt t i = rowTx (rowAt (drop headLen t) i)
 
 -- the table with another fold of a key
 abbrev pub putFold : List ℕ → ℕ → Version → List ℕ

@@ -7,9 +7,9 @@ ghost use Rattle.terms.specs.Choice.{any};
 ghost use Rattle.records.specs.Tx.{TxThere};
 ghost use Rattle.rules.specs.Bodies.{stampOf, writesOf};
 ghost use Rattle.rules.specs.Low.{lowWrong, openUpTo};
-ghost use Rattle.table.specs.Table.{boxFrom, countOf, entries, entriesOf, entryAt, foldLen, headLen, rowAt, rowLen, rowTx, Wf, WfRow};
+ghost use Rattle.table.specs.Table.{boxFrom, countOf, entries, entriesOf, entryAt, foldLen, headLen, rowAt, rowLen, Wf, WfRow};
 ghost use Rattle.low.specs.Raising.{foldBytes, openBytes, raised, TableThere};
-ghost use Rattle.low.specs.Passing.{RowThere, foldEntry, foldWrite, foldWrites, moved, nextFree, passed};
+ghost use Rattle.low.specs.Passing.{RowThere, foldEntry, foldWrite, foldWrites, moved, nextFree, passed, txAt};
 use records::Write;
 use rules::Version;
 use terms::Stamp;
@@ -53,13 +53,12 @@ pub fn low_wrong(t: &[u8], low: Stamp) -> u8
     requires { ⌜ TableThere (now t) ⌝ }
     ensures { λ r. ⌜ ((marks : List ℕ) → r ≡ lowWrong (boxFrom (now (t .entry)) (entriesOf (now (t .entry))) marks) (low .0)) ⌝ }
 {
-    if low.0 <= table::low_of(t).0 {
-        return terms::OLD;
-    }
-    if any_open(table::rows(t), table::count_of(t), low) {
-        return terms::UNDECIDED;
-    }
-    0
+    let old = terms::refuse_if(low.0 <= table::low_of(t).0, terms::OLD);
+    let open = terms::refuse_if(
+        any_open(table::rows(t), table::count_of(t), low),
+        terms::UNDECIDED,
+    );
+    terms::first(old, open)
 }
 
 // A number in eight bytes.
@@ -100,7 +99,7 @@ fn fold_write(t: &mut [u8], stamp: Stamp, w: Write)
 // The TX of row `i` of a table.
 fn tx_at(t: &[u8], i: usize) -> &[u8]
     requires { ⌜ RowThere (now t) i ⌝ }
-    ensures { λ r. ⌜ (now r ≡ rowTx (rowAt (drop headLen (now (t .entry))) i)) × TxThere (now r) ⌝ }
+    ensures { λ r. ⌜ (now r ≡ txAt (now (t .entry)) i) × TxThere (now r) ⌝ }
 {
     table::tx_of(table::row(table::rows(t), i))
 }
@@ -108,7 +107,7 @@ fn tx_at(t: &[u8], i: usize) -> &[u8]
 // The writes of row `i` fold, in their order.
 fn fold_row(t: &mut [u8], i: usize)
     requires { ⌜ RowThere (now t) i ⌝ }
-    ensures { λ r. ⌜ now (t .exit) ≡ foldWrites (stampOf (rowTx (rowAt (drop headLen (now (t .entry))) i))) (writesOf (rowTx (rowAt (drop headLen (now (t .entry))) i))) (now (t .entry)) ⌝ }
+    ensures { λ r. ⌜ now (t .exit) ≡ foldWrites (stampOf (txAt (now (t .entry)) i)) (writesOf (txAt (now (t .entry)) i)) (now (t .entry)) ⌝ }
 {
     let stamp = table::stamp_of(tx_at(t, i));
     let n = table::write_count(tx_at(t, i));

@@ -1,6 +1,5 @@
 use Rattle.low.proofs.Parts.{write-past, write-new, write-old}
 use native.Mathlib.Nat.{add-sub-cancel-left}
-use native.Mathlib.Omega.{arith}
 use borrow.Author.Needs.{needs}
 use Rattle.low.proofs.fold_write.Statement.{statement}
 use Rattle.low.proofs.fold_write.Tie as tie

@@ -1,6 +1,5 @@
 use Rattle.low.proofs.Open.{open-above, open-committed, open-aborted, open-yes}
 use Rattle.table.specs.Table.{rowAt}
-use native.Mathlib.Omega.{arith}
 use borrow.Author.Needs.{needs}
 use Rattle.low.proofs.open_at.Statement.{statement}
 use Rattle.low.proofs.open_at.Tie as tie

@@ -1,6 +1,5 @@
 use Rattle.low.proofs.Passes.{pass-committed, pass-dropped, pass-high}
 use mathlib.Core.Path.{_∙_}
-use native.Mathlib.Omega.{arith}
 use borrow.Author.Needs.{needs}
 use Rattle.low.proofs.pass_row.Statement.{statement}
 use Rattle.low.proofs.pass_row.Tie as tie

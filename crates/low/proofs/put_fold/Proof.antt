@@ -1,5 +1,4 @@
 use Rattle.low.proofs.Bytes.{fold-put}
-use native.Mathlib.Omega.{arith}
 use borrow.Author.Needs.{needs}
 use Rattle.low.proofs.put_fold.Statement.{statement}
 use Rattle.low.proofs.put_fold.Tie as tie
