@@ -34,8 +34,16 @@ no-read PR h = refl
 no-read LG h = refl
 no-read DC h = refl
 no-read RD h =
-    absurd (elim h [ inl e ↦ omega arith | inr r ↦ elim r [ inl e ↦ omega arith | inr r ↦ elim r [
-    inl e ↦ omega arith | inr r ↦ elim r [ inl e ↦ omega arith | inr e ↦ omega arith ] ] ] ])
+    absurd (elim h [
+      | inl e ↦ omega arith
+      | inr r ↦ elim r [
+        | inl e ↦ omega arith
+        | inr r ↦ elim r [
+          | inl e ↦ omega arith
+          | inr r ↦ elim r [ inl e ↦ omega arith | inr e ↦ omega arith ]
+        ]
+      ]
+    ])
 no-read IV h = refl
 no-read LD h = refl
 
