@@ -49,11 +49,13 @@
 #include <stddef.h>
 #include <stdint.h>
 
-/* Of this header and what was installed with it. Before 1.0 a new minor number may come with another layout or other numbers. */
+/* Of this header and what was installed with it. Before 1.0 a new minor number may come with another layout or other numbers. stobbarel_version tells
+ * the number of the library that a program runs with; where it is another than this one, do not go on. */
 #define STOBBAREL_VERSION "0.7.0"
 #define STOBBAREL_VERSION_MAJOR 0
 #define STOBBAREL_VERSION_MINOR 7
 #define STOBBAREL_VERSION_PATCH 0
+#define STOBBAREL_VERSION_NUMBER (STOBBAREL_VERSION_MAJOR * 1000000 + STOBBAREL_VERSION_MINOR * 1000 + STOBBAREL_VERSION_PATCH)
 
 /* An array of so many numbers at least, and pointers that are not null, by their places: told to compilers that can be told. */
 #if defined(__cplusplus) || defined(_MSC_VER)
@@ -70,6 +72,9 @@
 #ifdef __cplusplus
 extern "C" {
 #endif
+
+/* The library's own version, as STOBBAREL_VERSION_NUMBER: major * 1000000 + minor * 1000 + patch. */
+uint32_t stobbarel_version(void);
 
 /* A table: the head, then a row for each entry. The head is the count of entries, the low mark, and for each key the folded version: its stamp, then its
  * value; any numbers there are taken as they stand. What stands in a row behind the transaction's bytes, and in the table behind the last entry's row, is
@@ -352,16 +357,23 @@ static inline void stobbarel_lead(const struct stobbarel_box *box, const uint8_t
 STOBBAREL_NONNULL(5)
 uint8_t stobbarel_held(const uint8_t *table, size_t table_len, uint64_t capacity, uint64_t stamp, uint64_t out[STOBBAREL_OF(8)]);
 
+/* How many entries a table has. 0; or 14 (the capacity), 16, the count being 0. */
+STOBBAREL_NONNULL(4)
+uint8_t stobbarel_entries(const uint8_t *table, size_t table_len, uint64_t capacity, size_t *count);
+
+/* Entry i of a table, the first being 0, in the order of their rows: the same eight numbers, all 0 where there are not so many entries. An entry that is
+ * there has a transaction of 12 bytes or more. 0; or 14 (the capacity), 16, out being all 0. */
+STOBBAREL_NONNULL(5)
+uint8_t stobbarel_entry(const uint8_t *table, size_t table_len, uint64_t capacity, uint64_t i, uint64_t out[STOBBAREL_OF(8)]);
+
 /* The same numbers by their names. */
 struct stobbarel_holding {
     uint64_t body_at, body_len; /* the transaction's bytes (TX) in the table; none where nothing is held */
     uint64_t vote, reason, decision, log, log_view, view;
 };
 
-STOBBAREL_NONNULL(1, 3)
-static inline uint8_t stobbarel_holding_of(const struct stobbarel_box *box, uint64_t stamp, struct stobbarel_holding *holding) {
-    uint64_t out[8] = {0};
-    uint8_t wrong = stobbarel_held(box->table, box->table_len, box->capacity, stamp, out);
+STOBBAREL_NONNULL(1, 2)
+static inline void stobbarel_holding_named(const uint64_t out[STOBBAREL_OF(8)], struct stobbarel_holding *holding) {
     holding->body_at = out[0];
     holding->body_len = out[1];
     holding->vote = out[2];
@@ -370,6 +382,21 @@ static inline uint8_t stobbarel_holding_of(const struct stobbarel_box *box, uint
     holding->log = out[5];
     holding->log_view = out[6];
     holding->view = out[7];
+}
+
+STOBBAREL_NONNULL(1, 3)
+static inline uint8_t stobbarel_holding_of(const struct stobbarel_box *box, uint64_t stamp, struct stobbarel_holding *holding) {
+    uint64_t out[8] = {0};
+    uint8_t wrong = stobbarel_held(box->table, box->table_len, box->capacity, stamp, out);
+    stobbarel_holding_named(out, holding);
+    return wrong;
+}
+
+STOBBAREL_NONNULL(1, 3)
+static inline uint8_t stobbarel_entry_of(const struct stobbarel_box *box, uint64_t i, struct stobbarel_holding *holding) {
+    uint64_t out[8] = {0};
+    uint8_t wrong = stobbarel_entry(box->table, box->table_len, box->capacity, i, out);
+    stobbarel_holding_named(out, holding);
     return wrong;
 }
 
@@ -413,6 +440,22 @@ uint8_t stobbarel_reading(uint64_t f, const uint8_t *message, size_t message_len
 
 /* A TX by itself: 0, or the refusal's number (1 to 7). */
 uint8_t stobbarel_reading_tx(const uint8_t *bytes, size_t bytes_len);
+
+/* The same, and its values: head is stamp, r and w; then the keys and versions read, the keys and values written. Every place that is not used, and all
+ * of them where it is refused, are 0. So the bytes that stobbarel_held or stobbarel_entry tells of give the transaction. */
+STOBBAREL_NONNULL(3, 4, 5, 6, 7)
+uint8_t stobbarel_tx_of(const uint8_t *bytes, size_t bytes_len, uint64_t head[STOBBAREL_OF(3)], uint16_t reads[STOBBAREL_OF(8)],
+                        uint64_t versions[STOBBAREL_OF(8)], uint16_t writes[STOBBAREL_OF(8)], uint64_t values[STOBBAREL_OF(8)]);
+
+STOBBAREL_NONNULL(3)
+static inline uint8_t stobbarel_tx_read(const uint8_t *bytes, size_t bytes_len, struct stobbarel_tx *tx) {
+    uint64_t head[3] = {0};
+    uint8_t wrong = stobbarel_tx_of(bytes, bytes_len, head, tx->reads, tx->versions, tx->writes, tx->values);
+    tx->stamp = head[0];
+    tx->r = (size_t)head[1];
+    tx->w = (size_t)head[2];
+    return wrong;
+}
 
 /* A VL by itself, of either kind: 0, or the refusal's number (14, 1 to 6, 8). */
 uint8_t stobbarel_reading_vl(uint64_t f, const uint8_t *bytes, size_t bytes_len);
@@ -605,6 +648,17 @@ uint8_t stobbarel_thresholds(uint64_t f, uint64_t out[STOBBAREL_OF(6)]);
 STOBBAREL_NONNULL(2, 3, 7)
 void stobbarel_take(uint8_t kind, uint32_t *commits, uint32_t *aborts, uint64_t f, uint64_t number, uint64_t answer, uint8_t reply[STOBBAREL_OF(5)]);
 
+/* What a sheet has reached as it is, with no answer given: the reply that an answer which brought it here was given; refused with 14 or 16. */
+STOBBAREL_NONNULL(5)
+void stobbarel_reached(uint8_t kind, uint32_t commits, uint32_t aborts, uint64_t f, uint8_t reply[STOBBAREL_OF(5)]);
+
+/* The list of a sheet's boxes under a decision (1 commit, 2 abort), as an LG or a DC takes it: head is kind, decision, view and count; then the boxes,
+ * rising, and their answers. A box goes on with it where stobbarel_reached lacks 0 of the threshold. Beside votes the view is 0. Every place that is not
+ * used is 0. 0; or 14, 16, 8 (another decision), all being 0. */
+STOBBAREL_NONNULL(7, 8, 9)
+uint8_t stobbarel_sheet_list(uint8_t kind, uint16_t view, uint32_t commits, uint32_t aborts, uint64_t f, uint64_t decision,
+                             uint64_t head[STOBBAREL_OF(4)], uint8_t numbers[STOBBAREL_OF(26)], uint8_t answers[STOBBAREL_OF(26)]);
+
 /* A sheet as a gateway keeps it for one transaction: its kind, the view of its logs, and the masks; a new one's are 0. */
 struct stobbarel_sheet {
     uint8_t kind;
@@ -616,6 +670,22 @@ STOBBAREL_NONNULL(1, 5)
 static inline void stobbarel_sheet_take(struct stobbarel_sheet *sheet, uint64_t f, uint64_t number, uint64_t answer,
                                         uint8_t reply[STOBBAREL_OF(5)]) {
     stobbarel_take(sheet->kind, &sheet->commits, &sheet->aborts, f, number, answer, reply);
+}
+
+STOBBAREL_NONNULL(1, 3)
+static inline void stobbarel_sheet_reached(const struct stobbarel_sheet *sheet, uint64_t f, uint8_t reply[STOBBAREL_OF(5)]) {
+    stobbarel_reached(sheet->kind, sheet->commits, sheet->aborts, f, reply);
+}
+
+STOBBAREL_NONNULL(1, 4)
+static inline uint8_t stobbarel_vl_of_sheet(const struct stobbarel_sheet *sheet, uint64_t f, uint64_t decision, struct stobbarel_vl *vl) {
+    uint64_t head[4] = {0};
+    uint8_t wrong = stobbarel_sheet_list(sheet->kind, sheet->view, sheet->commits, sheet->aborts, f, decision, head, vl->numbers, vl->answers);
+    vl->kind = (uint8_t)head[0];
+    vl->decision = (uint8_t)head[1];
+    vl->view = (uint16_t)head[2];
+    vl->count = (size_t)head[3];
+    return wrong;
 }
 
 /* ---- a transaction that a dead gateway left

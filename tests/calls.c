@@ -186,6 +186,9 @@ static int nulls(void) {
     stobbarel_raise(NULL, 0, 0, CAPACITY, 50, answer);
     wrong += answer[0] != STOBBAREL_REFUSED || answer[1] != STOBBAREL_GROUP;
     wrong += stobbarel_held(NULL, 0, CAPACITY, 50, held) != STOBBAREL_TABLE || held[0] != 0;
+    wrong += stobbarel_entry(NULL, 0, CAPACITY, 0, held) != STOBBAREL_TABLE || held[0] != 0;
+    wrong += stobbarel_entries(NULL, 0, CAPACITY, &length) != STOBBAREL_TABLE || length != 0;
+    wrong += stobbarel_tx_of(NULL, 0, few, reads, versions, writes, values) != STOBBAREL_SHORT || few[0] != 0;
     wrong += stobbarel_reading(F, NULL, 0) != STOBBAREL_SHORT;
     wrong += stobbarel_reading_tx(NULL, 0) != STOBBAREL_SHORT;
     wrong += stobbarel_reading_vl(F, NULL, 0) != STOBBAREL_SHORT;
@@ -216,6 +219,29 @@ static int texts(void) {
         if (stobbarel_refusal_text(number)[0] != 0) printf("refusal %d %s\n", (int)number, stobbarel_refusal_text(number));
     sprintf(version, "%d.%d.%d", STOBBAREL_VERSION_MAJOR, STOBBAREL_VERSION_MINOR, STOBBAREL_VERSION_PATCH);
     return strcmp(version, STOBBAREL_VERSION) != 0;
+}
+
+/* The table's entries, one by one, each with its transaction. */
+static int entries(void) {
+    struct stobbarel_holding entry;
+    struct stobbarel_tx tx;
+    size_t count;
+    if (stobbarel_entries(table, sizeof table, CAPACITY, &count) != 0) return 1;
+    for (uint64_t i = 0; i < count; i++) {
+        if (stobbarel_entry_of(&box, i, &entry) != 0 || stobbarel_tx_read(table + entry.body_at, (size_t)entry.body_len, &tx) != 0) return 1;
+        printf("stamp %d: vote %d, log %d, decision %d\n", (int)tx.stamp, (int)entry.vote, (int)entry.log, (int)entry.decision);
+    }
+    return stobbarel_entry_of(&box, count, &entry) != 0 || entry.body_len != 0;
+}
+
+/* What a sheet has reached as it is, and its list. */
+static int reached(const struct stobbarel_sheet *sheet) {
+    struct stobbarel_vl vl;
+    uint8_t reply[5];
+    stobbarel_sheet_reached(sheet, F, reply);
+    if (stobbarel_vl_of_sheet(sheet, F, STOBBAREL_COMMIT, &vl) != 0) return 1;
+    printf("reached %d %d %d %d %d, a list of %d from box %d on\n", reply[0], reply[1], reply[2], reply[3], reply[4], (int)vl.count, vl.numbers[0]);
+    return stobbarel_vl_of_sheet(sheet, F, 3, &vl) != STOBBAREL_CODE || stobbarel_version() != STOBBAREL_VERSION_NUMBER;
 }
 
 int main(void) {
@@ -249,9 +275,7 @@ int main(void) {
     send(stobbarel_decide, list, listed);
     if (stobbarel_fields(F, list, listed, head, reads, versions, writes, read_values, numbers, answers) != 0) return 1;
     printf("%d bytes: kind %d, decision %d, view %d, %d boxes\n", (int)listed, (int)head[5], (int)head[6], (int)head[7], (int)head[8]);
-    for (const uint8_t *row = table + STOBBAREL_HEAD; row < table + STOBBAREL_TABLE_LEN(table[0]); row += STOBBAREL_ROW)
-        printf("stamp %d: vote %d, log %d, decision %d\n", row[STOBBAREL_BODY_AT + 4], row[STOBBAREL_VOTE_AT], row[STOBBAREL_LOG_AT],
-               row[STOBBAREL_DECIDED_AT]);
+    if (entries() != 0 || reached(&voted) != 0) return 1;
     printf("%d %d\n", stobbarel_reading(F, write, length), (int)stobbarel_part(F, write, length));
     if (stobbarel_thresholds(F, needed) != 0) return 1;
     printf("%d boxes: %d %d %d %d %d\n", (int)needed[0], (int)needed[1], (int)needed[2], (int)needed[3], (int)needed[4], (int)needed[5]);

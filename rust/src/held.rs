@@ -1,4 +1,4 @@
-//! What a table holds under a stamp.
+//! What a table holds under a stamp, and entry by entry.
 
 use crate::answer::Vote;
 use crate::refusal::Refusal;
@@ -40,19 +40,27 @@ impl<'a> Held<'a> {
         let mut row = [0; 8];
         // SAFETY: each pointer is to as many numbers as the function takes, and only the row is lent for writing.
         Refusal::or_done(unsafe { c::stobbarel_held(table.as_ptr(), table.len(), capacity, stamp.0, row.as_mut_ptr()) })?;
-        let [at, length, vote, reason, decided, logged, logged_in, view] = row;
-        // A body has twelve bytes at least.
-        if length == 0 {
-            return Ok(None);
-        }
+        Ok(Held::named(table, row))
+    }
+
+    /// Their entry at a place, none where there are not so many.
+    pub(crate) fn at(table: &'a [u8], capacity: u64, place: usize) -> Result<Option<Held<'a>>, Refusal> {
+        let mut row = [0; 8];
+        // SAFETY: as above.
+        Refusal::or_done(unsafe { c::stobbarel_entry(table.as_ptr(), table.len(), capacity, place as u64, row.as_mut_ptr()) })?;
+        Ok(Held::named(table, row))
+    }
+
+    /// The eight numbers by their names; none where no bytes are told, since a body has twelve at least.
+    fn named(table: &'a [u8], [at, length, vote, reason, decided, logged, logged_in, view]: [u64; 8]) -> Option<Held<'a>> {
         let in_view = |view: u64| View(view.try_into().expect("a view has two bytes"));
-        Ok(Some(Held {
+        (length != 0).then(|| Held {
             body: &table[at as usize..][..length as usize],
             vote: Vote::of(vote, reason),
             decided: coded(decided),
             logged: coded(logged).map(|decision| (decision, in_view(logged_in))),
             view: in_view(view),
-        }))
+        })
     }
 }
 

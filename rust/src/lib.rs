@@ -80,3 +80,14 @@ pub use stobbarel_sys::layout;
 pub use table::Table;
 pub use terms::{Decision, Group, Key, Kind, Mark, NoSuchCode, Reason, Stamp, View};
 pub use upto::UpTo;
+
+/// The version of the engine that is linked: major * 1000000 + minor * 1000 + patch.
+///
+/// ```
+/// assert_eq!(stobbarel::version(), 7_000);
+/// ```
+#[must_use]
+pub fn version() -> u32 {
+    // SAFETY: it takes nothing.
+    unsafe { stobbarel_sys::stobbarel_version() }
+}

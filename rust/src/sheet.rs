@@ -43,6 +43,16 @@ pub enum Reply {
 }
 
 impl Reply {
+    /// A reply by its five numbers.
+    fn of(row: [u8; 5]) -> Result<Reply, Refusal> {
+        match row {
+            [1, commit_list, abort_list, commit_proof, abort_proof] => Ok(Reply::Votes { commit_list, abort_list, commit_proof, abort_proof }),
+            [2, commit_proof, abort_proof, _, _] => Ok(Reply::Logs { commit_proof, abort_proof }),
+            [3, ..] => Ok(Reply::Repeat),
+            [_, number, ..] => Err(Refusal::told(number)),
+        }
+    }
+
     /// How many answers the list for logging this decision lacks; none where the reply does not tell.
     ///
     /// ```
@@ -220,12 +230,25 @@ impl Sheet {
         unsafe {
             c::stobbarel_take(self.kind as u8, &mut self.commits, &mut self.aborts, self.group.f().into(), number.into(), answer.into(), row.as_mut_ptr())
         }
-        match row {
-            [1, commit_list, abort_list, commit_proof, abort_proof] => Ok(Reply::Votes { commit_list, abort_list, commit_proof, abort_proof }),
-            [2, commit_proof, abort_proof, _, _] => Ok(Reply::Logs { commit_proof, abort_proof }),
-            [3, ..] => Ok(Reply::Repeat),
-            [_, number, ..] => Err(Refusal::told(number)),
-        }
+        Reply::of(row)
+    }
+
+    /// What the sheet has reached as it is, without an answer: the reply to the one that brought it here.
+    ///
+    /// ```
+    /// use stobbarel::{Decision, Group, Sheet};
+    ///
+    /// let mut votes = Sheet::votes(Group::of(1)?);
+    /// let reply = votes.take(2, Decision::Commit)?;
+    /// assert_eq!(votes.reached(), reply);
+    /// # Ok::<(), stobbarel::Refusal>(())
+    /// ```
+    #[must_use]
+    pub fn reached(&self) -> Reply {
+        let mut row = [0; 5];
+        // SAFETY: the row has as many numbers as the function takes.
+        unsafe { c::stobbarel_reached(self.kind as u8, self.commits, self.aborts, self.group.f().into(), row.as_mut_ptr()) }
+        Reply::of(row).expect("a sheet of this package is in order")
     }
 
     /// The box numbers under an answer, rising.
@@ -277,9 +300,14 @@ impl Sheet {
     /// ```
     #[must_use]
     pub fn counted(&self, decision: Decision) -> VoteList {
-        let mut list = self.list(decision);
-        list.pairs.retain(|(_, answer)| *answer == decision);
-        list
+        let (mut head, mut numbers, mut answers) = ([0; 4], [0; 26], [0; 26]);
+        // SAFETY: each pointer is to as many numbers as the function takes, and they do not overlap.
+        let wrong = unsafe {
+            let (to, boxes, said) = (head.as_mut_ptr(), numbers.as_mut_ptr(), answers.as_mut_ptr());
+            c::stobbarel_sheet_list(self.kind as u8, self.view.0, self.commits, self.aborts, self.group.f().into(), u8::from(decision).into(), to, boxes, said)
+        };
+        debug_assert_eq!(wrong, 0, "a sheet of this package is in order");
+        VoteList { kind: self.kind, decision, view: self.view, pairs: UpTo::of(head[3] as usize, |place| (numbers[place], decision)) }
     }
 }
 

@@ -146,6 +146,28 @@ impl<B: Borrow<[u8]>, M: Borrow<[u64; KEYS]>> Table<B, M> {
         Held::of(self.bytes(), self.capacity, stamp)
     }
 
+    /// Its entries, in the order of their rows: for printers, and for whoever looks what is undecided.
+    ///
+    /// ```
+    /// use stobbarel::{Group, Key, LONGEST, Stamp, Table, Transaction, read_tx, write_pr};
+    ///
+    /// let mut table = Table::new(Group::of(1)?, 8)?;
+    /// for stamp in [50, 60] {
+    ///     let tx = Transaction::new(Stamp(stamp), [], [(Key(3), 7)]);
+    ///     let _ = table.receive(100, 10, write_pr(&tx, &mut [0; LONGEST])?)?;
+    /// }
+    /// let undecided = table.entries()?.filter(|entry| entry.decided.is_none());
+    /// assert_eq!(undecided.map(|entry| read_tx(entry.body).unwrap().stamp).collect::<Vec<_>>(), [Stamp(50), Stamp(60)]);
+    /// # Ok::<(), stobbarel::Refusal>(())
+    /// ```
+    pub fn entries(&self) -> Result<impl Iterator<Item = Held<'_>>, Refusal> {
+        let table = self.bytes();
+        let mut count = 0;
+        // SAFETY: each pointer is to as many numbers as the function takes, and only the count is lent for writing.
+        Refusal::or_done(unsafe { c::stobbarel_entries(table.as_ptr(), table.len(), self.capacity, &mut count) })?;
+        Ok((0..count).filter_map(move |place| Held::at(table, self.capacity, place).ok().flatten()))
+    }
+
     /// The low mark: what is at or below it, the box has let go. 0 before it is raised. Refused is a table that is too short for its head ([`Refusal::Table`]).
     ///
     /// ```

@@ -49,7 +49,7 @@ fn function(c: &str) -> String {
     let (front, behind) = c.split_once('(').expect("a function has parameters");
     let (answer, name) = front.split_once(' ').expect("a function has a name");
     let behind = behind.strip_suffix(");").expect("a declaration ends so");
-    let parameters: Vec<String> = behind.split(',').map(parameter).collect();
+    let parameters: Vec<String> = behind.split(',').filter(|one| *one != "void").map(parameter).collect();
     let answer = if answer == "void" { String::new() } else { format!(" -> {}", number(answer)) };
     format!("    /// `{c}`\n    pub fn {name}({}){answer};\n", parameters.join(", "))
 }
@@ -58,7 +58,8 @@ fn function(c: &str) -> String {
 fn functions(header: &str) -> Vec<String> {
     let (mut all, mut open) = (vec![], None::<String>);
     for line in header.lines() {
-        let begins = ["void ", "uint8_t ", "size_t "].iter().any(|answer| line.strip_prefix(answer).is_some_and(|rest| rest.starts_with("stobbarel_")));
+        let begins =
+            ["void ", "uint8_t ", "uint32_t ", "size_t "].iter().any(|answer| line.strip_prefix(answer).is_some_and(|rest| rest.starts_with("stobbarel_")));
         open = match open {
             Some(before) => Some(format!("{before} {}", line.trim())),
             None => begins.then(|| line.into()),

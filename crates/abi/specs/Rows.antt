@@ -1,5 +1,5 @@
 -- An answer as five numbers: which answer it is, then this paper's number and values for it, then zeros.
-use Prim.Native.Nat.{ℕ, zero, suc}
+use Prim.Native.Nat.{ℕ, zero, suc, _+_, _*_}
 use mathlib.Core.Path.{_≡_}
 use mathlib.Core.List.{List, [], _∷_}
 use Rattle.terms.specs.Group.{boxes, commitList, abortList, commitProof, abortProof, logProof}
@@ -45,6 +45,10 @@ toldOf f capacity clock delta = record { f = f; capacity = capacity; clock = clo
 abbrev pub sheetOf : ℕ → ℕ → ℕ → Sheet
 sheetOf kind commits aborts = record { kind = kind; view = 0; commits = commits; aborts = aborts }
 
+-- the sheet that is lent with its view
+abbrev pub sheetWith : ℕ → ℕ → ℕ → ℕ → Sheet
+sheetWith kind view commits aborts = record { kind = kind; view = view; commits = commits; aborts = aborts }
+
 -- the leader's sheet that is lent as a view and two masks
 abbrev pub electionSheet : ℕ → ℕ → ℕ → Sheet
 electionSheet view commits aborts = record { kind = 2; view = view; commits = commits; aborts = aborts }
@@ -57,3 +61,10 @@ groupRow f = boxes f ∷ commitList f ∷ abortList f ∷ commitProof f ∷ abor
 unfoldable pub thresholdsBy : ℕ → ℕ → List ℕ → List ℕ
 thresholdsBy zero f out = groupRow f
 thresholdsBy (suc n) f out = out
+
+-- a version as one number, which grows with it; and the library's
+abbrev pub versionNumber : ℕ → ℕ → ℕ → ℕ
+versionNumber major minor patch = major * 1000000 + minor * 1000 + patch
+
+abbrev pub version : ℕ
+version = versionNumber 0 7 0

@@ -1,5 +1,5 @@
 // The engine for programs in C, or in any language that calls C, on numbers, arrays and slices: a box's calls with the answer as five
-// numbers, what a table holds under a stamp, records read and written, the tally, the leader's sheet, the thresholds, the passage register.
+// numbers, what a table holds, records read and written, the tally, the leader's sheet, the thresholds, the passage register.
 ghost use mathlib.Core.Path.{_≡_};
 ghost use mathlib.Core.List.{[], _∷_};
 ghost use lib.ListN.{length, getD};
@@ -8,15 +8,16 @@ ghost use Rattle.records.specs.declared.ViewMark.the-variants.{VS, EL};
 ghost use Rattle.records.specs.Messages.{readTX, readVL, readViews, readMessage, handedBack};
 ghost use Rattle.rules.specs.Act.{receive, due};
 ghost use Rattle.engine.specs.Outcome.{kept, called, lowered, tableBy};
-ghost use Rattle.sheet.specs.Sheets.{replyTo, replyValues, sheetAfter};
-ghost use Rattle.arrays.specs.Arrays.{lentTx, lentList, lentViews, markedBy, foundNumber, markNumber, fields, fieldsOf, viewRow, viewFields, viewFieldsOf, ballotNumbers, ballotAnswers, ballotViews};
+ghost use Rattle.sheet.specs.Sheets.{replyTo, replyValues, sheetAfter, reachedOf};
+ghost use Rattle.sheet.specs.Listing.{listingOf};
+ghost use Rattle.arrays.specs.Arrays.{lentTx, lentList, lentViews, markedBy, foundNumber, markNumber, fields, fieldsOf, viewRow, viewFields, viewFieldsOf, ballotNumbers, ballotAnswers, ballotViews, txRow, txFields, txFieldsOf, listFields, listFieldsOf};
 ghost use Rattle.election.specs.Elections.{heardValues, said, sheetHeard, gathered};
 ghost use Rattle.election.specs.Telling.{tellWrong, taller, telling};
 ghost use Rattle.passage.specs.Passages.{reportOf, asksOf};
 ghost use Rattle.passage.specs.Corrections.{directionCorrected, corrected, entered};
 ghost use Rattle.abi.specs.Register.{lentSeen, lentValues, askedKeys, reportNumber, reportRow, made, madeOf};
-ghost use Rattle.abi.specs.Rows.{answerRow, toldOf, sheetOf, electionSheet, groupRow, thresholdsBy, LeavesRow};
-ghost use Rattle.held.specs.Held.{heldOf, holdingRow};
+ghost use Rattle.abi.specs.Rows.{answerRow, toldOf, sheetOf, sheetWith, electionSheet, groupRow, thresholdsBy, version, LeavesRow};
+ghost use Rattle.held.specs.Held.{heldOf, holdingRow, entryTold, howManyTold};
 ghost use Rattle.abi.specs.Left.{left, txLeft, vlLeft, viewsLeft, prLeft, listedMark, listedLeft, viewedLeft, rdLeft};
 use passage::Made;
 use passage::Reported;
@@ -31,6 +32,14 @@ use sheet::Sheet;
 use terms::Group;
 use terms::Key;
 use terms::Stamp;
+
+// The library's version, as a number.
+#[no_mangle]
+pub extern "C" fn stobbarel_version() -> u32
+    ensures { λ r. ⌜ r ≡ version ⌝ }
+{
+    7000
+}
 
 // An answer as five numbers: 1 voted, 2 decided, 3 logged, 4 done, 5 found, 6 refused, 7 elected or 8 raised, and then its values.
 pub fn values(a: Answer) -> [u64; 5]
@@ -160,6 +169,26 @@ pub extern "C" fn stobbarel_held(table: &[u8], capacity: u64, stamp: u64, out: &
     holding.wrong
 }
 
+// How many entries a table has.
+#[no_mangle]
+pub extern "C" fn stobbarel_entries(table: &[u8], capacity: u64, count: &mut usize) -> u8
+    ensures { λ r. ⌜ (r ≡ howManyTold (now (table .entry)) capacity .wrong) × (now (count .exit) ≡ howManyTold (now (table .entry)) capacity .count) ⌝ }
+{
+    let entries = held::how_many(table, capacity);
+    *count = entries.count;
+    entries.wrong
+}
+
+// One of them, the first being 0.
+#[no_mangle]
+pub extern "C" fn stobbarel_entry(table: &[u8], capacity: u64, i: u64, out: &mut [u64; 8]) -> u8
+    ensures { λ r. ⌜ (r ≡ entryTold (now (table .entry)) capacity i .wrong) × (now (out .exit) ≡ holdingRow (entryTold (now (table .entry)) capacity i)) ⌝ }
+{
+    let entry = held::entry(table, capacity, i);
+    put_eight(out, held::numbers(entry));
+    entry.wrong
+}
+
 // Reading alone: the refusal's number, or 0.
 #[no_mangle]
 pub extern "C" fn stobbarel_reading(f: u64, message: &[u8]) -> u8
@@ -177,6 +206,31 @@ pub extern "C" fn stobbarel_reading_tx(bytes: &[u8]) -> u8
 {
     let tx = reading::read_tx(bytes);
     tx.wrong
+}
+
+fn put_three(out: &mut [u64; 3], v: [u64; 3])
+    ensures { λ r. ⌜ now (out .exit) ≡ v ⌝ }
+{
+    *out = v;
+}
+
+// Its values, put down in what is lent for them: all 0 where it is refused.
+#[no_mangle]
+pub extern "C" fn stobbarel_tx_of(
+    bytes: &[u8],
+    head: &mut [u64; 3],
+    reads: &mut [u16; 8],
+    versions: &mut [u64; 8],
+    writes: &mut [u16; 8],
+    values: &mut [u64; 8],
+) -> u8
+    ensures { λ r. ⌜ (r ≡ readTX (now (bytes .entry)) .wrong) × (now (head .exit) ≡ txRow (readTX (now (bytes .entry)) .tx)) × (txFields (now (reads .exit)) (now (versions .exit)) (now (writes .exit)) (now (values .exit)) ≡ txFieldsOf (readTX (now (bytes .entry)) .tx)) ⌝ }
+{
+    let reading = reading::read_tx(bytes);
+    let x = reading.tx;
+    put_three(head, [x.stamp.0, x.r as u64, x.w as u64]);
+    arrays::put_tx(x, reads, versions, writes, values);
+    reading.wrong
 }
 
 // A VL by itself.
@@ -303,6 +357,48 @@ pub extern "C" fn stobbarel_take(
     *commits = after.commits;
     *aborts = after.aborts;
     put_reply(out, reply.values());
+}
+
+// What a sheet has reached as it is, as a reply tells it.
+#[no_mangle]
+pub extern "C" fn stobbarel_reached(kind: u8, commits: u32, aborts: u32, f: u64, out: &mut [u8; 5])
+    ensures { λ r. ⌜ now (out .exit) ≡ replyValues (reachedOf (sheetOf kind commits aborts) f) ⌝ }
+{
+    let s = Sheet {
+        kind,
+        view: 0,
+        commits,
+        aborts,
+    };
+    let reached = sheet::reached(s, f);
+    put_reply(out, reached.values());
+}
+
+// The list of the boxes under a decision, put down; 14, 16, 8 or 0.
+#[no_mangle]
+pub extern "C" fn stobbarel_sheet_list(
+    kind: u8,
+    view: u16,
+    commits: u32,
+    aborts: u32,
+    f: u64,
+    decision: u64,
+    head: &mut [u64; 4],
+    numbers: &mut [u8; 26],
+    answers: &mut [u8; 26],
+) -> u8
+    ensures { λ r. ⌜ (r ≡ listingOf (sheetWith kind view commits aborts) f decision .wrong) × (listFields (now (head .exit)) (now (numbers .exit)) (now (answers .exit)) ≡ listFieldsOf (listingOf (sheetWith kind view commits aborts) f decision .list)) ⌝ }
+{
+    let s = Sheet {
+        kind,
+        view,
+        commits,
+        aborts,
+    };
+    let listing = sheet::list_by(s, f, decision);
+    let list = listing.list;
+    arrays::put_list(list, head, numbers, answers);
+    listing.wrong
 }
 
 // The leader's sheet, lent as a view and two masks.

@@ -163,6 +163,10 @@ pub record TxFields : Type 0 where
 abbrev pub txFields : List ℕ → List ℕ → List ℕ → List ℕ → TxFields
 txFields reads versions writes values = record { reads = reads; versions = versions; writes = writes; values = values }
 
+-- its numbers: stamp, r, w
+abbrev pub txRow : Transaction → List ℕ
+txRow x = x .stamp .0 ∷ x .r ∷ x .w ∷ []
+
 unfoldable pub txFieldsOf : Transaction → TxFields
 txFieldsOf x = txFields (readKeys (x .reads)) (readVersions (x .reads)) (writeKeys (x .writes)) (writeValues (x .writes))
 
@@ -206,3 +210,18 @@ viewRow l = l .leader ∷ l .decision ∷ l .view .0 ∷ l .count ∷ []
 
 unfoldable pub viewFieldsOf : ViewList → ViewFields
 viewFieldsOf l = viewFields (viewRow l) (ballotNumbers (l .ballots)) (ballotAnswers (l .ballots)) (ballotViews (l .ballots))
+
+-- a list in the arrays lent for it: kind, decision, view, count; the boxes, their answers
+pub record ListFields : Type 0 where
+  pub head : List ℕ
+  pub numbers : List ℕ
+  pub answers : List ℕ
+
+abbrev pub listFields : List ℕ → List ℕ → List ℕ → ListFields
+listFields head numbers answers = record { head = head; numbers = numbers; answers = answers }
+
+abbrev pub listRow : VoteList → List ℕ
+listRow l = l .kind ∷ l .decision ∷ l .view .0 ∷ l .count ∷ []
+
+unfoldable pub listFieldsOf : VoteList → ListFields
+listFieldsOf l = listFields (listRow l) (pairNumbers (l .pairs)) (pairAnswers (l .pairs))

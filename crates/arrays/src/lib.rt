@@ -1,6 +1,6 @@
 // The values of records as numbers and arrays, which any language can lend: put together into a transaction and a list, and taken apart.
 ghost use mathlib.Core.Path.{_≡_};
-ghost use Rattle.arrays.specs.Arrays.{lentTx, lentList, lentViews, writtenNumber, writtenLength, readKeys, readVersions, writeKeys, writeValues, pairNumbers, pairAnswers, foundNumber, markNumber, foundStamp, markedBy, headRow, txFields, txFieldsOf, fields, fieldsOf, ballotNumbers, ballotAnswers, ballotViews, viewRow, viewFields, viewFieldsOf};
+ghost use Rattle.arrays.specs.Arrays.{lentTx, lentList, lentViews, writtenNumber, writtenLength, readKeys, readVersions, writeKeys, writeValues, pairNumbers, pairAnswers, foundNumber, markNumber, foundStamp, markedBy, headRow, txFields, txFieldsOf, fields, fieldsOf, ballotNumbers, ballotAnswers, ballotViews, viewRow, viewFields, viewFieldsOf, listRow, listFields, listFieldsOf};
 use records::Ballot;
 use records::Mark;
 use records::Marked;
@@ -384,4 +384,24 @@ pub fn put_views(
     let ballots = l.ballots;
     put_view_head(l, head);
     put_ballots(ballots, numbers, answers, views);
+}
+
+fn put_list_head(l: VoteList, head: &mut [u64; 4])
+    ensures { λ r. ⌜ now (head .exit) ≡ listRow l ⌝ }
+{
+    *head = [
+        l.kind as u64,
+        l.decision as u64,
+        l.view.0 as u64,
+        l.count as u64,
+    ];
+}
+
+// A list, put down.
+pub fn put_list(l: VoteList, head: &mut [u64; 4], numbers: &mut [u8; 26], answers: &mut [u8; 26])
+    ensures { λ r. ⌜ listFields (now (head .exit)) (now (numbers .exit)) (now (answers .exit)) ≡ listFieldsOf l ⌝ }
+{
+    let listed = l.pairs;
+    put_list_head(l, head);
+    put_pairs(listed, numbers, answers);
 }

@@ -6,11 +6,11 @@ use Rattle.records.specs.declared.Mark.{Mark}
 use Rattle.records.specs.declared.Mark.the-variants.{PR, LG, DC, RD, IV, LD}
 use Rattle.records.specs.Cutting.{txPart}
 use Rattle.records.specs.declared.ViewMark.the-variants.{VS, EL}
-use Rattle.records.specs.Messages.{listBehind, rdKey, rdStamp, viewsBehind}
+use Rattle.records.specs.Messages.{listBehind, viewsBehind}
 use Rattle.rules.specs.declared.Told.{Told}
 use Rattle.rules.specs.Bodies.{Body}
 use Rattle.rules.specs.Calls.{Act, nothing, lookAct, rdRule}
-use Rattle.rules.specs.Act.{due, rule, unlessOld, dueAct, markedAct, dueMark, markBy, actBy, marksAfter}
+use Rattle.rules.specs.Act.{rule, unlessOld, dueAct, markedAct, dueMark, markBy, actBy, marksAfter}
 use Rattle.rules.proofs.Deeds.{guarded-elim}
 use Rattle.rules.proofs.Room.{pr-still, lg-still, dc-still, iv-still, ld-still}
 use Rattle.engine.specs.Outcome.{Kept, boxIn, called, tableBy, leavesAlone, LeavesAlone}

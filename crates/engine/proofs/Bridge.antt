@@ -12,7 +12,8 @@ use Rattle.rules.specs.declared.Told.{Told}
 use Rattle.rules.specs.Bodies.{stampOf}
 use Rattle.rules.specs.Table.{Box}
 use Rattle.rules.specs.Calls.{Change, nothing, puts, raises, raisesLow, guarded}
-use Rattle.rules.specs.Act.{EntryPoint, receive, due, raising, toldWrong, dueAct, markedAct, markBy, actBy, act, tableAfter, marksAfter, lowAfter, foldsAfter, boxAfter, after}
+use Rattle.rules.specs.Act.{EntryPoint, receive, due, raising, toldWrong, dueAct, markedAct, markBy, actBy, act}
+use Rattle.rules.specs.Act.{tableAfter, lowAfter, foldsAfter, boxAfter, after}
 use Rattle.rules.specs.Low.{lowRule}
 use Rattle.rules.proofs.Room.{FitsBy, FitsIn, Fit, act-fits}
 use Rattle.table.specs.Table.{entriesOf, foldsOf, lowOf, tableWrong, countOf, place, stateIn, headLen}

@@ -10,7 +10,9 @@ pub mod Watching
 pub mod Safety
 pub mod SlipUnder
 pub mod Starts
+pub mod Beside
 pub mod Busy
+pub mod Lows
 pub mod Order
 pub mod Crossed
 pub mod Panel

@@ -46,11 +46,13 @@ module _ (l : ℕ) (told : Told) (t : List ℕ) where
     taken = through _ _ lent
 
     -- 18, 19
-    pub low-stops : (n : ℕ) → ((marks : List ℕ) → n ≡ lowWrong (boxFrom t (entriesOf t) marks) l) → (n ≡ 0 → ⊥) → LowLeaves (lowered l told t) (Refused (refusalOf n)) t
+    pub low-stops : (n : ℕ) → ((marks : List ℕ) → n ≡ lowWrong (boxFrom t (entriesOf t) marks) l) → (n ≡ 0 → ⊥)
+        → LowLeaves (lowered l told t) (Refused (refusalOf n)) t
     unfolding lowRule boxIn
     low-stops n e h = refused n (halted n _ raises (e []) h ∙ taken)
 
-    pub low-raised : (n : ℕ) → ((marks : List ℕ) → n ≡ lowWrong (boxFrom t (entriesOf t) marks) l) → n ≡ 0 → (s : List ℕ) → s ≡ raised l t → LowLeaves (lowered l told t) Raised s
+    pub low-raised : (n : ℕ) → ((marks : List ℕ) → n ≡ lowWrong (boxFrom t (entriesOf t) marks) l) → n ≡ 0 → (s : List ℕ) → s ≡ raised l t
+        → LowLeaves (lowered l told t) Raised s
     unfolding lowRule boxIn tableBy
     low-raised n e z s q =
         subst (λ (y : Act). LowLeaves y Raised s) (through _ raises (sym (e []) ∙ z) ∙ taken) (refl, q)

@@ -33,7 +33,17 @@ pub no-read : (k : Mark) → OneOf (0 ∷ 1 ∷ 2 ∷ 4 ∷ 5 ∷ []) (tagOf M.t
 no-read PR h = refl
 no-read LG h = refl
 no-read DC h = refl
-no-read RD h = absurd (elim h [ inl e ↦ omega arith | inr r ↦ elim r [ inl e ↦ omega arith | inr r ↦ elim r [ inl e ↦ omega arith | inr r ↦ elim r [ inl e ↦ omega arith | inr e ↦ omega arith ] ] ] ])
+no-read RD h =
+    absurd (elim h [
+      | inl e ↦ omega arith
+      | inr r ↦ elim r [
+        | inl e ↦ omega arith
+        | inr r ↦ elim r [
+          | inl e ↦ omega arith
+          | inr r ↦ elim r [ inl e ↦ omega arith | inr e ↦ omega arith ]
+        ]
+      ]
+    ])
 no-read IV h = refl
 no-read LD h = refl
 

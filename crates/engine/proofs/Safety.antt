@@ -10,7 +10,6 @@ use borrow.Author.Tests.{eqb-true}
 use Rattle.terms.specs.Choice.{pick}
 use Rattle.terms.specs.Group.{boxes}
 use Rattle.records.specs.Cutting.{txPart}
-use Rattle.rules.specs.declared.Answer.{Answer}
 use Rattle.rules.specs.declared.Told.{Told}
 use Rattle.rules.specs.Bodies.{Body, sameBody}
 use Rattle.rules.specs.Table.{Box, empty}
@@ -24,7 +23,7 @@ use Rattle.rules.proofs.Safety.{safety}
 use Rattle.rules.proofs.Alike.{Alike, carries-alike, safe-alike}
 use Rattle.table.specs.Table.{entriesOf, tableWrong}
 use Rattle.engine.specs.Outcome.{Kept, boxIn, lentWrong, called, tableBy}
-use Rattle.engine.specs.Safety.{leaves, keptAt, answered, gaveBy, Empty, FairCalls, EngineSafety, Tracks, EngineTracks}
+use Rattle.engine.specs.Safety.{leaves, keptAt, answered, gaveBy, Empty, FairCalls, EngineSafety, EngineTracks}
 use Rattle.engine.specs.SlipUnder.{keptFor}
 use Rattle.engine.proofs.Lent.{taken}
 use Rattle.engine.proofs.Bridge.{called-act, bridge}

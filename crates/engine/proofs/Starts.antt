@@ -2,15 +2,13 @@
 use Prim.Native.Nat.{ℕ, zero, suc, _+_, _*_, _≤_, _<_}
 use native.Mathlib.Omega.{arith}
 use mathlib.Core.Path.{_≡_, refl, sym, _∙_}
-use mathlib.Core.List.{List, [], _∷_}
-use lib.ListN.{length, replicate, length-replicate, take, drop}
+use lib.ListN.{replicate, length-replicate, take, drop}
 use Rattle.terms.specs.Checks.{table}
-use Rattle.terms.specs.Choice.{tab}
 use Rattle.terms.proofs.Checks.{pass, halt, less-no, less-yes, when-no}
 use Rattle.terms.proofs.Scans.{tab-same}
 use Rattle.records.specs.Numbers.{leVal, numAt}
 use Rattle.rules.specs.Table.{empty, noVersion}
-use Rattle.table.specs.Table.{entriesOf, foldIn, foldsOf, headLen, lowOf, tableWrong, tableLen, rowLen}
+use Rattle.table.specs.Table.{entriesOf, foldIn, foldsOf, lowOf, tableWrong, tableLen, rowLen}
 use Rattle.engine.specs.Outcome.{Kept, boxIn}
 use Rattle.engine.specs.Safety.{Empty}
 use Rattle.engine.specs.Busy.{zeros}

@@ -1,5 +1,5 @@
 -- A step on the rows is the step of the rules on the lent table, and it can be applied.
-use Prim.Native.Nat.{ℕ, zero, suc, _+_, _*_, _≤_, _<_}
+use Prim.Native.Nat.{ℕ, _≤_, _<_}
 use native.Mathlib.Omega.{arith}
 use mathlib.Core.Path.{_≡_, refl, ap, sym, _∙_, subst}
 use mathlib.Core.Bool.{false}
@@ -40,7 +40,7 @@ use Rattle.table.specs.Table.{boxFrom, entries, entriesOf, lowOf, countOf, plac
 use Rattle.steps.specs.declared.Step.{Step}
 use Rattle.steps.specs.Step.{changeBy, stepBy, kept as keptStep}
 use Rattle.steps.proofs.Stored.{below}
-use Rattle.engine.specs.Outcome.{Kept, kept, boxIn, lentWrong, tableBy, tableOf, marksOf, Leaves, Ready, Does}
+use Rattle.engine.specs.Outcome.{kept, boxIn, lentWrong, tableBy, tableOf, marksOf, Leaves, Ready, Does}
 use Rattle.engine.proofs.Guards.{through, halted}
 use Rattle.engine.proofs.Lent.{long, few, small-capacity}
 

@@ -38,7 +38,7 @@ gaveBy f start (e ∷ es) i b w =
     (eqb (e .box) i && (sameBody (txPart (e .message)) b && isWord w (wordIn (answered f start e es)))) || gaveBy f start es i b w
 
 -- ---- the premises
--- "starting empty": no entry is counted, no key was read, and nothing was let go. Any slice will do: a call whose capacity needs a longer one is refused with 16
+-- "starting empty": no entry is counted, no key was read, nothing was let go. Any slice will do: a call whose capacity needs a longer one is refused with 16
 pub record Empty (x : Kept) : Type 0 where
   pub none : countOf (x .table) ≡ 0
   pub unread : x .marks ≡ replicate 512 0

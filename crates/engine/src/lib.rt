@@ -1,4 +1,5 @@
-// The entry points of a box: one for any message, one where a certain mark is due, one that raises its low mark. Each is 14, 16, the message's refusal, then one act of the rules.
+// The entry points of a box: one for any message, one where a certain mark is due, one that raises its low mark. Each is 14, 16, the message's refusal,
+// then one act of the rules.
 ghost use mathlib.Core.Path.{_≡_};
 ghost use Prim.Native.Nat.{ℕ, _≤_};
 ghost use mathlib.Core.Bool.{false};

@@ -22,11 +22,11 @@ use Rattle.held.specs.Held.{heldWrong, nothing, holdingOf, foundIn, held
 use Rattle.held.proofs.Found.{right, passed, found, not-found, tells-found, tells-none}
 
 module _ (t : List ℕ) (i : ℕ) (h : i * rowLen + rowLen ≤ length (drop headLen t)) (w : WfRow (rowAt (drop headLen t) i)) where
-  long : length (entryOf (rowAt (drop headLen t) i) .body) ≡ txLen (rowTx (rowAt (drop headLen t) i))
+  pub long : length (entryOf (rowAt (drop headLen t) i) .body) ≡ txLen (rowTx (rowAt (drop headLen t) i))
   unfolding entryOf entryWith rowBody
   long = let l = row-there _ w .2 in simp length-take (omega arith)
 
-  inside : headLen + i * rowLen + bodyAt + length (entryOf (rowAt (drop headLen t) i) .body) ≤ length t
+  pub inside : headLen + i * rowLen + bodyAt + length (entryOf (rowAt (drop headLen t) i) .body) ≤ length t
   inside =
       let l : i * rowLen + rowLen ≤ length t - headLen = rw length-drop at h in
       let a = w .reads in
@@ -38,7 +38,7 @@ module _ (t : List ℕ) (i : ℕ) (h : i * rowLen + rowLen ≤ length (drop head
       let e : headLen + i * rowLen + bodyAt ≡ headLen + (i * rowLen + bodyAt) = omega arith in
       ap (λ (n : ℕ). drop n t) e ∙ sym (drop-drop (i * rowLen + bodyAt) headLen t) ∙ sym (drop-drop bodyAt (i * rowLen) (drop headLen t))
 
-  stands : take (length (entryOf (rowAt (drop headLen t) i) .body)) (drop (headLen + i * rowLen + bodyAt) t) ≡ entryOf (rowAt (drop headLen t) i) .body
+  pub stands : take (length (entryOf (rowAt (drop headLen t) i) .body)) (drop (headLen + i * rowLen + bodyAt) t) ≡ entryOf (rowAt (drop headLen t) i) .body
   unfolding entryOf entryWith rowBody
   stands =
       let a = w .reads in
@@ -48,7 +48,7 @@ module _ (t : List ℕ) (i : ℕ) (h : i * rowLen + rowLen ≤ length (drop head
       ∙ sym (mid-take (txLen (rowTx (rowAt (drop headLen t) i))) bodyAt rowLen (drop (i * rowLen) (drop headLen t)) (omega arith))
 
 -- a stamp has its place among the entries, or behind them
-lt-cases : (m n : ℕ) → (m < n) ⊎ (n ≤ m)
+pub lt-cases : (m n : ℕ) → (m < n) ⊎ (n ≤ m)
 lt-cases m n = go (ltb m n) refl
   where
     go : (b : Bool) → ltb m n ≡ b → (m < n) ⊎ (n ≤ m)

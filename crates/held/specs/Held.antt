@@ -1,4 +1,4 @@
--- What a table holds under a stamp: the entry that the rules look up under it, and where its body stands in the lent bytes.
+-- What a table holds: the entry that the rules look up under a stamp, the entries one by one, and where a body stands in the lent bytes.
 use Prim.Native.Nat.{ℕ, zero, suc, _+_, _*_, _<_, _≤_}
 use mathlib.Core.List.{List, [], _∷_}
 use mathlib.Core.Option.{Option, some, none}
@@ -16,6 +16,7 @@ use Rattle.rules.specs.Table.{Entry, find}
 use Rattle.table.specs.declared.State.{State}
 use Rattle.table.specs.Table.{headLen, rowLen, bodyAt, entriesOf, tableWrong, stateIn, place, stored}
 use Rattle.held.specs.declared.Holding.{Holding}
+use Rattle.held.specs.declared.HowMany.{HowMany}
 
 -- "Order: 14, 16"; of 14 the capacity, since f is not told here
 unfoldable pub heldWrong : ℕ → List ℕ → ℕ
@@ -80,6 +81,56 @@ StoredHeld =
     (capacity i : ℕ) (b : Body) (x : State) → length b ≡ txLen b → TxThere b → i < capacity → (t : List ℕ) → heldWrong capacity t ≡ 0
     → i ≡ place (stampOf b) (entriesOf t)
     → (bodyHeld (stored t i b x) capacity (stampOf b) ≡ b) × (heldOf (stored t i b x) capacity (stampOf b) .state ≡ x)
+
+-- ---- the entries one by one, in the order of their rows
+-- entry i of a list, the first being 0; none where there are not so many
+unfoldable pub nth : List Entry → ℕ → Option Entry
+nth [] i = none
+nth (e ∷ es) zero = some e
+nth (e ∷ es) (suc i) = nth es i
+
+-- what is told of entry i: its body begins behind the head, the rows before it, and codes and views
+unfoldable pub entryIn : List ℕ → ℕ → Holding
+entryIn t i = holdingOf (headLen + i * rowLen + bodyAt) (nth (entriesOf t) i)
+
+unfoldable pub entryBy : ℕ → List ℕ → ℕ → Holding
+entryBy zero t i = entryIn t i
+entryBy (suc n) t i = nothing (suc n)
+
+-- 14, 16, or entry i
+unfoldable pub entryTold : List ℕ → ℕ → ℕ → Holding
+entryTold t capacity i = entryBy (heldWrong capacity t) t i
+
+-- its body; empty where there is no such entry, and where it is refused
+unfoldable pub entryBodyBy : ℕ → List ℕ → ℕ → Body
+entryBodyBy zero t i = bodyIn (nth (entriesOf t) i)
+entryBodyBy (suc n) t i = []
+
+unfoldable pub entryBody : List ℕ → ℕ → ℕ → Body
+entryBody t capacity i = entryBodyBy (heldWrong capacity t) t i
+
+-- 14, 16, or how many entries there are
+unfoldable pub howManyBy : ℕ → List ℕ → HowMany
+howManyBy zero t = record { wrong = 0; count = length (entriesOf t) }
+howManyBy (suc n) t = record { wrong = suc n; count = 0 }
+
+unfoldable pub howManyTold : List ℕ → ℕ → HowMany
+howManyTold t capacity = howManyBy (heldWrong capacity t) t
+
+-- the place and the length that are told mean the entry's body
+abbrev pub EntryThere : Type 0
+EntryThere = (t : List ℕ) (capacity i : ℕ) → There t (entryTold t capacity i) (entryBody t capacity i)
+
+-- each entry that is counted is told with bytes, and nothing is told behind them
+abbrev pub EachTold : Type 0
+EachTold =
+    (t : List ℕ) (capacity i : ℕ) → heldWrong capacity t ≡ 0
+    → (i < howManyTold t capacity .count → shortest ≤ entryTold t capacity i .len)
+    × (howManyTold t capacity .count ≤ i → entryTold t capacity i ≡ nothing 0)
+
+-- what is held under a stamp is the entry at that stamp's place
+abbrev pub HeldIsEntry : Type 0
+HeldIsEntry = (t : List ℕ) (capacity s : ℕ) → heldOf t capacity s ≡ entryTold t capacity (place s (entriesOf t))
 
 -- as eight numbers: place and length of the body, vote, reason, decision, log, the log's view, the current view
 abbrev pub holdingRow : Holding → List ℕ

@@ -1,11 +1,11 @@
-// What a lent table holds under a stamp: where the body stands in its bytes, and the vote, log, view and decision beside it. A gateway that finishes
+// What a lent table holds under a stamp, and its entries one by one: where the body stands in its bytes, and the vote, log, view and decision beside it. A gateway that finishes
 // what another began gets the body from a box's host, which reads it off its table with this.
 ghost use mathlib.Core.Path.{_≡_};
 ghost use mathlib.Core.Option.{some};
 ghost use Prim.Native.Nat.{_+_, _*_, _≤_, _<_};
 ghost use lib.ListN.{drop, length};
 ghost use Rattle.table.specs.Table.{headLen, rowLen, bodyAt, countOf, entryOf, WfRow, Wf};
-ghost use Rattle.held.specs.Held.{heldWrong, nothing, holdingOf, foundIn, heldOf, bodyHeld, holdingRow};
+ghost use Rattle.held.specs.Held.{heldWrong, nothing, holdingOf, foundIn, heldOf, bodyHeld, holdingRow, entryIn, entryTold, howManyTold};
 use rules::Log;
 use rules::Settled;
 use rules::Vote;
@@ -20,6 +20,12 @@ pub struct Holding {
     pub at: usize,
     pub len: usize,
     pub state: State,
+}
+
+// How many entries a table has: the refusal's number or 0, and the count, 0 where it is refused.
+pub struct HowMany {
+    pub wrong: u8,
+    pub count: usize,
 }
 
 // Nothing held, or the refusal's number.
@@ -99,6 +105,42 @@ pub fn held_body(table: &[u8], capacity: u64, stamp: Stamp) -> &[u8]
     let at = holding.at;
     let end = at + holding.len;
     &table[at..end]
+}
+
+// Entry `i`, in a table that is taken.
+fn entry_in(t: &[u8], i: usize) -> Holding
+    requires { ⌜ Wf (drop headLen (now t)) (countOf (now t)) × (headLen ≤ length (now t)) × (countOf (now t) ≤ 255) ⌝ }
+    ensures { λ r. ⌜ r ≡ entryIn (now (t .entry)) i ⌝ }
+{
+    let n = table::count_of(t);
+    let rows = table::rows(t);
+    if i < n {
+        return in_row(table::row(rows, i), i);
+    }
+    nothing(0)
+}
+
+// Entry `i` of a table, the first being 0: 14, 16, or what is held there; nothing where there are not so many.
+pub fn entry(table: &[u8], capacity: u64, i: u64) -> Holding
+    ensures { λ r. ⌜ r ≡ entryTold (now (table .entry)) capacity i ⌝ }
+{
+    let refused = held_wrong(table, capacity);
+    if refused != 0 {
+        return nothing(refused);
+    }
+    entry_in(table, i as usize)
+}
+
+// How many entries a table has: 14, 16, or the count.
+pub fn how_many(table: &[u8], capacity: u64) -> HowMany
+    ensures { λ r. ⌜ r ≡ howManyTold (now (table .entry)) capacity ⌝ }
+{
+    let wrong = held_wrong(table, capacity);
+    if wrong != 0 {
+        return HowMany { wrong, count: 0 };
+    }
+    let count = table::count_of(table);
+    HowMany { wrong: 0, count }
 }
 
 // What is held as eight numbers: place and length of the body, vote, reason, decision, log, the log's view, the current view.

@@ -33,10 +33,11 @@ module _ (told : Told) (x : Kept) (m : List ℕ) where
       → t ≡ tableBy (x .table) (called way told x m .change) → marks ≡ marksAfter (x .marks) (called way told x m .change)
       → (Answered a ≡ saidTo told x m) × (t ≡ keptNext told x m .table) × (marks ≡ keptNext told x m .marks)
   unfolding saidTo keptNext leaves
-  turn-call p way w a t marks e g h =
-      (ap Answered (e ∙ ap (λ (y : EntryPoint). called y told x m .answer) (sym w)) ∙ sym (no _ _ _ p),
-      g ∙ ap (λ (y : EntryPoint). tableBy (x .table) (called y told x m .change)) (sym w) ∙ ap (λ (y : Kept). y .table) (sym (no _ _ _ p)),
-      h ∙ ap (λ (y : EntryPoint). marksAfter (x .marks) (called y told x m .change)) (sym w) ∙ ap (λ (y : Kept). y .marks) (sym (no _ _ _ p)))
+  turn-call p way w a t marks e g h = (
+    ap Answered (e ∙ ap (λ (y : EntryPoint). called y told x m .answer) (sym w)) ∙ sym (no _ _ _ p),
+    g ∙ ap (λ (y : EntryPoint). tableBy (x .table) (called y told x m .change)) (sym w) ∙ ap (λ (y : Kept). y .table) (sym (no _ _ _ p)),
+    h ∙ ap (λ (y : EntryPoint). marksAfter (x .marks) (called y told x m .change)) (sym w) ∙ ap (λ (y : Kept). y .marks) (sym (no _ _ _ p)),
+  )
 
   pub turn-message : isMark markCK m ≡ false → isMark markLM m ≡ false → (a : Answer) (t marks : List ℕ) → a ≡ called receive told x m .answer
       → t ≡ tableBy (x .table) (called receive told x m .change) → marks ≡ marksAfter (x .marks) (called receive told x m .change)

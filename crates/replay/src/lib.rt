@@ -67,7 +67,7 @@ fn ck_cut(s: &[u8]) -> u8
     0
 }
 
-// A CK or a message at the front.
+// A CK, an LM or a message at the front.
 fn record_cut(s: &[u8]) -> u8
     ensures { λ r. ⌜ r ≡ recordCut (now (s .entry)) ⌝ }
 {

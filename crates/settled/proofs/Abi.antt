@@ -6,7 +6,7 @@ use Rattle.settled.specs.Settled.{Settled}
 use Rattle.settled.proofs.Lemma.{settled, one, _&_}
 use Rattle.abi.specs.Left.{Left}
 use Rattle.abi.specs.Register.{Lent}
-use Rattle.arrays.specs.Arrays.{Fields, ViewFields}
+use Rattle.arrays.specs.Arrays.{Fields, ListFields, TxFields, ViewFields}
 use Rattle.abi.proofs as abi
 
 module _ {M : Type 1} (𝓤 : URA M) (H : Heap 𝓤) where
@@ -105,3 +105,24 @@ module _ {M : Type 1} (𝓤 : URA M) (H : Heap 𝓤) where
 
   pub stobbarel-told : Settled 𝓤 H abi.stobbarel_told.ended (abi.stobbarel_told.spec 𝓤 H) (abi.stobbarel_told.clauses 𝓤 H)
   stobbarel-told A mem run = (refl, λ k o o′. settled 𝓤 (λ p q. one (p .0) (q .0) & refl & refl & refl & one (p .1) (q .1) & one (p .2) (q .2) & one (p .3) (q .3) & refl))
+
+  pub stobbarel-version : Settled 𝓤 H abi.stobbarel_version.ended (abi.stobbarel_version.spec 𝓤 H) (abi.stobbarel_version.clauses 𝓤 H)
+  stobbarel-version A mem run = (refl, λ k o o′. settled 𝓤 (λ p q. one p q & refl))
+
+  pub stobbarel-raise : Settled 𝓤 H abi.stobbarel_raise.ended (abi.stobbarel_raise.spec 𝓤 H) (abi.stobbarel_raise.clauses 𝓤 H)
+  stobbarel-raise A mem run = (refl, λ k o o′. settled 𝓤 (λ p q. refl & one (p .1) (q .1) & refl & refl & refl & one (p .0) (q .0) & refl))
+
+  pub stobbarel-entries : Settled 𝓤 H abi.stobbarel_entries.ended (abi.stobbarel_entries.spec 𝓤 H) (abi.stobbarel_entries.clauses 𝓤 H)
+  stobbarel-entries A mem run = (refl, λ k o o′. settled 𝓤 (λ p q. one (p .0) (q .0) & refl & refl & one (p .1) (q .1) & refl))
+
+  pub stobbarel-entry : Settled 𝓤 H abi.stobbarel_entry.ended (abi.stobbarel_entry.spec 𝓤 H) (abi.stobbarel_entry.clauses 𝓤 H)
+  stobbarel-entry A mem run = (refl, λ k o o′. settled 𝓤 (λ p q. one (p .0) (q .0) & refl & refl & refl & one (p .1) (q .1) & refl))
+
+  pub stobbarel-tx-of : Settled 𝓤 H abi.stobbarel_tx_of.ended (abi.stobbarel_tx_of.spec 𝓤 H) (abi.stobbarel_tx_of.clauses 𝓤 H)
+  stobbarel-tx-of A mem run = (refl, λ k o o′. settled 𝓤 (λ p q. one (p .0) (q .0) & refl & one (p .1) (q .1) & ap (λ (x : TxFields). x .reads) (one (p .2) (q .2)) & ap (λ (x : TxFields). x .versions) (one (p .2) (q .2)) & ap (λ (x : TxFields). x .writes) (one (p .2) (q .2)) & ap (λ (x : TxFields). x .values) (one (p .2) (q .2)) & refl))
+
+  pub stobbarel-reached : Settled 𝓤 H abi.stobbarel_reached.ended (abi.stobbarel_reached.spec 𝓤 H) (abi.stobbarel_reached.clauses 𝓤 H)
+  stobbarel-reached A mem run = (refl, λ k o o′. settled 𝓤 (λ p q. refl & refl & refl & refl & refl & one p q & refl))
+
+  pub stobbarel-sheet-list : Settled 𝓤 H abi.stobbarel_sheet_list.ended (abi.stobbarel_sheet_list.spec 𝓤 H) (abi.stobbarel_sheet_list.clauses 𝓤 H)
+  stobbarel-sheet-list A mem run = (refl, λ k o o′. settled 𝓤 (λ p q. one (p .0) (q .0) & refl & refl & refl & refl & refl & refl & ap (λ (x : ListFields). x .head) (one (p .1) (q .1)) & ap (λ (x : ListFields). x .numbers) (one (p .1) (q .1)) & ap (λ (x : ListFields). x .answers) (one (p .1) (q .1)) & refl))

@@ -15,3 +15,6 @@ module _ {M : Type 1} (𝓤 : URA M) (H : Heap 𝓤) where
 
   pub receive : Settled 𝓤 H engine.receive.ended (engine.receive.spec 𝓤 H) (engine.receive.clauses 𝓤 H)
   receive A mem run = (refl, λ k o o′. settled 𝓤 (λ p q. one (p .0) (q .0) & one (p .1) (q .1) & one (p .2) (q .2) & refl))
+
+  pub raise-low : Settled 𝓤 H engine.raise_low.ended (engine.raise_low.spec 𝓤 H) (engine.raise_low.clauses 𝓤 H)
+  raise-low A mem run = (refl, λ k o o′. settled 𝓤 (λ p q. one (p .0) (q .0) & one (p .1) (q .1) & refl))

@@ -16,3 +16,9 @@ module _ {M : Type 1} (𝓤 : URA M) (H : Heap 𝓤) where
 
   pub numbers : Settled 𝓤 H holdings.numbers.ended (holdings.numbers.spec 𝓤 H) (holdings.numbers.clauses 𝓤 H)
   numbers A mem run = (refl, λ k o o′. settled 𝓤 (λ p q. one p q & refl))
+
+  pub entry : Settled 𝓤 H holdings.entry.ended (holdings.entry.spec 𝓤 H) (holdings.entry.clauses 𝓤 H)
+  entry A mem run = (refl, λ k o o′. settled 𝓤 (λ p q. one p q & refl))
+
+  pub how-many : Settled 𝓤 H holdings.how_many.ended (holdings.how_many.spec 𝓤 H) (holdings.how_many.clauses 𝓤 H)
+  how-many A mem run = (refl, λ k o o′. settled 𝓤 (λ p q. one p q & refl))

@@ -8,6 +8,7 @@ pub mod Writing
 pub mod Rules
 pub mod Table
 pub mod Held
+pub mod Low
 pub mod Scans
 pub mod Steps
 pub mod Engine

@@ -51,3 +51,9 @@ module _ {M : Type 1} (𝓤 : URA M) (H : Heap 𝓤) where
 
   pub lacking : Settled 𝓤 H sheet.lacking.ended (sheet.lacking.spec 𝓤 H) (sheet.lacking.clauses 𝓤 H)
   lacking A mem run = (refl, λ k o o′. settled 𝓤 (λ p q. one p q & refl))
+
+  pub reached : Settled 𝓤 H sheet.reached.ended (sheet.reached.spec 𝓤 H) (sheet.reached.clauses 𝓤 H)
+  reached A mem run = (refl, λ k o o′. settled 𝓤 (λ p q. one p q & refl))
+
+  pub list-by : Settled 𝓤 H sheet.list_by.ended (sheet.list_by.spec 𝓤 H) (sheet.list_by.clauses 𝓤 H)
+  list-by A mem run = (refl, λ k o o′. settled 𝓤 (λ p q. one p q & refl))

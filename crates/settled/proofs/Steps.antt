@@ -15,16 +15,16 @@ module _ {M : Type 1} (𝓤 : URA M) (H : Heap 𝓤) where
   pr-step A mem run = (refl, λ k o o′. settled 𝓤 (λ p q. one p q & refl))
 
   pub lg-step : Settled 𝓤 H steps.lg_step.ended (steps.lg_step.spec 𝓤 H) (steps.lg_step.clauses 𝓤 H)
-  lg-step A mem run = (refl, λ k o o′. settled 𝓤 (λ p q. one (p []) (q []) & refl))
+  lg-step A mem run = (refl, λ k o o′. settled 𝓤 (λ p q. one (p [] 0 []) (q [] 0 []) & refl))
 
   pub dc-step : Settled 𝓤 H steps.dc_step.ended (steps.dc_step.spec 𝓤 H) (steps.dc_step.clauses 𝓤 H)
-  dc-step A mem run = (refl, λ k o o′. settled 𝓤 (λ p q. one (p []) (q []) & refl))
+  dc-step A mem run = (refl, λ k o o′. settled 𝓤 (λ p q. one (p [] 0 []) (q [] 0 []) & refl))
 
   pub rd-step : Settled 𝓤 H steps.rd_step.ended (steps.rd_step.spec 𝓤 H) (steps.rd_step.clauses 𝓤 H)
   rd-step A mem run = (refl, λ k o o′. settled 𝓤 (λ p q. one (p 0 []) (q 0 []) & refl))
 
   pub iv-step : Settled 𝓤 H steps.iv_step.ended (steps.iv_step.spec 𝓤 H) (steps.iv_step.clauses 𝓤 H)
-  iv-step A mem run = (refl, λ k o o′. settled 𝓤 (λ p q. one (p []) (q []) & refl))
+  iv-step A mem run = (refl, λ k o o′. settled 𝓤 (λ p q. one (p [] 0 []) (q [] 0 []) & refl))
 
   pub ld-step : Settled 𝓤 H steps.ld_step.ended (steps.ld_step.spec 𝓤 H) (steps.ld_step.clauses 𝓤 H)
-  ld-step A mem run = (refl, λ k o o′. settled 𝓤 (λ p q. one (p []) (q []) & refl))
+  ld-step A mem run = (refl, λ k o o′. settled 𝓤 (λ p q. one (p [] 0 []) (q [] 0 []) & refl))

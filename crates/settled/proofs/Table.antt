@@ -61,3 +61,9 @@ module _ {M : Type 1} (𝓤 : URA M) (H : Heap 𝓤) where
 
   pub store : Settled 𝓤 H table.store.ended (table.store.spec 𝓤 H) (table.store.clauses 𝓤 H)
   store A mem run = (refl, λ k o o′. settled 𝓤 (λ p q. refl & one p q & refl))
+
+  pub low-of : Settled 𝓤 H table.low_of.ended (table.low_of.spec 𝓤 H) (table.low_of.clauses 𝓤 H)
+  low-of A mem run = (refl, λ k o o′. settled 𝓤 (λ p q. same-stamp (o .0) (o′ .0) (one p q) & refl))
+
+  pub fold-of : Settled 𝓤 H table.fold_of.ended (table.fold_of.spec 𝓤 H) (table.fold_of.clauses 𝓤 H)
+  fold-of A mem run = (refl, λ k o o′. settled 𝓤 (λ p q. one p q & refl))

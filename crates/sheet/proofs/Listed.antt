@@ -12,7 +12,7 @@ use Rattle.records.specs.declared.Pair.{Pair}
 use Rattle.records.specs.declared.VoteList.{VoteList}
 use Rattle.records.specs.Vl.{heldList, noList, viewOf, zeroPair}
 use Rattle.records.specs.Contents.{answerOdd, pairBox}
-use Rattle.rules.specs.Lists.{bit, tally}
+use Rattle.rules.specs.Lists.{bit, decisionOf, tally}
 use Rattle.rules.specs.System.{howMany}
 use Rattle.sheet.specs.Masks.{has}
 use Rattle.terms.specs.Group.{boxes}
@@ -20,7 +20,8 @@ use Rattle.terms.specs.declared.Decision.{Decision}
 use Rattle.sheet.specs.declared.Sheet.{Sheet}
 use Rattle.terms.specs.Codes.{decisionNumber}
 use Rattle.sheet.specs.Sheets.{sheetWrong, under}
-use Rattle.sheet.specs.Listing.{listed, listFor, listBy, listFrom}
+use Rattle.sheet.specs.declared.Listing.{Listing}
+use Rattle.sheet.specs.Listing.{listed, listFor, listBy, listFrom, listingWrong, listingBy, listingOf}
 use Rattle.sheet.proofs.Below.{Noted, below, below-length, below-no, below-none, below-rises, below-wide, below-yes}
 
 -- a box of a list, with the list's answer
@@ -65,6 +66,22 @@ module _ (s : Sheet) (f : ℕ) (d : Decision) where
 
   pub list-right : (l : VoteList) → sheetWrong f s ≡ 0 → l ≡ heldList (listFor (s .kind) (s .view) (decisionNumber d) (under d s) (boxes f)) → l ≡ heldList (listFrom s f d)
   list-right l z e = rw (list-is z) e
+
+-- the same by a decision's number
+module _ (s : Sheet) (f decision : ℕ) where
+  pub listing-refused : (n : ℕ) (l : VoteList) → n ≡ listingWrong s f decision → (n ≡ 0 → ⊥) → l ≡ heldList (listFor 0 0 0 0 0)
+      → _≡_ {A = Listing} (record { wrong = n; list = l }) (listingOf s f decision)
+  unfolding listingOf listingBy listFor listed noList viewOf
+  listing-refused n l e h p = by (listingWrong s f decision) e
+    where
+      by : (m : ℕ) → n ≡ m → _≡_ {A = Listing} (record { wrong = n; list = l }) (listingBy m s f decision)
+      by zero q = absurd (h q)
+      by (suc m) q = rw (q, p)
+
+  pub listing-right : (l : VoteList) → listingWrong s f decision ≡ 0 → l ≡ heldList (listFrom s f (decisionOf decision))
+      → _≡_ {A = Listing} (record { wrong = 0; list = l }) (listingOf s f decision)
+  unfolding listingOf listingBy
+  listing-right l z e = rw (z, e)
 
 pub tally-append : (d : ℕ) (xs ys : List Pair) → tally d (xs ++ ys) ≡ tally d xs + tally d ys
 unfolding tally

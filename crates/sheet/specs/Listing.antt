@@ -4,6 +4,7 @@ use mathlib.Core.Bool.{Bool}
 use mathlib.Core.Path.{_≡_}
 use mathlib.Core.List.{List, [], _∷_, _++_}
 use Rattle.terms.specs.Choice.{pick}
+use Rattle.terms.specs.Checks.{orElse}
 use Rattle.terms.specs.Group.{boxes}
 use Rattle.terms.specs.declared.Decision.{Decision}
 use Rattle.terms.specs.declared.Decision.the-variants.{Commit as commit, Abort as abort}
@@ -11,11 +12,13 @@ use Rattle.terms.specs.declared.Kind.{Kind}
 use Rattle.terms.specs.declared.Kind.the-variants.{Votes as votes, Logs as logs}
 use Rattle.terms.specs.declared.Refusal.the-variants.{TooFew}
 use Rattle.records.specs.declared.Pair.{Pair}
-use Rattle.records.specs.Vl.{Vl, noList, viewOf}
+use Rattle.records.specs.Contents.{codeWrong}
+use Rattle.records.specs.Vl.{Vl, heldList, noList, viewOf}
 use Rattle.terms.specs.Codes.{decisionNumber}
 use Rattle.rules.specs.Lists.{decisionOf, forLogging, forProof, kindOf, lacking}
 use Rattle.rules.specs.Calls.{Act, needing, refuse}
 use Rattle.sheet.specs.declared.Sheet.{Sheet}
+use Rattle.sheet.specs.declared.Listing.{Listing}
 use Rattle.sheet.specs.declared.Reply.{Reply}
 use Rattle.sheet.specs.declared.Reply.the-variants.{Votes, Logs}
 use Rattle.sheet.specs.Masks.{has}
@@ -37,6 +40,17 @@ listBy (suc wrong) s f d = noList
 
 unfoldable pub listFrom : Sheet → ℕ → Decision → Vl
 listFrom s f d = listBy (sheetWrong f s) s f d
+
+-- the same by a decision's number: "14, 16", then "decision .. not 1 or 2" (8)
+unfoldable pub listingWrong : Sheet → ℕ → ℕ → ℕ
+listingWrong s f decision = orElse (sheetWrong f s) (codeWrong decision)
+
+unfoldable pub listingBy : ℕ → Sheet → ℕ → ℕ → Listing
+listingBy zero s f decision = record { wrong = 0; list = heldList (listFrom s f (decisionOf decision)) }
+listingBy (suc wrong) s f decision = record { wrong = suc wrong; list = heldList noList }
+
+unfoldable pub listingOf : Sheet → ℕ → ℕ → Listing
+listingOf s f decision = listingBy (listingWrong s f decision) s f decision
 
 -- the threshold that a box asks of a list in an LG, and in a DC
 unfoldable pub lgNeed : ℕ → Vl → ℕ

@@ -1,6 +1,7 @@
 -- "Tally": what a sheet is after an answer, and the reply.
 use Prim.Native.Nat.{ℕ, zero, suc, _-_, _^_}
-use mathlib.Core.Bool.{Bool, _&&_, _||_}
+use mathlib.Core.Bool.{Bool, false, _&&_, _||_}
+use mathlib.Core.Path.{_≡_}
 use mathlib.Core.List.{List, [], _∷_}
 use lib.Dec.{eqb, leb}
 use Rattle.terms.specs.Choice.{pick, tab, any}
@@ -110,3 +111,17 @@ replyBy (suc wrong) s f number answer = Refused (refusalOf (suc wrong))
 
 unfoldable pub replyTo : Sheet → ℕ → ℕ → ℕ → Reply
 replyTo s f number answer = replyBy (answerWrong s f number answer) s f number answer
+
+-- what a sheet has reached as it is, with no answer given: 14, 16, or what is lacking, by the definition that a reply has
+unfoldable pub reachedBy : ℕ → Sheet → ℕ → Reply
+reachedBy zero s f = lackingOn f s
+reachedBy (suc wrong) s f = Refused (refusalOf (suc wrong))
+
+unfoldable pub reachedOf : Sheet → ℕ → Reply
+reachedOf s f = reachedBy (sheetWrong f s) s f
+
+-- the reply to an answer that joins is what the sheet has reached with it
+abbrev pub RepliesReached : Type 0
+RepliesReached =
+    (s : Sheet) (f number answer : ℕ) → answerWrong s f number answer ≡ 0 → on s number ≡ false
+    → replyTo s f number answer ≡ reachedOf (sheetAfter s f number answer) f

@@ -5,10 +5,11 @@ ghost use Prim.Native.Nat.{_-_, _<_, _≤_, _^_};
 ghost use lib.Dec.{leb};
 ghost use Rattle.terms.specs.Choice.{any};
 ghost use Rattle.records.specs.Vl.{heldList};
+ghost use Rattle.rules.specs.Lists.{decisionOf};
 ghost use Rattle.rules.specs.System.{howMany};
 ghost use Rattle.sheet.specs.Masks.{has, withBox};
-ghost use Rattle.sheet.specs.Sheets.{twice, sheetDamaged, sheetWrong, answerWrong, on, joined, lackingOn, sheetAfter, replyTo, replyValues, emptySheet, numbers, under};
-ghost use Rattle.sheet.specs.Listing.{listFor, listFrom};
+ghost use Rattle.sheet.specs.Sheets.{twice, sheetDamaged, sheetWrong, answerWrong, on, joined, lackingOn, sheetAfter, replyTo, replyValues, emptySheet, numbers, under, reachedOf};
+ghost use Rattle.sheet.specs.Listing.{listFor, listFrom, listingWrong, listingOf};
 use records::Pair;
 use records::VoteList;
 use terms::Decision;
@@ -44,6 +45,12 @@ pub enum Reply {
     Logs(LogsLacking),
     Repeat,
     Refused(Refusal),
+}
+
+// The list from a sheet: the refusal's number or 0, and the list; none where it is refused.
+pub struct Listing {
+    pub wrong: u8,
+    pub list: VoteList,
 }
 
 impl Reply {
@@ -298,6 +305,17 @@ pub fn reply_to(s: Sheet, f: u64, number: u64, answer: u64) -> Reply
     lacking_of(join(s, b, answer), Group { f: f as u8 })
 }
 
+// What a sheet has reached as it is: 14, 16, or what is lacking, as a reply tells it.
+pub fn reached(s: Sheet, f: u64) -> Reply
+    ensures { λ r. ⌜ r ≡ reachedOf s f ⌝ }
+{
+    let refused = sheet_wrong(s, f);
+    if refused != 0 {
+        return Reply::Refused(Refusal::of(refused));
+    }
+    lacking_of(s, Group { f: f as u8 })
+}
+
 // A sheet takes one answer.
 pub fn take(s: &mut Sheet, f: u64, number: u64, answer: u64) -> Reply
     ensures { λ r. ⌜ (r ≡ replyTo (now (s .entry)) f number answer) × (now (s .exit) ≡ sheetAfter (now (s .entry)) f number answer) ⌝ }
@@ -366,4 +384,40 @@ pub fn list_from(s: Sheet, f: u64, decision: Decision) -> VoteList
         mask_under(s, decision),
         n,
     )
+}
+
+// 14, 16, then 8 of a decision's number.
+fn listing_wrong(s: Sheet, f: u64, decision: u64) -> u8
+    ensures { λ r. ⌜ r ≡ listingWrong s f decision ⌝ }
+{
+    terms::first(
+        sheet_wrong(s, f),
+        terms::first(
+            terms::refuse_if(decision == 0, terms::CODE),
+            terms::refuse_if(2 < decision, terms::CODE),
+        ),
+    )
+}
+
+// The decision of a number that is 1 or 2.
+fn decision_of(number: u64) -> Decision
+    ensures { λ r. ⌜ r ≡ decisionOf number ⌝ }
+{
+    match number {
+        1 => Decision::Commit,
+        _ => Decision::Abort,
+    }
+}
+
+// The list of the boxes under a decision that is told by its number.
+pub fn list_by(s: Sheet, f: u64, decision: u64) -> Listing
+    ensures { λ r. ⌜ r ≡ listingOf s f decision ⌝ }
+{
+    let wrong = listing_wrong(s, f, decision);
+    if wrong != 0 {
+        let list = list_of_mask(0, View(0), 0, 0, 0);
+        return Listing { wrong, list };
+    }
+    let list = list_from(s, f, decision_of(decision));
+    Listing { wrong: 0, list }
 }

@@ -94,6 +94,9 @@ cast-t33 c = search needs
 widened-requires-9 : tie.Need-widened-requires-9
 widened-requires-9 c κs = search needs
 
+enum-told-2 : tie.Need-enum-told-2
+enum-told-2 c = search needs
+
 returns : tie.Need-returns
 returns c = rw (c .before .before .before .before .before .before .before .before .a .given .1, c .before .before .before .before .before .widened .ensures .0, c .before .before .before .before .before .before .number .ensures, c .before .before .before .widened2 .ensures .0, c .before .before .before .before .reason .ensures, c .before .widened3 .ensures .0, c .before .before .told .ensures, c .number2 .ensures)
 
@@ -114,6 +117,9 @@ returns-6 c = rw (c .before .before .before .before .before .a5 .given .1, c .be
 
 returns-7 : tie.Need-returns-7
 returns-7 c = rw (c .before .before .before .before .before .a6 .given .1, c .before .before .widened8 .ensures .0, c .before .before .before .number6 .ensures, c .widened9 .ensures .0)
+
+returns-8 : tie.Need-returns-8
+returns-8 c = rw (c .enum-told2 .given .1)
 
 pub values-spec : {M : Type 1} → statement M
 values-spec =
@@ -146,10 +152,12 @@ values-spec =
     widened-requires-8
     cast-t33
     widened-requires-9
+    enum-told-2
     returns
     returns-2
     returns-3
     returns-4
     returns-5
     returns-6
-    returns-7)
+    returns-7
+    returns-8)
