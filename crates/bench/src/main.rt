@@ -1,4 +1,5 @@
 // The bench: records from standard input, a line for each to standard output.
+#![tactic(auto)]
 use libc::{STDIN_FILENO, STDOUT_FILENO};
 use records::Written;
 

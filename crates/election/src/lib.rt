@@ -1,4 +1,5 @@
 // The leader's sheet: election answers for one transaction in one view, and the EL made of them; and the views that boxes told, for an IV.
+#![tactic(auto)]
 ghost use Rattle.std.specs.Prelude.{◌≡◌, ◌<◌, ◌≤◌, max};
 ghost use Rattle.terms.specs.Choice.{pick, tab};
 ghost use Rattle.terms.specs.Group.{boxes, log_proof};
@@ -15,7 +16,7 @@ use terms::{Group, Refusal, Stamp, View};
 
 // What a sheet says after an election answer: how many are lacking of 4f + 1, 0 where it is reached; the answer is of another view; the box is on it
 // already; or it is refused.
-#[derive(Drop)]
+#[derive(Clone, Copy)]
 pub enum Heard {
     Lacking(u8),
     OtherView,
@@ -38,7 +39,7 @@ impl Heard {
 }
 
 // The EL, or the refusal's number and no views.
-#[derive(Drop)]
+#[derive(Clone, Copy)]
 pub struct Gathered {
     pub wrong: u8,
     pub list: ViewList,
@@ -47,7 +48,7 @@ pub struct Gathered {
 pub const LARGEST_VIEW: u64 = 65535;
 
 // Which boxes have told a view, and the highest that each told; or the refusal's number, and nothing is changed.
-#[derive(Drop)]
+#[derive(Clone, Copy)]
 pub struct Highest {
     pub wrong: u8,
     pub told: u32,
@@ -55,7 +56,7 @@ pub struct Highest {
 }
 
 // The VS, or the refusal's number and no views.
-#[derive(Drop)]
+#[derive(Clone, Copy)]
 pub struct Telling {
     pub wrong: u8,
     pub list: ViewList,

@@ -1,5 +1,6 @@
 // What a lent table holds under a stamp, and its entries one by one: where the body stands in its bytes, and the vote, log, view and decision beside it. A gateway that finishes
 // what another began gets the body from a box's host, which reads it off its table with this.
+#![tactic(auto)]
 ghost use Rattle.std.specs.Prelude.{◌≡◌, ◌+◌, ◌*◌, ◌≤◌, ◌<◌, drop, length};
 ghost use Rattle.std.proofs.Math.Option.{some};
 ghost use Rattle.table.specs.Table.{head_len, row_len, body_at, count_of, entry_of, WfRow, Wf};
@@ -11,7 +12,7 @@ use terms::{Stamp, View};
 
 // What is held under a stamp: the refusal's number or 0, where the body begins in the table's slice, how many bytes it has, and what stands beside it.
 // Where nothing is held, and where it is refused, no place, no bytes, and the state of nothing.
-#[derive(Drop)]
+#[derive(Clone, Copy)]
 pub struct Holding {
     pub wrong: u8,
     pub at: usize,
@@ -20,7 +21,7 @@ pub struct Holding {
 }
 
 // How many entries a table has: the refusal's number or 0, and the count, 0 where it is refused.
-#[derive(Drop)]
+#[derive(Clone, Copy)]
 pub struct HowMany {
     pub wrong: u8,
     pub count: usize,

@@ -1,4 +1,5 @@
 // The bench's lines: a record's number, its mark, and what was said of it, as text put down in a lent buffer.
+#![tactic(auto)]
 ghost use Rattle.std.specs.Prelude.{◌≡◌, ◌+◌, ◌≤◌, length};
 ghost use Rattle.lines.specs.Lines.{decimal, decision_text, vote_text, version_text, found_text, lacking_text, refusal_text, logged_text, elected_text, answer_text, said_text, is_message, known, mark_text, line_of, put_at, Puts};
 
@@ -7,7 +8,7 @@ use rules::{Answer, Version, Vote};
 use terms::{Decision, Refusal, View};
 
 // What a record is told: that it was taken (a GP or a CK), or a box's answer.
-#[derive(Drop)]
+#[derive(Clone, Copy)]
 pub enum Said {
     Taken,
     Answered(Answer),

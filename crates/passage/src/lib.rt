@@ -1,4 +1,5 @@
 // The passage register: four keys as one product. What is seen of a passage is judged, reported from the leading end, corrected, entered.
+#![tactic(auto)]
 ghost use Rattle.std.specs.Prelude.{◌≡◌, ◌≤◌, ◌<◌};
 ghost use Rattle.records.specs.Tx.{held_tx, no_tx};
 ghost use Rattle.records.specs.Contents.{tx_wrong};
@@ -14,7 +15,7 @@ pub const LARGEST_PASSAGE: u64 = 127;
 pub const LARGEST_AXLE_COUNT: u64 = 1000;
 
 // What stands at a passage's keys, in their order; the hot axle in the detector's order, 0 for none.
-#[derive(Drop)]
+#[derive(Clone, Copy)]
 pub struct Values {
     pub train: u64,
     pub direction: u64,
@@ -23,7 +24,7 @@ pub struct Values {
 }
 
 // The committed halves of four RD answers taken at one stamp.
-#[derive(Drop)]
+#[derive(Clone, Copy)]
 pub struct Seen {
     pub train: Version,
     pub direction: Version,
@@ -32,14 +33,14 @@ pub struct Seen {
 }
 
 // What was seen, or why an answer has no halves.
-#[derive(Drop)]
+#[derive(Clone, Copy)]
 pub enum Sight {
     Of(Seen),
     Refused(Refusal),
 }
 
 // What a dispatcher reads: the hot axle counted from the train's leading end.
-#[derive(Drop)]
+#[derive(Clone, Copy)]
 pub struct Report {
     pub train: u64,
     pub direction: u64,
@@ -47,28 +48,28 @@ pub struct Report {
     pub hot: u64,
 }
 
-#[derive(Drop)]
+#[derive(Clone, Copy)]
 pub enum Reported {
     Of(Report),
     Refused(Refusal),
 }
 
 // A correction or an entry: 0 and its transaction, or the refusal's number and no transaction.
-#[derive(Drop)]
+#[derive(Clone, Copy)]
 pub struct Made {
     pub wrong: u8,
     pub tx: Transaction,
 }
 
 // The key and the stamp of an RD.
-#[derive(Drop)]
+#[derive(Clone, Copy)]
 pub struct Ask {
     pub key: Key,
     pub stamp: Stamp,
 }
 
 // 0 and the RDs of a passage, or the refusal's number and zeros.
-#[derive(Drop)]
+#[derive(Clone, Copy)]
 pub struct Asked {
     pub wrong: u8,
     pub train: Ask,

@@ -1,4 +1,5 @@
 // Any bytes read as a record: cut in the paper's order, then the contents judged; the value, or the first refusal.
+#![tactic(auto)]
 ghost use Rattle.std.specs.Prelude.{◌≡◌, ◌≤◌, length, drop};
 ghost use Rattle.records.specs.declared.Mark.TheVariants.{PR, RD};
 ghost use Rattle.records.specs.Tx.{tx_of, held_tx, no_tx, TxThere};
@@ -340,7 +341,7 @@ fn views_reading(wrong: u8, views: ViewList) -> ViewsReading
 }
 
 // What stands behind a transaction: a list of answers, or what boxes told of their views. The other is none.
-#[derive(Drop)]
+#[derive(Clone, Copy)]
 struct Lists {
     list: VoteList,
     views: ViewList,
@@ -382,7 +383,7 @@ fn reading_of(
 // ---- a list is judged only when the transaction before it was read
 
 // A transaction, or its refusal's number.
-#[derive(Drop)]
+#[derive(Clone, Copy)]
 enum TxRead {
     Tx(Transaction),
     Refused(u8),

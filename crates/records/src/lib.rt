@@ -1,4 +1,5 @@
 // The records' values: a transaction, a list of answers, and what reading and writing answer. Numbers are little-endian.
+#![tactic(auto)]
 ghost use Rattle.std.specs.Prelude.{◌≡◌, ◌+◌, ◌*◌, ◌<◌, ◌≤◌, length, get_or};
 ghost use Rattle.records.specs.Numbers.{num_at, le_bytes};
 ghost use Rattle.records.specs.Tx.{read_at, write_at, padded, zero_read, zero_write, tx_len, tx_of, held_tx, TxThere};
@@ -8,20 +9,20 @@ ghost use Rattle.records.specs.Vl.{view_len, view_of, pair_at, zero_pair, vl_len
 
 use terms::{Key, Refusal, Stamp, View};
 
-#[derive(Drop)]
+#[derive(Clone, Copy)]
 pub struct Read {
     pub key: Key,
     pub version: Stamp,
 }
 
-#[derive(Drop)]
+#[derive(Clone, Copy)]
 pub struct Write {
     pub key: Key,
     pub value: u64,
 }
 
 // Up to eight reads and up to eight writes: the first r and the first w places count.
-#[derive(Drop)]
+#[derive(Clone, Copy)]
 pub struct Transaction {
     pub stamp: Stamp,
     pub r: usize,
@@ -31,14 +32,14 @@ pub struct Transaction {
 }
 
 // What a box is said to have answered: 1 commit, 2 abort.
-#[derive(Drop)]
+#[derive(Clone, Copy)]
 pub struct Pair {
     pub number: u8,
     pub answer: u8,
 }
 
 // A list of answers of one kind (1 votes, 2 logs) that names one decision (1 commit, 2 abort): the first count places count. Logs are of one view.
-#[derive(Drop)]
+#[derive(Clone, Copy)]
 pub struct VoteList {
     pub kind: u8,
     pub decision: u8,
@@ -48,7 +49,7 @@ pub struct VoteList {
 }
 
 // What a box is said to have told: its view, and in an election answer the decision that it had logged (1 commit, 2 abort).
-#[derive(Drop)]
+#[derive(Clone, Copy)]
 pub struct Ballot {
     pub number: u8,
     pub answer: u8,
@@ -56,7 +57,7 @@ pub struct Ballot {
 }
 
 // What boxes told of one transaction, in a VS their views, in an EL their election answers with leader, decision and view: the first count places count.
-#[derive(Drop)]
+#[derive(Clone, Copy)]
 pub struct ViewList {
     pub leader: u8,
     pub decision: u8,
@@ -66,7 +67,7 @@ pub struct ViewList {
 }
 
 // The six messages, by their marks.
-#[derive(Drop)]
+#[derive(Clone, Copy)]
 pub enum Mark {
     PR,
     LG,
@@ -93,7 +94,7 @@ impl Mark {
 }
 
 // The two lists of views, by their marks: an IV carries the one, an LD the other.
-#[derive(Drop)]
+#[derive(Clone, Copy)]
 pub enum ViewMark {
     VS,
     EL,
@@ -142,14 +143,14 @@ impl ViewMark {
 }
 
 // Which message it is, or its refusal's number.
-#[derive(Drop)]
+#[derive(Clone, Copy)]
 pub enum Marked {
     Is(Mark),
     Refused(u8),
 }
 
 // What was read of a message: which it is, or its refusal; its transaction, its list and its views; an RD's key and stamp.
-#[derive(Drop)]
+#[derive(Clone, Copy)]
 pub struct Reading {
     pub found: Marked,
     pub tx: Transaction,
@@ -160,26 +161,26 @@ pub struct Reading {
 }
 
 // A TX, a VL, a VS or an EL by itself: 0 and the value, or the refusal's number and no value.
-#[derive(Drop)]
+#[derive(Clone, Copy)]
 pub struct TxReading {
     pub wrong: u8,
     pub tx: Transaction,
 }
 
-#[derive(Drop)]
+#[derive(Clone, Copy)]
 pub struct VlReading {
     pub wrong: u8,
     pub list: VoteList,
 }
 
-#[derive(Drop)]
+#[derive(Clone, Copy)]
 pub struct ViewsReading {
     pub wrong: u8,
     pub views: ViewList,
 }
 
 // How many bytes were written.
-#[derive(Drop)]
+#[derive(Clone, Copy)]
 pub enum Written {
     Wrote(usize),
     Refused(Refusal),

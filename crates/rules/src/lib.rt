@@ -1,4 +1,5 @@
 // What a box answers: votes with their reasons, and the answer to each call; and the leader of a view. The rules of a box stand in specs/, their theorem in proofs/.
+#![tactic(auto)]
 ghost use Rattle.std.specs.Prelude.{◌≡◌, ◌≤◌};
 ghost use Rattle.rules.specs.Answers.{reason_number, vote_number, vote_reason, settled_number, log_number, log_view, visited_told, visited_number};
 ghost use Rattle.rules.specs.Fallback.{leader_of};
@@ -6,7 +7,7 @@ ghost use Rattle.rules.specs.Fallback.{leader_of};
 use terms::{Decision, Group, Refusal, Stamp, View};
 
 // Why a box votes abort: a test's number, or 6 for the waiting rule.
-#[derive(Drop)]
+#[derive(Clone, Copy)]
 pub enum Reason {
     Ahead,
     NoVersion,
@@ -33,7 +34,7 @@ impl Reason {
 }
 
 // A vote, or none; its numbers are those that a tally takes.
-#[derive(Drop)]
+#[derive(Clone, Copy)]
 pub enum Vote {
     None,
     Commit,
@@ -68,7 +69,7 @@ impl Vote {
 }
 
 // A decision, or none.
-#[derive(Drop)]
+#[derive(Clone, Copy)]
 pub enum Settled {
     None,
     Is(Decision),
@@ -87,7 +88,7 @@ impl Settled {
 }
 
 // A decision that was logged and its view, or none.
-#[derive(Drop)]
+#[derive(Clone, Copy)]
 pub enum Log {
     None,
     Is(Decision, View),
@@ -116,14 +117,14 @@ impl Log {
 }
 
 // What stands at a key: the stamp of its writer and the value written; 0 and 0 where there is none.
-#[derive(Drop)]
+#[derive(Clone, Copy)]
 pub struct Version {
     pub stamp: Stamp,
     pub value: u64,
 }
 
 // What a box is told beside a message: any numbers.
-#[derive(Drop)]
+#[derive(Clone, Copy)]
 pub struct Told {
     pub f: u64,
     pub capacity: u64,
@@ -132,7 +133,7 @@ pub struct Told {
 }
 
 // The entries that a PR visited, or no number: a vote that was cast before carries none.
-#[derive(Drop)]
+#[derive(Clone, Copy)]
 pub enum Visited {
     None,
     Is(usize),
@@ -161,7 +162,7 @@ impl Visited {
 }
 
 // What a box answers. PR: Voted or Decided; LG and LD: Logged or Decided; DC: Done; RD: Found; IV: Elected or Decided; raising the low mark: Raised; every call: Refused.
-#[derive(Drop)]
+#[derive(Clone, Copy)]
 pub enum Answer {
     Voted(Vote, Visited),
     Decided(Decision),

@@ -1,4 +1,5 @@
 // The scans of a box's table that the rules need: the five tests of a PR, the waiting rule, the first vote, and what RD finds.
+#![tactic(auto)]
 ghost use Rattle.std.specs.Prelude.{◌≡◌, ◌||◌, false, ℕ, ◌+◌, ◌*◌, ◌≤◌, ltb, eqb, length, get_or, []};
 ghost use Rattle.std.proofs.Math.Option.{Option, some};
 ghost use Rattle.terms.specs.Choice.{any};
@@ -29,42 +30,42 @@ const BAD: u8 = 2;
 const READS_AT: usize = 12;
 
 // A version looked up: what it is, and how many entries were gone through.
-#[derive(Drop)]
+#[derive(Clone, Copy)]
 struct Seen {
     what: u8,
     visited: usize,
 }
 
 // A test at one key: whether it fails there, and how many entries were gone through.
-#[derive(Drop)]
+#[derive(Clone, Copy)]
 struct Gone {
     fails: bool,
     visited: usize,
 }
 
 // A vote, and how many entries were visited for it.
-#[derive(Drop)]
+#[derive(Clone, Copy)]
 pub struct Cast {
     pub vote: Vote,
     pub visited: usize,
 }
 
 // A writer found: one more than its stamp, so that one with stamp 0, as a lent row may have, is told from none; and its value. 0 0 for none.
-#[derive(Drop)]
+#[derive(Clone, Copy)]
 struct Best {
     after: u64,
     value: u64,
 }
 
 // The newest committed writer found, and the newest live undecided one.
-#[derive(Drop)]
+#[derive(Clone, Copy)]
 struct Bests {
     committed: Best,
     undecided: Best,
 }
 
 // What the newest committed writer wrote, and the newest live undecided one.
-#[derive(Drop)]
+#[derive(Clone, Copy)]
 pub struct Writers {
     pub committed: Version,
     pub undecided: Version,

@@ -1,1 +1,2 @@
 // No code: the theorems that every public function's contract settles its calls stand in proofs/.
+#![tactic(auto)]

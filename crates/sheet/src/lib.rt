@@ -1,4 +1,5 @@
 // The gateway's tally sheet: for one transaction and one kind, which box has answered what. Counts are always taken from the masks.
+#![tactic(auto)]
 ghost use Rattle.std.specs.Prelude.{◌≡◌, false, ◌-◌, ◌<◌, ◌≤◌, ◌^◌, leb};
 ghost use Rattle.terms.specs.Choice.{any};
 ghost use Rattle.records.specs.Vl.{held_list};
@@ -12,7 +13,7 @@ use records::{Pair, VoteList};
 use terms::{Decision, Group, Kind, Refusal, View};
 
 // Bit b of a mask says that box b gave this answer. A sheet of logs is for one view.
-#[derive(Drop)]
+#[derive(Clone, Copy)]
 pub struct Sheet {
     pub kind: u8,
     pub view: u16,
@@ -21,7 +22,7 @@ pub struct Sheet {
 }
 
 // How many answers are lacking of each threshold of a sheet of votes; 0 where it is reached.
-#[derive(Drop)]
+#[derive(Clone, Copy)]
 pub struct VotesLacking {
     pub commit_list: u8,
     pub abort_list: u8,
@@ -30,13 +31,13 @@ pub struct VotesLacking {
 }
 
 // The same of a sheet of logs: of the proof of each decision.
-#[derive(Drop)]
+#[derive(Clone, Copy)]
 pub struct LogsLacking {
     pub commit: u8,
     pub abort: u8,
 }
 
-#[derive(Drop)]
+#[derive(Clone, Copy)]
 pub enum Reply {
     Votes(VotesLacking),
     Logs(LogsLacking),
@@ -45,7 +46,7 @@ pub enum Reply {
 }
 
 // The list from a sheet: the refusal's number or 0, and the list; none where it is refused.
-#[derive(Drop)]
+#[derive(Clone, Copy)]
 pub struct Listing {
     pub wrong: u8,
     pub list: VoteList,

@@ -1,4 +1,5 @@
 // PR, LG, DC, RD, IV and LD over the rows of a table: what each does, as one step by value. One other function applies it.
+#![tactic(auto)]
 ghost use Rattle.std.specs.Prelude.{◌≡◌, List, ◌&&◌, map, ℕ, max, ◌≤◌, leb, ltb, length};
 ghost use Rattle.std.proofs.Math.Option.{Option, some, none};
 ghost use Rattle.terms.specs.Choice.{pick};
@@ -30,7 +31,7 @@ use terms::{Decision, Group, Key, Kind, Refusal, Stamp, View};
 const LARGEST_VIEW: usize = 65535;
 
 // What a call changes: nothing; row `i` becomes the message's body with this beside it; a key's read mark is raised to a stamp.
-#[derive(Drop)]
+#[derive(Clone, Copy)]
 pub enum Change {
     Nothing,
     Put(usize, State),
@@ -38,7 +39,7 @@ pub enum Change {
 }
 
 // What a call does: it answers, and makes one change.
-#[derive(Drop)]
+#[derive(Clone, Copy)]
 pub struct Step {
     pub answer: Answer,
     pub change: Change,
@@ -174,7 +175,7 @@ fn same_decision(a: Decision, b: Decision) -> bool
 // ---- look-up
 
 // What is held under a message's stamp: nothing, this body, or another one; and what stands beside it.
-#[derive(Drop)]
+#[derive(Clone, Copy)]
 pub enum Held {
     Not,
     Same(State),
@@ -182,7 +183,7 @@ pub enum Held {
 }
 
 // That, its place, behind the last where nothing is held, and how many entries were gone through.
-#[derive(Drop)]
+#[derive(Clone, Copy)]
 pub struct Look {
     pub place: usize,
     pub held: Held,

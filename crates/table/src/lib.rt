@@ -1,4 +1,5 @@
 // The table that the caller lends: count, low mark and folds, then a row for each entry; the check that gives 16, look-up, store.
+#![tactic(auto)]
 ghost use Rattle.std.specs.Prelude.{◌≡◌, ℕ, ◌+◌, ◌-◌, ◌*◌, ◌<◌, ◌≤◌, ◌&&◌, ◌++◌, eqb, length, drop};
 ghost use Rattle.terms.specs.Choice.{tab, any};
 ghost use Rattle.records.specs.Numbers.{le_bytes};
@@ -48,7 +49,7 @@ const RAISE: u64 = 0x0707_0d0d_0f0e;
 const HIGH: u64 = 0xf0f0_f0f0_f0f0;
 
 // What an entry holds beside the body.
-#[derive(Drop)]
+#[derive(Clone, Copy)]
 pub struct State {
     pub vote: Vote,
     pub log: Log,

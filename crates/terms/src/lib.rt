@@ -1,4 +1,6 @@
 // The papers' words as types: stamp, key, decision, kind, refusal, and the group of boxes with its five thresholds.
+#![tactic(auto)]
+
 ghost use Rattle.std.specs.Prelude.{◌≡◌};
 ghost use Rattle.terms.specs.Checks.{or_else, when};
 ghost use Rattle.terms.specs.Codes.{decision_number};
@@ -6,15 +8,15 @@ ghost use Rattle.terms.specs.Refusals.{refusal_values, number_of, lacking_of, re
 ghost use Rattle.terms.specs.Group.{boxes, commit_list, abort_list, commit_proof, abort_proof, log_proof, group_wrong, group_of, capacity_wrong};
 
 // A moment and a writer; 1 or more where it is in order.
-#[derive(Drop)]
+#[derive(Clone, Copy)]
 pub struct Stamp(pub u64);
 
 // A register place; 0 to 511 where it is in order.
-#[derive(Drop)]
+#[derive(Clone, Copy)]
 pub struct Key(pub u16);
 
 // A round of the fallback, 0 to 65,535.
-#[derive(Drop)]
+#[derive(Clone, Copy)]
 pub struct View(pub u16);
 
 pub const LARGEST_KEY: u16 = 511;
@@ -84,7 +86,7 @@ pub fn refuse_if(test: bool, n: u8) -> u8
     0
 }
 
-#[derive(Drop)]
+#[derive(Clone, Copy)]
 pub enum Decision {
     Commit,
     Abort,
@@ -102,14 +104,14 @@ impl Decision {
     }
 }
 
-#[derive(Drop)]
+#[derive(Clone, Copy)]
 pub enum Kind {
     Votes,
     Logs,
 }
 
 // The refusals, in the order of their numbers.
-#[derive(Drop)]
+#[derive(Clone, Copy)]
 pub enum Refusal {
     Short,
     Mark,
@@ -225,12 +227,12 @@ impl Refusal {
 }
 
 // A group of 5f + 1 boxes, of which at most f are faulty.
-#[derive(Drop)]
+#[derive(Clone, Copy)]
 pub struct Group {
     pub f: u8,
 }
 
-#[derive(Drop)]
+#[derive(Clone, Copy)]
 pub enum GroupAnswer {
     Of(Group),
     Refused(Refusal),
