@@ -1,0 +1,4 @@
+use Rattle.contents.proofs.boxes_wrong.Goals as goal
+
+pub returns : goal.returns
+returns c = cc

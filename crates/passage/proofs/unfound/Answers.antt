@@ -1,0 +1,4 @@
+use Rattle.passage.proofs.unfound.Goals as goal
+
+pub returns-in-Refused : goal.returns-in-Refused
+returns-in-Refused c = rw (c.in-Refused.is, c.number.ensures)

@@ -1,0 +1,22 @@
+use mathlib.Core.Path.{sym, ◌∙◌}
+use Prim.Native.Nat.{◌-◌}
+use Rattle.terms.proofs.Scans.{found, go, end}
+use Rattle.records.specs.Tx.{tx_of}
+use Rattle.rules.specs.Bodies.{reads_of}
+use Rattle.rules.specs.Tests.{fold_above}
+use Rattle.table.proofs.Bodies.{begin_as}
+use native.Mathlib.Omega.{arith}
+use Rattle.scans.proofs.folds_above.Goals as goal
+
+pub loop-j-init : goal.loop-j-init
+unfolding reads_of tx_of
+loop-j-init c = begin_as (rw c.read_count-m.ensures.0)
+
+pub returns-then-fold_above : goal.returns-then-fold_above
+returns-then-fold_above c = found c.loop-j.invariant (omega arith) (rw (← c.read_at-p.ensures) (sym c.fold_above.ensures ∙ c.if-fold_above.true))
+
+pub loop-j-preserved : goal.loop-j-preserved
+loop-j-preserved c = go c.loop-j.invariant (omega arith) (rw (← c.read_at-p.ensures) (sym c.fold_above.ensures ∙ c.if-fold_above.false))
+
+pub returns : goal.returns
+returns c = end c.loop-j.invariant (omega arith)

@@ -1,0 +1,25 @@
+use mathlib.Core.Path.{◌∙◌}
+use Rattle.rules.specs.Bodies.{stamp_of}
+use Rattle.table.specs.Table.{box_from}
+use Rattle.steps.proofs.Entries.{pr_commit, pr_abort, pr_waiting, pr_unvoted}
+use Rattle.steps.proofs.Looking.{own_most}
+use native.Mathlib.Omega.{arith}
+use Rattle.steps.proofs.pr_undecided.Goals as goal
+
+pub overflow_add-visited : goal.overflow_add-visited
+overflow_add-visited c = let s = c.before.before.before.before.before.before.before.before.before in let r = s.requires.0.room in let o = own_most s.args.t.now s.args.n (stamp_of s.args.b.now) s.args.own s.requires.2 in let k = c.waiting_rule-again.ensures.2 in omega arith
+
+pub overflow_add-visited-in-None : goal.overflow_add-visited-in-None
+overflow_add-visited-in-None c = let s = c.before.before.before.before.before.before.before.before.before in let r = s.requires.0.room in let o = own_most s.args.t.now s.args.n (stamp_of s.args.b.now) s.args.own s.requires.2 in let k = c.first_vote-first.ensures.3 in omega arith
+
+pub returns-in-Commit : goal.returns-in-Commit
+returns-in-Commit c = c.keep.ensures ∙ pr_commit _ _ (box_from _ _ _) _ _ c.in-Commit.is
+
+pub returns-in-Abort : goal.returns-in-Abort
+returns-in-Abort c = c.keep-in-Abort.ensures ∙ pr_abort _ _ (box_from _ _ _) _ _ _ c.in-Abort.is
+
+pub returns-in-Waiting : goal.returns-in-Waiting
+returns-in-Waiting c = c.cast.ensures ∙ pr_waiting _ _ (box_from _ _ _) _ _ _ _ _ c.in-Waiting.is c.waiting_rule-again.ensures.0 c.requires.2 c.waiting_rule-again.ensures.1
+
+pub returns-in-None : goal.returns-in-None
+returns-in-None c = c.cast-in-None.ensures ∙ pr_unvoted _ _ (box_from _ _ _) _ _ _ _ _ c.in-None.is c.first_vote-first.ensures.0 c.requires.2 c.first_vote-first.ensures.2

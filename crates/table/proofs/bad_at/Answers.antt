@@ -1,0 +1,4 @@
+use Rattle.table.proofs.bad_at.Goals as goal
+
+pub returns : goal.returns
+returns c = cc
