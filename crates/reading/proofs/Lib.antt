@@ -2,4 +2,3 @@ pub mod Cuts
 pub mod Answers
 pub mod Due
 pub mod Marks
-pub mod Parts

@@ -80,34 +80,34 @@ module _ (f : ℕ) (m : List ℕ) (h : due_refusal PR f m ≡ 0) where
 
 -- ---- an act that bears the figure
 record Bears (told : Told) (x : Box) (p : EntryPoint) (m : List ℕ) (a : Act) : Type 0 where
-  never_above_lem : (n : ℕ) → number_in a.answer ≡ visited n → n ≤ figure_of x.table
+  never_above : (n : ℕ) → number_in a.answer ≡ visited n → n ≤ figure_of x.table
   none_again : Already told x p m → number_in a.answer ≡ unvisited
-  every_other_lem : (v : Vote) → a.answer ≡ Voted v unvisited → Already told x p m
+  every_other : (v : Vote) → a.answer ≡ Voted v unvisited → Already told x p m
 
 module _ (told : Told) (x : Box) (p : EntryPoint) (m : List ℕ) where
   refused_bears : (r : Refusal) → Bears told x p m (refuse r)
   unfolding number_in
   refused_bears r = record {
-    never_above_lem = λ n h. let z : ◌≡◌ {A = ℕ} 0 1 = cc in absurd (omega arith);
+    never_above = λ n h. let z : ◌≡◌ {A = ℕ} 0 1 = cc in absurd (omega arith);
     none_again = λ _. refl;
-    every_other_lem = λ v h. let z : ◌≡◌ {A = ℕ} 0 1 = cc in absurd (omega arith);
+    every_other = λ v h. let z : ◌≡◌ {A = ℕ} 0 1 = cc in absurd (omega arith);
   }
 
   -- an entry that is decided, or voted on
   kept_bears : (a : Answer) → number_in a ≡ unvisited → Already told x p m → Bears told x p m (keep a)
   kept_bears a u k = record {
-    never_above_lem = λ n h. let z : ◌≡◌ {A = ℕ} 0 1 = cc in absurd (omega arith);
+    never_above = λ n h. let z : ◌≡◌ {A = ℕ} 0 1 = cc in absurd (omega arith);
     none_again = λ _. u;
-    every_other_lem = λ v h. k;
+    every_other = λ v h. k;
   }
 
   -- one that is neither
   cast_bears : (b : Body) (o : Option Entry) (v : Vote) (n : ℕ) → n ≤ figure_of x.table → (Already told x p m → ⊥) → Bears told x p m (cast_act b o v n)
   unfolding cast_act number_in
   cast_bears b o v n le neither = record {
-    never_above_lem = λ k h. let e : n ≡ k = cc in omega (arith, e, le);
+    never_above = λ k h. let e : n ≡ k = cc in omega (arith, e, le);
     none_again = λ k. absurd (neither k);
-    every_other_lem = λ w h. let z : ◌≡◌ {A = ℕ} 0 1 = cc in absurd (omega arith);
+    every_other = λ w h. let z : ◌≡◌ {A = ℕ} 0 1 = cc in absurd (omega arith);
   }
 
   module _ (r : length (reads_of (tx_part m)) ≤ 8) (w : length (writes_of (tx_part m)) ≤ 8) where
@@ -147,4 +147,4 @@ module _ (told : Told) (x : Box) (p : EntryPoint) (m : List ℕ) where
       refused_bears)
 
 pub figures : Figures
-figures told x p m d = let a = act_bears told x p m d in record { never_above_lem = a.never_above_lem; none_again = a.none_again; every_other_lem = a.every_other_lem }
+figures told x p m d = let a = act_bears told x p m d in record { never_above = a.never_above; none_again = a.none_again; every_other = a.every_other }

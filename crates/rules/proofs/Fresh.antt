@@ -11,7 +11,7 @@ use Rattle.rules.specs.Answers.{Decision, commit, abort, Vote, unvoted, waiting,
 use Rattle.rules.specs.Answers.{View, logged, unlogged, view_as}
 use Rattle.rules.specs.Bodies.{Body, stamp_of}
 use Rattle.rules.specs.Lists.{decision_of}
-use Rattle.rules.specs.Table.{Entry, Box, vote_in, log_in, live_by, live}
+use Rattle.rules.specs.Table.{Entry, Box, vote_in, log_in, view_in, live_by, live}
 use Rattle.rules.specs.Calls.{Act, Change, nothing, puts, raises, raises_low, cast_act, log_act, decide_act}
 use Rattle.rules.specs.Fallback.{elect_act}
 use Rattle.rules.specs.Act.{table_after, EntryPoint}
@@ -97,7 +97,7 @@ fresh (quiet n) = tt
 fresh (again w e p h n) = tt
 fresh {x = x} {b = b} (casts v c o p n r cl) = record {
   owner = refl;
-  told = told_cast o p v c _ refl refl;
+  told = told_cast o p v c (record { body = b; vote = v; log = log_in o; view = view_in o; decided = unsettled }) refl refl;
   decided = λ d h. absurd (un_settled refl h);
   stood = λ w. go (cl w.vote);
 }
@@ -105,27 +105,27 @@ fresh {x = x} {b = b} (casts v c o p n r cl) = record {
     go : Clear x b ⊎ (vote_in o ≡ waiting) → Upright x.table b ⊎ Clear x b
     go (inl k) = inr k
     go (inr q) = inl (upright_by o p (rw q tt))
-fresh (logs_first l o q k w p n) = record {
+fresh {b = b} (logs_first l o q k w p n) = record {
   owner = refl;
-  told = told_log o p (decision_of l.decision) (view_as 0) _ refl refl;
+  told = told_log o p (decision_of l.decision) (view_as 0) (record { body = b; vote = vote_in o; log = logged (decision_of l.decision) (view_as 0); view = view_in o; decided = unsettled }) refl refl;
   decided = λ d h. absurd (un_settled refl h);
   stood = λ w. inl (upright_by o p w.vote);
 }
-fresh (takes l o q w p c n) = record {
+fresh {b = b} (takes l o q w p c n) = record {
   owner = refl;
-  told = told_log o p (decision_of l.decision) (view_as l.view) _ refl refl;
+  told = told_log o p (decision_of l.decision) (view_as l.view) (record { body = b; vote = vote_in o; log = logged (decision_of l.decision) (view_as l.view); view = view_as l.view; decided = unsettled }) refl refl;
   decided = λ d h. absurd (un_settled refl h);
   stood = λ w. inl (upright_by o p w.vote);
 }
-fresh (elects told v e d u p q c) = record {
+fresh {b = b} (elects told v e d u p q c) = record {
   owner = refl;
-  told = λ w h. inr (told_kept (some e) p _ refl refl w h);
+  told = λ w h. inr (told_kept (some e) p (record { body = b; vote = e.vote; log = e.log; view = view_as v; decided = unsettled }) refl refl w h);
   decided = λ d h. absurd (un_settled refl h);
   stood = λ w. inl (upright_by (some e) p w.vote);
 }
-fresh (decides l o w p) = record {
+fresh {b = b} (decides l o w p) = record {
   owner = refl;
-  told = λ w h. inr (told_kept o p _ refl refl w h);
+  told = λ w h. inr (told_kept o p (record { body = b; vote = vote_in o; log = log_in o; view = view_in o; decided = settled (decision_of l.decision) }) refl refl w h);
   decided = λ d h. (l, w, settled_eq refl h);
   stood = λ w. inl (upright_by o p w.vote);
 }

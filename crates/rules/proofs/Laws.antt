@@ -79,9 +79,12 @@ pub no_both : (b : Bool) → T b → T (not b) → ⊥
 no_both true h k = k
 no_both false h k = h
 
+any_at : {A : Type 0} (p : A → Bool) (x : A) → T (p x) → (xs : List A) → In x xs → T (any p xs)
+any_at p x k xs (here {x = y} {xs = ys} e) = or_l (p y) (any p ys) (rw e at k)
+any_at p x k xs (there {x = y} {xs = ys} m) = or_r (p y) (any p ys) (any_at p x k ys m)
+
 pub any_of : {A : Type 0} (p : A → Bool) (xs : List A) (x : A) → In x xs → T (p x) → T (any p xs)
-any_of p xs x (here {x = y} {xs = ys} e) k = or_l (p y) (any p ys) (rw e at k)
-any_of p xs x (there {x = y} {xs = ys} m) k = or_r (p y) (any p ys) (any_of p ys x m k)
+any_of p xs x m k = any_at p x k xs m
 
 pub not_any : {A : Type 0} (p : A → Bool) (xs : List A) → T (not (any p xs)) → (x : A) → In x xs → T (p x) → ⊥
 not_any p xs h x m k = no_both (any p xs) (any_of p xs x m k) h

@@ -149,16 +149,16 @@ unfolding vote_word
 vote_unlogged unsettled d v h = none_some refl h
 vote_unlogged (settled x) d v h = let q = some_eq refl h in let z : ◌≡◌ {A = ℕ} 0 1 = cc in omega arith
 
-logged_view : (a : Answer) (d : Decision) (v : ℕ) → word_in a ≡ some (log d v) → v ≡ logged_view a
+logged_view_lem : (a : Answer) (d : Decision) (v : ℕ) → word_in a ≡ some (log d v) → v ≡ logged_view a
 unfolding word_in logged_view
-logged_view (Logged x u) d v h = let q : log x u.0 ≡ log d v = some_eq refl h in cc
-logged_view (Elected x u l) d v h = let q = some_eq refl h in let z : ◌≡◌ {A = ℕ} 0 1 = cc in absurd (omega arith)
-logged_view (Voted x n) d v h = absurd (vote_unlogged (cast x) d v h)
-logged_view Raised d v h = absurd (none_some refl h)
-logged_view Done d v h = absurd (none_some refl h)
-logged_view (Decided x) d v h = absurd (none_some refl h)
-logged_view (Found p q) d v h = absurd (none_some refl h)
-logged_view (Refused r) d v h = absurd (none_some refl h)
+logged_view_lem (Logged x u) d v h = let q : log x u.0 ≡ log d v = some_eq refl h in cc
+logged_view_lem (Elected x u l) d v h = let q = some_eq refl h in let z : ◌≡◌ {A = ℕ} 0 1 = cc in absurd (omega arith)
+logged_view_lem (Voted x n) d v h = absurd (vote_unlogged (cast x) d v h)
+logged_view_lem Raised d v h = absurd (none_some refl h)
+logged_view_lem Done d v h = absurd (none_some refl h)
+logged_view_lem (Decided x) d v h = absurd (none_some refl h)
+logged_view_lem (Found p q) d v h = absurd (none_some refl h)
+logged_view_lem (Refused r) d v h = absurd (none_some refl h)
 
 gave_view : (f i : ℕ) (b : Body) (d : Decision) (v : ℕ) (es : List Event) → T (gave f i b (log d v) es) → v ≤ top_view f es
 unfolding gave gives_now top_view
@@ -169,7 +169,7 @@ gave_view f i b d v (e ∷ es) h = go (or_cases (gives_now f i b (log d v) e es)
         → v ≤ max (logged_view (answer_to f e es)) (top_view f es)
     go (inl u) r =
         let k : T (is_word (log d v) (word_in (answer_to f e es))) = search ands in
-        omega (arith, logged_view (answer_to f e es) d v (word_eq (log d v) (word_in (answer_to f e es)) k))
+        omega (arith, logged_view_lem (answer_to f e es) d v (word_eq (log d v) (word_in (answer_to f e es)) k))
     go (inr u) r = omega (arith, r u)
 
 module _ (f : ℕ) (faulty : ℕ → Bool) where

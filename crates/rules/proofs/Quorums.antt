@@ -22,9 +22,9 @@ quorums f = record {
   both_logged = omega arith;
   two_commits = omega arith;
   proof_lists = omega arith;
-  log_sound_lem = log_sound_lem f;
+  log_sound = log_sound_lem f;
   commit_sound = omega arith;
   more_than_half = λ k h. omega arith;
-  logs_elect_lem = logs_elect_lem f;
+  logs_elect = logs_elect_lem f;
   elect_sound = omega arith;
 }

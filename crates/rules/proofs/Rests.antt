@@ -13,7 +13,7 @@ use Rattle.records.specs.Tx.{read_key, read_version}
 use Rattle.records.specs.Vl.{Vl}
 use Rattle.records.specs.Views.{Views}
 use Rattle.records.specs.declared.Mark.{Mark}
-use Rattle.records.specs.declared.Mark.TheVariants.{LG, DC, LD}
+use Rattle.records.specs.declared.Mark.TheVariants.{PR, LG, DC, RD, IV, LD}
 use Rattle.rules.specs.Answers.{Decision, commit, Version, Vote, unvoted, waiting, voteCommit, voteAbort, settled}
 use Rattle.rules.specs.Bodies.{Body, stamp_of, reads_of, writes_key}
 use Rattle.rules.specs.Lists.{decision_of}
@@ -39,6 +39,10 @@ module _ (f : ℕ) (faulty : ℕ → Bool) where
   unfolding Carries
   backed_in es m LG in_lg h = h
   backed_in es m DC in_dc h = h
+  backed_in es m PR k h = elim k [ ]
+  backed_in es m RD k h = elim k [ ]
+  backed_in es m IV k h = elim k [ ]
+  backed_in es m LD k h = elim k [ ]
 
   -- a list that a message brings is backed
   brought : (es : List Event) (way : EntryPoint) (m : List ℕ) (b : Body) (l : Vl) → Brings f way m b l → Honest f faulty es way m → Backed f faulty es b l

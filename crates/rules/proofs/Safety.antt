@@ -15,8 +15,8 @@ use Rattle.rules.proofs.Exist.{listing}
 
 pub safety : Safety
 safety f faulty few es F = record {
-  one_outcome_lem = one_outcome_lem f faulty few es F;
-  one_body_lem = one_body_lem f faulty few es F;
+  one_outcome = one_outcome_lem f faulty few es F;
+  one_body = one_body_lem f faulty few es F;
   listed = listing f faulty few es F;
   serial = λ bs L. serial_run C facts bs L.order L.only L.every;
 }

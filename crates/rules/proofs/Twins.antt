@@ -274,4 +274,4 @@ replies_twins x y w [] = refl
 replies_twins x y w (c ∷ cs) =
     λ i.
     answer_twins w c.entry c.told c.message i
-    ∷ replies_twins _ _ (after_twins w c.entry c.told c.message) cs i
+    ∷ replies_twins (after c.entry c.told x c.message) (after c.entry c.told y c.message) (after_twins w c.entry c.told c.message) cs i
