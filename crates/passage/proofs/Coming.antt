@@ -13,7 +13,7 @@ use Rattle.records.specs.Vl.{Vl}
 use Rattle.records.specs.Cutting.{tx_part}
 use Rattle.records.specs.Messages.{list_behind}
 use Rattle.records.specs.declared.Mark.{Mark}
-use Rattle.records.specs.declared.Mark.TheVariants.{LG, DC}
+use Rattle.records.specs.declared.Mark.TheVariants.{PR, LG, DC, RD, IV, LD}
 use Rattle.records.specs.declared.Marked.TheVariants.{Is}
 use Rattle.rules.specs.declared.Answer.TheVariants.{Done}
 use Rattle.rules.specs.declared.Settled.{Settled}
@@ -109,6 +109,10 @@ module _ (told : Told) (x : Box) (way : EntryPoint) (m : List ℕ) (e : Entry) (
   unfolding NotDone
   by_mark LG in_lg h d = absurd (lg_not_done told x way m h d)
   by_mark DC in_dc h d = h
+  by_mark PR k h d = elim k [ ]
+  by_mark RD k h d = elim k [ ]
+  by_mark IV k h d = elim k [ ]
+  by_mark LD k h d = elim k [ ]
 
   arrived : (a : Act) → a ≡ act way told x m → In e x.table ⊎ Fresh told.f x way m (tx_part m) e a.answer → In e x.table ⊎ (a.answer ≡ Done)
       → In e x.table ⊎ Came way m a e.body

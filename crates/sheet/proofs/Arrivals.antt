@@ -89,7 +89,7 @@ box_counts f d b s [] sound = by (on s b) refl d
     by true h d = refl
     by false h commit = off_commits s b h
     by false h abort = off_aborts s b h
-box_counts f d b s (a ∷ more) sound = box_counts f d b _ more (after_sound s f a sound) ∙ step s f a sound d b (first_of f b more)
+box_counts f d b s (a ∷ more) sound = box_counts f d b (sheet_after s f a.number a.answer) more (after_sound s f a sound) ∙ step s f a sound d b (first_of f b more)
 
 -- a sheet with no box on it
 empty_on : (k : Kind) (view b : ℕ) → on (empty_sheet k view) b ≡ false
