@@ -18,7 +18,7 @@ pub write_at-w-requires : goal.write_at-w-requires
 write_at-w-requires c = (c.tx_at-in-loop-j.ensures.1, rw (c.tx_at-in-loop-j.ensures.0, c.loop-j.invariant.beside.rows, ← c.tx_at-2.ensures.0, ← c.write_count-n.ensures.0) (omega arith))
 
 pub fold_write-requires : goal.fold_write-requires
-fold_write-requires c = let a = c.loop-j.invariant.in-t in let b = c.loop-j.invariant.beside.long in omega arith
+fold_write-requires c = let a = c.loop-j.invariant.in_t in let b = c.loop-j.invariant.beside.long in omega arith
 
 pub loop-j-preserved : goal.loop-j-preserved
 loop-j-preserved c = folding_more c.loop-j.invariant (omega arith) (rw (← c.loop-j.invariant.beside.rows, ← c.tx_at-in-loop-j.ensures.0, ← c.write_at-w.ensures) c.fold_write.ensures)

@@ -9,34 +9,34 @@ use native.Mathlib.Omega.{arith}
 use Rattle.scans.proofs.later_vote.Goals as goal
 
 pub overflow_add-result : goal.overflow_add-result
-overflow_add-result c = let s = c.before.before.before.before.before.before.before.before in let r = s.requires.0.room in let g = s.requires.2 in let e = c.visits_3.ensures in let m = visits3_most (over s.args.h.now (entries s.args.t.now s.args.n)) s.args.b.now s.args.n (tab_length _ _ _) s.requires.1.0 in omega arith
+overflow_add-result c = let r = c.requires.0.room in let g = c.requires.2 in let e = c.visits_3.ensures in let m = visits3_most (over c.args.h.now (entries c.args.t.now c.args.n)) c.args.b.now c.args.n (tab_length _ _ _) c.requires.1.0 in omega arith
 
 pub returns-then-test_3 : goal.returns-then-test_3
-returns-then-test_3 c = let s = c.before.before.before.before.before.before.before.before in let d = sym c.test_3.ensures ∙ c.if-test_3.true in (later_3 (box_from s.args.h.now (entries s.args.t.now s.args.n) s.args.marks.now) s.args.b.now s.args.n s.args.read.visited (vote_after s.args.read.what) (tab_length _ _ _) d, number_3 (box_from s.args.h.now (entries s.args.t.now s.args.n) s.args.marks.now) s.args.b.now s.args.n s.args.read.visited (vote_after s.args.read.what) (tab_length _ _ _) d c.visits_3.result c.visits_3.ensures)
+returns-then-test_3 c = let d = sym c.test_3.ensures ∙ c.if-test_3.true in (later_3 (box_from c.args.h.now (entries c.args.t.now c.args.n) c.args.marks.now) c.args.b.now c.args.n c.args.read.visited (vote_after c.args.read.what) (tab_length _ _ _) d, number_3 (box_from c.args.h.now (entries c.args.t.now c.args.n) c.args.marks.now) c.args.b.now c.args.n c.args.read.visited (vote_after c.args.read.what) (tab_length _ _ _) d c.visits_3.result c.visits_3.ensures)
 
 pub overflow_mul-third : goal.overflow_mul-third
-overflow_mul-third c = let s = c.before.before.before.before.before.before.before in let r = s.requires.0.room in let g = s.requires.2 in let m = mul-le-mul_right s.args.n c.read_count.ensures.1 in omega arith
+overflow_mul-third c = let r = c.requires.0.room in let g = c.requires.2 in let m = mul-le-mul_right c.args.n c.read_count.ensures.1 in omega arith
 
 pub overflow_add-third : goal.overflow_add-third
-overflow_add-third c = let s = c.before.before.before.before.before.before.before.before in let r = s.requires.0.room in let g = s.requires.2 in let m = mul-le-mul_right s.args.n c.read_count.ensures.1 in omega arith
+overflow_add-third c = let r = c.requires.0.room in let g = c.requires.2 in let m = mul-le-mul_right c.args.n c.read_count.ensures.1 in omega arith
 
 pub overflow_add-result-then-test_4 : goal.overflow_add-result-then-test_4
-overflow_add-result-then-test_4 c = let s = c.before.before.before.before.before.before.before.before.before.before.before in let r = s.requires.0.room in let g = s.requires.2 in let m = mul-le-mul_right s.args.n c.read_count.ensures.1 in let e = c.visits_4.ensures in let k = visits4_most (entries_only (entries s.args.t.now s.args.n)) s.args.b.now s.args.n (tab_length _ _ _) s.requires.1.1 in omega arith
+overflow_add-result-then-test_4 c = let r = c.requires.0.room in let g = c.requires.2 in let m = mul-le-mul_right c.args.n c.read_count.ensures.1 in let e = c.visits_4.ensures in let k = visits4_most (entries_only (entries c.args.t.now c.args.n)) c.args.b.now c.args.n (tab_length _ _ _) c.requires.1.1 in omega arith
 
 pub returns-then-test_4 : goal.returns-then-test_4
-returns-then-test_4 c = let s = c.before.before.before.before.before.before.before.before.before.before.before in let d = sym c.test_3.ensures ∙ c.if-test_3.false in let f = sym c.test_4.ensures ∙ c.if-test_4.true in (later_4 (box_from s.args.h.now (entries s.args.t.now s.args.n) s.args.marks.now) s.args.b.now s.args.n s.args.read.visited (vote_after s.args.read.what) (tab_length _ _ _) d f, number_4 (box_from s.args.h.now (entries s.args.t.now s.args.n) s.args.marks.now) s.args.b.now s.args.n s.args.read.visited (vote_after s.args.read.what) (tab_length _ _ _) d f c.read_count.result c.visits_4.result c.read_count.ensures.0 c.visits_4.ensures)
+returns-then-test_4 c = let d = sym c.test_3.ensures ∙ c.if-test_3.false in let f = sym c.test_4.ensures ∙ c.if-test_4.true in (later_4 (box_from c.args.h.now (entries c.args.t.now c.args.n) c.args.marks.now) c.args.b.now c.args.n c.args.read.visited (vote_after c.args.read.what) (tab_length _ _ _) d f, number_4 (box_from c.args.h.now (entries c.args.t.now c.args.n) c.args.marks.now) c.args.b.now c.args.n c.args.read.visited (vote_after c.args.read.what) (tab_length _ _ _) d f c.read_count.result c.visits_4.result c.read_count.ensures.0 c.visits_4.ensures)
 
 pub overflow_mul-fourth : goal.overflow_mul-fourth
-overflow_mul-fourth c = let s = c.before.before.before.before.before.before.before.before.before.before.before in let r = s.requires.0.room in let g = s.requires.2 in let m = mul-le-mul_right s.args.n c.write_count.ensures.1 in omega arith
+overflow_mul-fourth c = let r = c.requires.0.room in let g = c.requires.2 in let m = mul-le-mul_right c.args.n c.write_count.ensures.1 in omega arith
 
 pub overflow_add-fourth : goal.overflow_add-fourth
-overflow_add-fourth c = let s = c.before.before.before.before.before.before.before.before.before.before.before in let r = s.requires.0.room in let g = s.requires.2 in let m = mul-le-mul_right s.args.n c.read_count.ensures.1 in let k = mul-le-mul_right s.args.n c.write_count.ensures.1 in omega arith
+overflow_add-fourth c = let r = c.requires.0.room in let g = c.requires.2 in let m = mul-le-mul_right c.args.n c.read_count.ensures.1 in let k = mul-le-mul_right c.args.n c.write_count.ensures.1 in omega arith
 
 pub returns-then-test_5 : goal.returns-then-test_5
-returns-then-test_5 c = let s = c.before.before.before.before.before.before.before.before.before.before.before.before.before in let d = sym c.test_3.ensures ∙ c.if-test_3.false in let f = sym c.test_4.ensures ∙ c.if-test_4.false in let i = sym c.test_5.ensures ∙ c.if-test_5.true in (later_5 (box_from s.args.h.now (entries s.args.t.now s.args.n) s.args.marks.now) s.args.b.now s.args.n s.args.read.visited (vote_after s.args.read.what) (tab_length _ _ _) d f i, number_5 (box_from s.args.h.now (entries s.args.t.now s.args.n) s.args.marks.now) s.args.b.now s.args.n s.args.read.visited (vote_after s.args.read.what) (tab_length _ _ _) d f i c.read_count.result c.write_count.result c.read_count.ensures.0 c.write_count.ensures.0)
+returns-then-test_5 c = let d = sym c.test_3.ensures ∙ c.if-test_3.false in let f = sym c.test_4.ensures ∙ c.if-test_4.false in let i = sym c.test_5.ensures ∙ c.if-test_5.true in (later_5 (box_from c.args.h.now (entries c.args.t.now c.args.n) c.args.marks.now) c.args.b.now c.args.n c.args.read.visited (vote_after c.args.read.what) (tab_length _ _ _) d f i, number_5 (box_from c.args.h.now (entries c.args.t.now c.args.n) c.args.marks.now) c.args.b.now c.args.n c.args.read.visited (vote_after c.args.read.what) (tab_length _ _ _) d f i c.read_count.result c.write_count.result c.read_count.ensures.0 c.write_count.ensures.0)
 
 pub overflow_add-result-2 : goal.overflow_add-result-2
-overflow_add-result-2 c = let s = c.before.before.before.before.before.before.before.before.before.before.before.before.before.before.before in let r = s.requires.0.room in let g = s.requires.2 in let m = mul-le-mul_right s.args.n c.read_count.ensures.1 in let k = mul-le-mul_right s.args.n c.write_count.ensures.1 in omega arith
+overflow_add-result-2 c = let r = c.requires.0.room in let g = c.requires.2 in let m = mul-le-mul_right c.args.n c.read_count.ensures.1 in let k = mul-le-mul_right c.args.n c.write_count.ensures.1 in omega arith
 
 pub returns : goal.returns
-returns c = let s = c.before.before.before.before.before.before.before.before.before.before.before.before.before.before.before in let d = sym c.test_3.ensures ∙ c.if-test_3.false in let f = sym c.test_4.ensures ∙ c.if-test_4.false in let i = sym c.test_5.ensures ∙ c.if-test_5.false in (c.vote_after.ensures ∙ later_6 (box_from s.args.h.now (entries s.args.t.now s.args.n) s.args.marks.now) s.args.b.now s.args.n s.args.read.visited (vote_after s.args.read.what) (tab_length _ _ _) d f i, number_6 (box_from s.args.h.now (entries s.args.t.now s.args.n) s.args.marks.now) s.args.b.now s.args.n s.args.read.visited (vote_after s.args.read.what) (tab_length _ _ _) d f i c.read_count.result c.write_count.result c.read_count.ensures.0 c.write_count.ensures.0)
+returns c = let d = sym c.test_3.ensures ∙ c.if-test_3.false in let f = sym c.test_4.ensures ∙ c.if-test_4.false in let i = sym c.test_5.ensures ∙ c.if-test_5.false in (c.vote_after.ensures ∙ later_6 (box_from c.args.h.now (entries c.args.t.now c.args.n) c.args.marks.now) c.args.b.now c.args.n c.args.read.visited (vote_after c.args.read.what) (tab_length _ _ _) d f i, number_6 (box_from c.args.h.now (entries c.args.t.now c.args.n) c.args.marks.now) c.args.b.now c.args.n c.args.read.visited (vote_after c.args.read.what) (tab_length _ _ _) d f i c.read_count.result c.write_count.result c.read_count.ensures.0 c.write_count.ensures.0)

@@ -12,7 +12,7 @@ unfolding test4 hit4
 loop-i-init c = begin_as refl
 
 pub hit_4-requires : goal.hit_4-requires
-hit_4-requires c = let s = c.before.before.before.before.before.before.before.before.before.before in (rw c.row-e.ensures.0 (s.requires.0.rows c.loop-i.i (omega arith)), s.requires.1, rw (← c.writes_from.ensures, ← c.write_count.ensures.0) c.add_keys.ensures)
+hit_4-requires c = (rw c.row-e.ensures.0 (c.requires.0.rows c.loop-i.i (omega arith)), c.requires.1, rw (← c.writes_from.ensures, ← c.write_count.ensures.0) c.add_keys.ensures)
 
 pub returns-then-hit_4 : goal.returns-then-hit_4
 returns-then-hit_4 c = found c.loop-i.invariant (omega arith) (rw (← c.row-e.ensures.0) (sym c.hit_4.ensures ∙ c.if-hit_4.true))

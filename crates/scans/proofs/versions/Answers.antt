@@ -18,7 +18,7 @@ unfolding reads_of tx_of visits2
 loop-j-init c = (names_begin (rw c.read_count-m.ensures.0), keyed_begin (rw c.read_count-m.ensures.0))
 
 pub overflow_add-visited : goal.overflow_add-visited
-overflow_add-visited c = let s = c.before.before.before.before.before.before.before.before.before.before in let r = s.requires.0.room in let k = keyed_fits c.loop-j.invariant.1 (omega arith) c.named-one.result.visited (rw (← c.read_at-p.ensures) c.named-one.ensures.1) in let m = visits2_most (over s.args.h.now (entries s.args.t.now s.args.n)) s.args.b.now s.args.n (tab_length _ _ _) s.requires.1.0 in omega arith
+overflow_add-visited c = let r = c.requires.0.room in let k = keyed_fits c.loop-j.invariant.1 (omega arith) c.named-one.result.visited (rw (← c.read_at-p.ensures) c.named-one.ensures.1) in let m = visits2_most (over c.args.h.now (entries c.args.t.now c.args.n)) c.args.b.now c.args.n (tab_length _ _ _) c.requires.1.0 in omega arith
 
 pub returns-then-one-eq-BAD : goal.returns-then-one-eq-BAD
 returns-then-one-eq-BAD c = (names_bad c.loop-j.invariant.0 c.named-one.result.what (omega arith) (rw (← c.read_at-p.ensures) c.named-one.ensures.0) c.if-one-eq-BAD.true, keyed_stop c.loop-j.invariant.1 (omega arith) c.named-one.result.visited (rw (← c.read_at-p.ensures) c.named-one.ensures.1) (rw (← c.read_at-p.ensures) (named_bad _ _ (sym c.named-one.ensures.0 ∙ c.if-one-eq-BAD.true))))

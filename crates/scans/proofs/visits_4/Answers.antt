@@ -17,7 +17,7 @@ unfolding writes_of tx_of visits4 fails4
 loop-j-init c = keyed_begin (rw c.write_count-m.ensures.0)
 
 pub overflow_add-visited : goal.overflow_add-visited
-overflow_add-visited c = let s = c.before.before.before.before.before.before.before.before in let r = s.requires.0.room in let k = keyed_fits c.loop-j.invariant (omega arith) c.through_4-one.result.visited (rw (← c.write_at-w.ensures) c.through_4-one.ensures.1) in let m = visits4_most (entries_only (entries s.args.t.now s.args.n)) s.args.b.now s.args.n (tab_length _ _ _) s.requires.1.1 in omega arith
+overflow_add-visited c = let r = c.requires.0.room in let k = keyed_fits c.loop-j.invariant (omega arith) c.through_4-one.result.visited (rw (← c.write_at-w.ensures) c.through_4-one.ensures.1) in let m = visits4_most (entries_only (entries c.args.t.now c.args.n)) c.args.b.now c.args.n (tab_length _ _ _) c.requires.1.1 in omega arith
 
 pub returns-then-one : goal.returns-then-one
 returns-then-one c = keyed_stop c.loop-j.invariant (omega arith) c.through_4-one.result.visited (rw (← c.write_at-w.ensures) c.through_4-one.ensures.1) (rw (← c.write_at-w.ensures) (sym c.through_4-one.ensures.0 ∙ c.if-one.true))

@@ -19,16 +19,16 @@ unfolding waiting_rule wait_by reads_of tx_of waiting_visits
 loop-j-init c = (waits_begin (rw c.read_count-m.ensures.0), keyed_begin (rw c.read_count-m.ensures.0))
 
 pub overflow_add-visited : goal.overflow_add-visited
-overflow_add-visited c = let s = c.before.before.before.before.before.before.before.before.before.before in let r = s.requires.0.room in let k = keyed_fits c.loop-j.invariant.1 (omega arith) c.status-one.result.visited (rw (← c.read_at-p.ensures) c.status-one.ensures.1) in let m = waiting_most (over s.args.h.now (entries s.args.t.now s.args.n)) s.args.b.now s.args.n (tab_length _ _ _) s.requires.1.0 in omega arith
+overflow_add-visited c = let r = c.requires.0.room in let k = keyed_fits c.loop-j.invariant.1 (omega arith) c.status-one.result.visited (rw (← c.read_at-p.ensures) c.status-one.ensures.1) in let m = waiting_most (over c.args.h.now (entries c.args.t.now c.args.n)) c.args.b.now c.args.n (tab_length _ _ _) c.requires.1.0 in omega arith
 
 pub loop-j-preserved : goal.loop-j-preserved
 loop-j-preserved c = (waits_go c.loop-j.invariant.0 c.status-one.result.what (omega arith) (rw (← c.read_at-p.ensures) c.status-one.ensures.0) c.bad_too-bad.ensures c.waits_too-waits.ensures, keyed_go c.loop-j.invariant.1 (omega arith) c.status-one.result.visited (rw (← c.read_at-p.ensures) c.status-one.ensures.1) refl)
 
 pub returns-then-bad : goal.returns-then-bad
-returns-then-bad c = let s = c.before.before.before.before.before.before.before.before in let e = keyed_end c.loop-j.invariant.1 (omega arith) in (waits_abort c.loop-j.invariant.0 (omega arith) c.if-bad.true, e, rw e (waiting_most (over s.args.h.now (entries s.args.t.now s.args.n)) s.args.b.now s.args.n (tab_length _ _ _) s.requires.1.0))
+returns-then-bad c = let e = keyed_end c.loop-j.invariant.1 (omega arith) in (waits_abort c.loop-j.invariant.0 (omega arith) c.if-bad.true, e, rw e (waiting_most (over c.args.h.now (entries c.args.t.now c.args.n)) c.args.b.now c.args.n (tab_length _ _ _) c.requires.1.0))
 
 pub returns-then-waits : goal.returns-then-waits
-returns-then-waits c = let s = c.before.before.before.before.before.before.before.before.before in let e = keyed_end c.loop-j.invariant.1 (omega arith) in (waits_wait c.loop-j.invariant.0 (omega arith) c.if-bad.false c.if-waits.true, e, rw e (waiting_most (over s.args.h.now (entries s.args.t.now s.args.n)) s.args.b.now s.args.n (tab_length _ _ _) s.requires.1.0))
+returns-then-waits c = let e = keyed_end c.loop-j.invariant.1 (omega arith) in (waits_wait c.loop-j.invariant.0 (omega arith) c.if-bad.false c.if-waits.true, e, rw e (waiting_most (over c.args.h.now (entries c.args.t.now c.args.n)) c.args.b.now c.args.n (tab_length _ _ _) c.requires.1.0))
 
 pub returns : goal.returns
-returns c = let s = c.before.before.before.before.before.before.before.before.before in let e = keyed_end c.loop-j.invariant.1 (omega arith) in (waits_commit c.loop-j.invariant.0 (omega arith) c.if-bad.false c.if-waits.false, e, rw e (waiting_most (over s.args.h.now (entries s.args.t.now s.args.n)) s.args.b.now s.args.n (tab_length _ _ _) s.requires.1.0))
+returns c = let e = keyed_end c.loop-j.invariant.1 (omega arith) in (waits_commit c.loop-j.invariant.0 (omega arith) c.if-bad.false c.if-waits.false, e, rw e (waiting_most (over c.args.h.now (entries c.args.t.now c.args.n)) c.args.b.now c.args.n (tab_length _ _ _) c.requires.1.0))

@@ -11,7 +11,7 @@ pub returns-then-is_full : goal.returns-then-is_full
 returns-then-is_full c = c.refuse.ensures ∙ pr_full _ _ (box_from _ _ _) _ _ (tab_length _ _ _) (sym c.is_full.ensures ∙ c.if-is_full.true)
 
 pub overflow_add-visited : goal.overflow_add-visited
-overflow_add-visited c = let s = c.before.before.before.before.before.before.before.before in let r = s.requires.0.room in let o = own_most s.args.t.now s.args.n (stamp_of s.args.b.now) s.args.own s.requires.2 in let k = c.first_vote-first.ensures.3 in omega arith
+overflow_add-visited c = let r = c.requires.0.room in let o = own_most c.args.t.now c.args.n (stamp_of c.args.b.now) c.args.own c.requires.2 in let k = c.first_vote-first.ensures.3 in omega arith
 
 pub returns : goal.returns
 returns c = c.cast.ensures ∙ pr_room _ _ (box_from _ _ _) _ _ (tab_length _ _ _) (sym c.is_full.ensures ∙ c.if-is_full.false) _ _ _ c.first_vote-first.ensures.0 c.requires.2 c.first_vote-first.ensures.1

@@ -7,10 +7,10 @@ use native.Mathlib.Omega.{arith}
 use Rattle.steps.proofs.pr_undecided.Goals as goal
 
 pub overflow_add-visited : goal.overflow_add-visited
-overflow_add-visited c = let s = c.before.before.before.before.before.before.before.before.before in let r = s.requires.0.room in let o = own_most s.args.t.now s.args.n (stamp_of s.args.b.now) s.args.own s.requires.2 in let k = c.waiting_rule-again.ensures.2 in omega arith
+overflow_add-visited c = let r = c.requires.0.room in let o = own_most c.args.t.now c.args.n (stamp_of c.args.b.now) c.args.own c.requires.2 in let k = c.waiting_rule-again.ensures.2 in omega arith
 
 pub overflow_add-visited-in-None : goal.overflow_add-visited-in-None
-overflow_add-visited-in-None c = let s = c.before.before.before.before.before.before.before.before.before in let r = s.requires.0.room in let o = own_most s.args.t.now s.args.n (stamp_of s.args.b.now) s.args.own s.requires.2 in let k = c.first_vote-first.ensures.3 in omega arith
+overflow_add-visited-in-None c = let r = c.requires.0.room in let o = own_most c.args.t.now c.args.n (stamp_of c.args.b.now) c.args.own c.requires.2 in let k = c.first_vote-first.ensures.3 in omega arith
 
 pub returns-in-Commit : goal.returns-in-Commit
 returns-in-Commit c = c.keep.ensures ∙ pr_commit _ _ (box_from _ _ _) _ _ c.in-Commit.is
