@@ -10,9 +10,8 @@ returns-in-Voted c = rw c.in-Voted.is (puts_within c.put_vote.ensures (omega ari
 pub returns-in-Decided : goal.returns-in-Decided
 unfolding answer_text
 returns-in-Decided c =
-    let w = c.before.before.before.before.before.before in
-    let h = puts_text {t = decided_blank} {n = 8} w.put-text.ensures (omega arith) in
-    rw w.before.before.before.before.answer2.given.1
+    let h = puts_text {t = decided_blank} {n = 8} c.put_text-a.ensures (omega arith) in
+    rw c.in-Decided.is
     (puts_within (puts_both h c.put_decision.ensures (omega arith)) (omega arith))
 
 pub returns-in-Logged : goal.returns-in-Logged

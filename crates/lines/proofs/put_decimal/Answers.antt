@@ -19,10 +19,8 @@ slice_bounds-put_text-end c = le_of_eq (sym (spelled_long c.loop-v.invariant _))
 
 pub put_text-requires : goal.put_text-requires
 put_text-requires c =
-    let l = c.before.before.before.before in
-    rw (spelled_all l.loop.invariant (omega arith)) (omega (arith, decimal_short l.before.before.args.x))
+    rw (spelled_all c.loop-v.invariant (omega arith)) (omega (arith, decimal_short c.args.x))
 
 pub returns : goal.returns
 returns c =
-    let l = c.before.before.before.before.before.before.before in
-    puts_text (rw (spelled_all l.loop.invariant (omega arith)) at c.put_text.ensures) (decimal_short _)
+    puts_text (rw (spelled_all c.loop-v.invariant (omega arith)) at c.put_text.ensures) (decimal_short _)

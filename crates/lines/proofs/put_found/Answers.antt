@@ -6,7 +6,4 @@ use Rattle.lines.proofs.put_found.Goals as goal
 pub returns : goal.returns
 unfolding found_text
 returns c =
-    let undecided = c.before.before in
-    let blank = undecided.before.before.before.before in
-    let committed = blank.before.before.before.before.before in
-    puts_apart committed.put-version.ensures blank.put-text.ensures undecided.put-version2.ensures (omega arith)
+    puts_apart c.put_version-a.ensures c.put_text-b.ensures c.put_version.ensures (omega arith)

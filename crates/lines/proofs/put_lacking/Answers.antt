@@ -11,6 +11,5 @@ returns-then-lacking-eq0 c = rw (eq-eqb _ _ c.if-lacking-eq0.true) (puts_none _ 
 pub returns : goal.returns
 unfolding lacking_text
 returns c =
-    let w = c.before.before.before.before.before.before in
-    let h = puts_text {t = blank} {n = 1} w.put-text.ensures (omega arith) in
-    rw (ne_eqb _ _ w.before.before.before.if1.false) (puts_both h c.put_decimal.ensures (omega arith))
+    let h = puts_text {t = blank} {n = 1} c.put_text-a.ensures (omega arith) in
+    rw (ne_eqb _ _ c.if-lacking-eq0.false) (puts_both h c.put_decimal.ensures (omega arith))

@@ -6,13 +6,7 @@ use Rattle.lines.proofs.put_line.Goals as goal
 pub returns : goal.returns
 unfolding line_of
 returns c =
-    let end = c.before.before in
-    let said = end.before.before.before.before.before in
-    let w2 = said.before.before.before.before in
-    let mark = w2.before.before.before.before.before in
-    let w1 = mark.before.before.before.before in
-    let number = w1.before.before.before.before.before in
-    let answer = puts_word line_end said.put-said.ensures end.put-text3.ensures (omega arith) in
-    let rest = puts_apart mark.put-mark.ensures w2.put-text2.ensures answer (omega arith) in
-    let line = puts_within {n = 112} (puts_apart number.put-decimal.ensures w1.put-text.ensures rest (omega arith)) (omega arith) in
+    let answer = puts_word line_end c.put_said-e.ensures c.put_text.ensures (omega arith) in
+    let rest = puts_apart c.put_mark-c.ensures c.put_text-d.ensures answer (omega arith) in
+    let line = puts_within {n = 112} (puts_apart c.put_decimal-a.ensures c.put_text-b.ensures rest (omega arith)) (omega arith) in
     (line.place, line.written, line.short)

@@ -6,9 +6,5 @@ use Rattle.lines.proofs.put_logged.Goals as goal
 pub returns : goal.returns
 unfolding logged_text
 returns c =
-    let value = c.before.before in
-    let blank = value.before.before.before.before.before in
-    let decision = blank.before.before.before.before.before in
-    let word = decision.before.before.before.before in
-    let h = puts_text {t = logged_blank} {n = 7} word.put-text.ensures (omega arith) in
-    puts_both h (puts_apart decision.put-decision.ensures blank.put-text2.ensures value.put-decimal.ensures (omega arith)) (omega arith)
+    let h = puts_text {t = logged_blank} {n = 7} c.put_text-a.ensures (omega arith) in
+    puts_both h (puts_apart c.put_decision-b.ensures c.put_text-c.ensures c.put_decimal.ensures (omega arith)) (omega arith)

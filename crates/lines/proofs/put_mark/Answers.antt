@@ -5,19 +5,17 @@ use native.Mathlib.Omega.{arith}
 use borrow.Author.Rules.{rules}
 use Rattle.lines.proofs.put_mark.Goals as goal
 
-pub part-put-text-end : goal.part-put-text-end
-part-put-text-end c = known_long _ (sym c.is_known.ensures ∙ c.if-is_known.true)
+pub slice_bounds-put_text-end : goal.slice_bounds-put_text-end
+slice_bounds-put_text-end c = known_long _ (sym c.is_known.ensures ∙ c.if-is_known.true)
 
 pub put_text-requires : goal.put_text-requires
 put_text-requires c = let h = known_long _ (sym c.is_known.ensures ∙ c.if-is_known.true) in search rules
 
 pub returns-then-is_known : goal.returns-then-is_known
 returns-then-is_known c =
-    let k = c.before.before.before.before.before in
-    let m = mark_known _ (sym k.before.is_Known.ensures ∙ k.if1.true) in
+    let m = mark_known _ (sym c.is_known.ensures ∙ c.if-is_known.true) in
     rw (← m.0) (puts_text c.put_text.ensures m.1)
 
 pub returns : goal.returns
 returns c =
-    let k = c.before.before.before.before.before in
-    rw (← mark_other _ (sym k.before.is_Known.ensures ∙ k.if1.false)) (puts_text c.put_text-2.ensures (omega arith))
+    rw (← mark_other _ (sym c.is_known.ensures ∙ c.if-is_known.false)) (puts_text c.put_text-2.ensures (omega arith))

@@ -6,7 +6,6 @@ use Rattle.lines.proofs.put_refusal.Goals as goal
 pub returns : goal.returns
 unfolding refusal_text
 returns c =
-    let number = c.before.before.before.before.before.before.before in
-    let h = puts_text {t = refused_blank} {n = 8} number.before.before.before.before.before.put-text.ensures (omega arith) in
-    rw (← number.before.number.ensures, ← c.lacking.ensures)
-    (puts_both h (puts_both number.put-decimal.ensures c.put_lacking.ensures (omega arith)) (omega arith))
+    let h = puts_text {t = refused_blank} {n = 8} c.put_text-a.ensures (omega arith) in
+    rw (← c.number.ensures, ← c.lacking.ensures)
+    (puts_both h (puts_both c.put_decimal-b.ensures c.put_lacking.ensures (omega arith)) (omega arith))

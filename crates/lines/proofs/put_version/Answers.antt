@@ -6,7 +6,4 @@ use Rattle.lines.proofs.put_version.Goals as goal
 pub returns : goal.returns
 unfolding version_text
 returns c =
-    let value = c.before.before in
-    let blank = value.before.before.before.before in
-    let stamp = blank.before.before.before.before.before in
-    puts_apart stamp.put-decimal.ensures blank.put-text.ensures value.put-decimal2.ensures (omega arith)
+    puts_apart c.put_decimal-a.ensures c.put_text-b.ensures c.put_decimal.ensures (omega arith)

@@ -14,9 +14,8 @@ returns-in-Commit c = rw c.in-Commit.is (puts_text c.put_text-in-Commit.ensures 
 pub returns-in-Abort : goal.returns-in-Abort
 unfolding vote_text
 returns-in-Abort c =
-    let w = c.before.before.before.before.before.before.before in
-    rw (w.before.before.before.before.v.given.1, ← c.number.ensures)
-    (puts_both (puts_text {t = abort_blank} {n = 6} w.put-text3.ensures (omega arith)) c.put_decimal.ensures (omega arith))
+    rw (c.in-Abort.is, ← c.number.ensures)
+    (puts_both (puts_text {t = abort_blank} {n = 6} c.put_text-a.ensures (omega arith)) c.put_decimal.ensures (omega arith))
 
 pub returns-in-Waiting : goal.returns-in-Waiting
 unfolding vote_text
