@@ -68,7 +68,7 @@ follows {x} {y} h n (m ∷ ms) =
     let c : Call = record { entry = receive; told = line; message = m } in
     λ i.
     apart_from_number (replied h c refl (omega arith) n i)
-    ∷ follows (kept_on h c refl (omega arith) n) (never_overfull line y receive m n) ms i
+    ∷ follows {x = next_by x c} {y = next y c} (kept_on h c refl (omega arith) n) (never_overfull line y receive m n) ms i
 
 -- ---- the two decisions, on the rules' empty box
 one : Holds (next_by (zeros 8) (committing 8)) (next empty (committing 8))
@@ -143,8 +143,8 @@ unfolding running reply next committing aborting reply_by
 crossed_calls =
     let n = (starts_empty 8).none in
     record {
-      one_new_lem = first_new;
-      other_new_lem = second_new;
+      one_new = first_new;
+      other_new = second_new;
       either =
           calls_commute (zeros 8) (committing 8) (aborting 5) refl refl (λ q. omega arith)
           (record { for_both = λ _ _. omega (arith, n); for_other = λ _ _. omega (arith, n) })
@@ -155,5 +155,5 @@ crossed_calls =
       other_second = one_call_refused (zeros 8) (committing 1) (aborting 1) refl refl (λ q. omega arith) one_new_lem other_new_lem (omega (arith, n));
       one_second = one_call_refused (zeros 8) (aborting 1) (committing 1) refl refl (λ q. omega arith) other_new_lem one_new_lem (omega (arith, n));
       held_first = replied one (committing 1) refl (omega arith) (omega arith);
-      held_second_lem = ap (λ (a : Act). a.answer) (is_refused (committing 1).entry (committing 1).told this_way (committing 1).message 15 crowded);
+      held_second = ap (λ (a : Act). a.answer) (is_refused (committing 1).entry (committing 1).told this_way (committing 1).message 15 crowded);
     }

@@ -290,7 +290,7 @@ module _ {x y : Kept} (k : Kin x y) (c : Call) where
 kin_replies : (x y : Kept) → Kin x y → (cs : List Call) → replies of_calls x cs ≡ replies of_calls y cs
 unfolding replies
 kin_replies x y k [] = refl
-kin_replies x y k (c ∷ cs) = λ i. kin_reply k c i ∷ kin_replies _ _ (kin_next k c) cs i
+kin_replies x y k (c ∷ cs) = λ i. kin_reply k c i ∷ kin_replies (next_by x c) (next_by y c) (kin_next k c) cs i
 
 -- ---- both, in either order
 crossed : (x : Kept) (p q : Call) → IsDC p → IsDC q → (stamp_in p ≡ stamp_in q → ⊥) → RoomBy x p q → RoomBy x q p
