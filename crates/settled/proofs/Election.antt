@@ -1,26 +1,26 @@
 -- Each public function of `election`: its contract settles every call.
 use mathlib.Core.Path.{refl}
 use seplogic.Ra.Ura.{Ura}
-use prog.Wp.{Heap}
+use types.Logic.{Logic}
 use Rattle.settled.specs.Settled.{Settled}
 use Rattle.settled.proofs.Lemma.{settled, one, ◌&◌}
-use Rattle.election.proofs as election
+use Rattle.election.specs.contracts as election
 
-module _ {M : Type 1} (𝓤 : Ura M) (H : Heap 𝓤) where
-  pub heard_values_lem : Settled {𝓤 = 𝓤} _ election.Heard.values.ended (election.Heard.values.spec {𝓤 = 𝓤} _) (election.Heard.values.clauses {𝓤 = 𝓤} _)
-  heard_values_lem mem run = (refl, λ k o o'. settled 𝓤 (λ p q. one p q & refl))
+module _ {M : Type 1} {𝓤 : Ura M} (𝓛 : Logic 𝓤) where
+  pub heard_values : Settled 𝓛 election.Heard.values.ended (election.Heard.values.spec 𝓛) (election.Heard.values.clauses 𝓛)
+  heard_values mem run = (refl, λ k o o'. settled 𝓤 (λ p q. one p q & refl))
 
-  pub said : Settled {𝓤 = 𝓤} _ election.said.ended (election.said.spec {𝓤 = 𝓤} _) (election.said.clauses {𝓤 = 𝓤} _)
+  pub said : Settled 𝓛 election.said.ended (election.said.spec 𝓛) (election.said.clauses 𝓛)
   said mem run = (refl, λ k o o'. settled 𝓤 (λ p q. one p q & refl))
 
-  pub sheet_heard_lem : Settled {𝓤 = 𝓤} _ election.sheet_heard.ended (election.sheet_heard.spec {𝓤 = 𝓤} _) (election.sheet_heard.clauses {𝓤 = 𝓤} _)
-  sheet_heard_lem mem run = (refl, λ k o o'. settled 𝓤 (λ p q. one p q & refl))
+  pub sheet_heard : Settled 𝓛 election.sheet_heard.ended (election.sheet_heard.spec 𝓛) (election.sheet_heard.clauses 𝓛)
+  sheet_heard mem run = (refl, λ k o o'. settled 𝓤 (λ p q. one p q & refl))
 
-  pub gather : Settled {𝓤 = 𝓤} _ election.gather.ended (election.gather.spec {𝓤 = 𝓤} _) (election.gather.clauses {𝓤 = 𝓤} _)
+  pub gather : Settled 𝓛 election.gather.ended (election.gather.spec 𝓛) (election.gather.clauses 𝓛)
   gather mem run = (refl, λ k o o'. settled 𝓤 (λ p q. one p q & refl))
 
-  pub taller : Settled {𝓤 = 𝓤} _ election.taller.ended (election.taller.spec {𝓤 = 𝓤} _) (election.taller.clauses {𝓤 = 𝓤} _)
+  pub taller : Settled 𝓛 election.taller.ended (election.taller.spec 𝓛) (election.taller.clauses 𝓛)
   taller mem run = (refl, λ k o o'. settled 𝓤 (λ p q. (λ i. record { wrong = one p.0 q.0 i; told = one p.1 q.1 i; views = one p.2 q.2 i }) & refl))
 
-  pub listed : Settled {𝓤 = 𝓤} _ election.listed.ended (election.listed.spec {𝓤 = 𝓤} _) (election.listed.clauses {𝓤 = 𝓤} _)
+  pub listed : Settled 𝓛 election.listed.ended (election.listed.spec 𝓛) (election.listed.clauses 𝓛)
   listed mem run = (refl, λ k o o'. settled 𝓤 (λ p q. one p q & refl))

@@ -1,56 +1,56 @@
 -- Each public function of `terms`: its contract settles every call.
 use mathlib.Core.Path.{refl}
 use seplogic.Ra.Ura.{Ura}
-use prog.Wp.{Heap}
+use types.Logic.{Logic}
 use Rattle.settled.specs.Settled.{Settled}
 use Rattle.settled.proofs.Lemma.{settled, one, ◌&◌}
-use Rattle.terms.proofs as terms
+use Rattle.terms.specs.contracts as terms
 
-module _ {M : Type 1} (𝓤 : Ura M) (H : Heap 𝓤) where
-  pub first : Settled {𝓤 = 𝓤} _ terms.first.ended (terms.first.spec {𝓤 = 𝓤} _) (terms.first.clauses {𝓤 = 𝓤} _)
+module _ {M : Type 1} {𝓤 : Ura M} (𝓛 : Logic 𝓤) where
+  pub first : Settled 𝓛 terms.first.ended (terms.first.spec 𝓛) (terms.first.clauses 𝓛)
   first mem run = (refl, λ k o o'. settled 𝓤 (λ p q. one p q & refl))
 
-  pub refuse_if : Settled {𝓤 = 𝓤} _ terms.refuse_if.ended (terms.refuse_if.spec {𝓤 = 𝓤} _) (terms.refuse_if.clauses {𝓤 = 𝓤} _)
+  pub refuse_if : Settled 𝓛 terms.refuse_if.ended (terms.refuse_if.spec 𝓛) (terms.refuse_if.clauses 𝓛)
   refuse_if mem run = (refl, λ k o o'. settled 𝓤 (λ p q. one p q & refl))
 
-  pub decision_number_lem : Settled {𝓤 = 𝓤} _ terms.Decision.number.ended (terms.Decision.number.spec {𝓤 = 𝓤} _) (terms.Decision.number.clauses {𝓤 = 𝓤} _)
-  decision_number_lem mem run = (refl, λ k o o'. settled 𝓤 (λ p q. one p q & refl))
+  pub decision_number : Settled 𝓛 terms.Decision.number.ended (terms.Decision.number.spec 𝓛) (terms.Decision.number.clauses 𝓛)
+  decision_number mem run = (refl, λ k o o'. settled 𝓤 (λ p q. one p q & refl))
 
-  pub refusal_values_lem : Settled {𝓤 = 𝓤} _ terms.Refusal.values.ended (terms.Refusal.values.spec {𝓤 = 𝓤} _) (terms.Refusal.values.clauses {𝓤 = 𝓤} _)
-  refusal_values_lem mem run = (refl, λ k o o'. settled 𝓤 (λ p q. one p q & refl))
+  pub refusal_values : Settled 𝓛 terms.Refusal.values.ended (terms.Refusal.values.spec 𝓛) (terms.Refusal.values.clauses 𝓛)
+  refusal_values mem run = (refl, λ k o o'. settled 𝓤 (λ p q. one p q & refl))
 
-  pub refusal_lacking : Settled {𝓤 = 𝓤} _ terms.Refusal.lacking.ended (terms.Refusal.lacking.spec {𝓤 = 𝓤} _) (terms.Refusal.lacking.clauses {𝓤 = 𝓤} _)
+  pub refusal_lacking : Settled 𝓛 terms.Refusal.lacking.ended (terms.Refusal.lacking.spec 𝓛) (terms.Refusal.lacking.clauses 𝓛)
   refusal_lacking mem run = (refl, λ k o o'. settled 𝓤 (λ p q. one p q & refl))
 
-  pub refusal_number : Settled {𝓤 = 𝓤} _ terms.Refusal.number.ended (terms.Refusal.number.spec {𝓤 = 𝓤} _) (terms.Refusal.number.clauses {𝓤 = 𝓤} _)
+  pub refusal_number : Settled 𝓛 terms.Refusal.number.ended (terms.Refusal.number.spec 𝓛) (terms.Refusal.number.clauses 𝓛)
   refusal_number mem run = (refl, λ k o o'. settled 𝓤 (λ p q. one p q & refl))
 
-  pub refusal_of_lem : Settled {𝓤 = 𝓤} _ terms.Refusal.of.ended (terms.Refusal.of.spec {𝓤 = 𝓤} _) (terms.Refusal.of.clauses {𝓤 = 𝓤} _)
-  refusal_of_lem mem run = (refl, λ k o o'. settled 𝓤 (λ p q. one p q & refl))
+  pub refusal_of : Settled 𝓛 terms.Refusal.of.ended (terms.Refusal.of.spec 𝓛) (terms.Refusal.of.clauses 𝓛)
+  refusal_of mem run = (refl, λ k o o'. settled 𝓤 (λ p q. one p q & refl))
 
-  pub group_wrong_lem : Settled {𝓤 = 𝓤} _ terms.group_wrong.ended (terms.group_wrong.spec {𝓤 = 𝓤} _) (terms.group_wrong.clauses {𝓤 = 𝓤} _)
-  group_wrong_lem mem run = (refl, λ k o o'. settled 𝓤 (λ p q. one p q & refl))
+  pub group_wrong : Settled 𝓛 terms.group_wrong.ended (terms.group_wrong.spec 𝓛) (terms.group_wrong.clauses 𝓛)
+  group_wrong mem run = (refl, λ k o o'. settled 𝓤 (λ p q. one p q & refl))
 
-  pub capacity_wrong_lem : Settled {𝓤 = 𝓤} _ terms.capacity_wrong.ended (terms.capacity_wrong.spec {𝓤 = 𝓤} _) (terms.capacity_wrong.clauses {𝓤 = 𝓤} _)
-  capacity_wrong_lem mem run = (refl, λ k o o'. settled 𝓤 (λ p q. one p q & refl))
+  pub capacity_wrong : Settled 𝓛 terms.capacity_wrong.ended (terms.capacity_wrong.spec 𝓛) (terms.capacity_wrong.clauses 𝓛)
+  capacity_wrong mem run = (refl, λ k o o'. settled 𝓤 (λ p q. one p q & refl))
 
-  pub group_of : Settled {𝓤 = 𝓤} _ terms.Group.of.ended (terms.Group.of.spec {𝓤 = 𝓤} _) (terms.Group.of.clauses {𝓤 = 𝓤} _)
+  pub group_of : Settled 𝓛 terms.Group.of.ended (terms.Group.of.spec 𝓛) (terms.Group.of.clauses 𝓛)
   group_of mem run = (refl, λ k o o'. settled 𝓤 (λ p q. one p q & refl))
 
-  pub group_n : Settled {𝓤 = 𝓤} _ terms.Group.n.ended (terms.Group.n.spec {𝓤 = 𝓤} _) (terms.Group.n.clauses {𝓤 = 𝓤} _)
+  pub group_n : Settled 𝓛 terms.Group.n.ended (terms.Group.n.spec 𝓛) (terms.Group.n.clauses 𝓛)
   group_n mem run = (refl, λ k o o'. settled 𝓤 (λ p q. one p q & refl))
 
-  pub group_commit_list : Settled {𝓤 = 𝓤} _ terms.Group.commit_list.ended (terms.Group.commit_list.spec {𝓤 = 𝓤} _) (terms.Group.commit_list.clauses {𝓤 = 𝓤} _)
+  pub group_commit_list : Settled 𝓛 terms.Group.commit_list.ended (terms.Group.commit_list.spec 𝓛) (terms.Group.commit_list.clauses 𝓛)
   group_commit_list mem run = (refl, λ k o o'. settled 𝓤 (λ p q. one p q & refl))
 
-  pub group_abort_list : Settled {𝓤 = 𝓤} _ terms.Group.abort_list.ended (terms.Group.abort_list.spec {𝓤 = 𝓤} _) (terms.Group.abort_list.clauses {𝓤 = 𝓤} _)
+  pub group_abort_list : Settled 𝓛 terms.Group.abort_list.ended (terms.Group.abort_list.spec 𝓛) (terms.Group.abort_list.clauses 𝓛)
   group_abort_list mem run = (refl, λ k o o'. settled 𝓤 (λ p q. one p q & refl))
 
-  pub group_commit_proof : Settled {𝓤 = 𝓤} _ terms.Group.commit_proof.ended (terms.Group.commit_proof.spec {𝓤 = 𝓤} _) (terms.Group.commit_proof.clauses {𝓤 = 𝓤} _)
+  pub group_commit_proof : Settled 𝓛 terms.Group.commit_proof.ended (terms.Group.commit_proof.spec 𝓛) (terms.Group.commit_proof.clauses 𝓛)
   group_commit_proof mem run = (refl, λ k o o'. settled 𝓤 (λ p q. one p q & refl))
 
-  pub group_abort_proof : Settled {𝓤 = 𝓤} _ terms.Group.abort_proof.ended (terms.Group.abort_proof.spec {𝓤 = 𝓤} _) (terms.Group.abort_proof.clauses {𝓤 = 𝓤} _)
+  pub group_abort_proof : Settled 𝓛 terms.Group.abort_proof.ended (terms.Group.abort_proof.spec 𝓛) (terms.Group.abort_proof.clauses 𝓛)
   group_abort_proof mem run = (refl, λ k o o'. settled 𝓤 (λ p q. one p q & refl))
 
-  pub group_log_proof : Settled {𝓤 = 𝓤} _ terms.Group.log_proof.ended (terms.Group.log_proof.spec {𝓤 = 𝓤} _) (terms.Group.log_proof.clauses {𝓤 = 𝓤} _)
+  pub group_log_proof : Settled 𝓛 terms.Group.log_proof.ended (terms.Group.log_proof.spec 𝓛) (terms.Group.log_proof.clauses 𝓛)
   group_log_proof mem run = (refl, λ k o o'. settled 𝓤 (λ p q. one p q & refl))

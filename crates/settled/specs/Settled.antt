@@ -36,17 +36,15 @@ module _ {M : Type 1} (𝓤 : Ura M) (T : Ended) (c : Clauses 𝓤 T) where
 
 module _ {M : Type 1} {𝓤 : Ura M} (𝓛 : Logic 𝓤) (T : Ended) where
   -- in any ghost state, memory and runs: no contract here speaks of them
-  open 𝓛 use {A}
-
   abbrev pub Any : Type 2 → Type 2
   Any X = (Memory → SProp 𝓤) → (Routine → Fun 𝓤) → X
 
   -- the function's theorem is of `s`, and `c` is what `s` says: the answer and everything lent are settled by it
   abbrev pub Settled : Any (Spec 𝓤 T.signature) → Any (Clauses 𝓤 T) → Type 2
   Settled s c = (mem : Memory → SProp 𝓤) (run : Routine → Fun 𝓤) →
-      (closing 𝓛 T (c A mem run) ≡ s A mem run) × NoSecond 𝓤 T (c A mem run)
+      (closing 𝓛 T (c mem run) ≡ s mem run) × NoSecond 𝓤 T (c mem run)
 
   -- of a part of a slice that is handed back, its bytes: where they stand no contract says, and no caller can ask
   abbrev pub SettledPart : ((κs : Lfts T.signature.lifetimes) → Res T.signature κs → List ℕ) → Any (Spec 𝓤 T.signature) → Any (Clauses 𝓤 T) → Type 2
   SettledPart bytes s c = (mem : Memory → SProp 𝓤) (run : Routine → Fun 𝓤) →
-      (closing 𝓛 T (c A mem run) ≡ s A mem run) × NoSecondSeen 𝓤 T (c A mem run) (λ k. List ℕ × Lasts T k.0 k.1) (λ k o. (bytes k.0 o.0, o.1))
+      (closing 𝓛 T (c mem run) ≡ s mem run) × NoSecondSeen 𝓤 T (c mem run) (λ k. List ℕ × Lasts T k.0 k.1) (λ k o. (bytes k.0 o.0, o.1))
