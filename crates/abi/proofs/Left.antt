@@ -1,13 +1,13 @@
 -- Laws of what is left: by a writer, and in the row of thresholds.
 use Prim.Native.Nat.{ℕ, zero, suc}
-use mathlib.Core.Path.{◌≡◌, refl, ap, sym, ◌∙◌}
+use mathlib.Core.Path.{◌≡◌, refl}
 use mathlib.Core.List.{List}
 use Rattle.terms.specs.Group.{group_wrong}
 use Rattle.records.specs.Writing.{wrote_by, buffer_by}
 use Rattle.records.specs.declared.Written.{Written}
 use Rattle.abi.specs.Rows.{group_row, thresholds_by}
 use Rattle.arrays.specs.Arrays.{written_number, written_length}
-use Rattle.abi.specs.Left.{Left, left, left_by}
+use Rattle.abi.specs.Left.{left, left_by}
 
 -- a writer's answer told, and its buffer
 pub left_by_lem : (n l : ℕ) (b out : List ℕ) (w : Written) (wrong : ℕ) (bytes : List ℕ)

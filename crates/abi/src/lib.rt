@@ -1,6 +1,7 @@
 // The engine for programs in C, or in any language that calls C, on numbers, arrays and slices: a box's calls with the answer as five
 // numbers, what a table holds, records read and written, the tally, the leader's sheet, the thresholds, the passage register.
 #![tactic(auto)]
+
 ghost use Rattle.std.specs.Prelude.{◌≡◌, [], ◌∷◌, length, get_or};
 ghost use Rattle.terms.specs.Group.{group_wrong};
 ghost use Rattle.records.specs.declared.ViewMark.TheVariants.{VS, EL};

@@ -1,5 +1,6 @@
 // The values of records as numbers and arrays, which any language can lend: put together into a transaction and a list, and taken apart.
 #![tactic(auto)]
+
 ghost use Rattle.std.specs.Prelude.{◌≡◌};
 ghost use Rattle.arrays.specs.Arrays.{lent_tx, lent_list, lent_views, written_number, written_length, read_keys, read_versions, write_keys, write_values, pair_numbers, pair_answers, found_number, mark_number, found_stamp, marked_by, head_row, tx_fields, tx_fields_of, fields, fields_of, ballot_numbers, ballot_answers, ballot_views, view_row, view_fields, view_fields_of, list_row, list_fields, list_fields_of};
 

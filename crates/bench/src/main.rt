@@ -1,5 +1,6 @@
 // The bench: records from standard input, a line for each to standard output.
 #![tactic(auto)]
+
 use libc::{STDIN_FILENO, STDOUT_FILENO};
 use records::Written;
 

@@ -3,7 +3,6 @@ use Prim.Native.Nat.{ℕ, ◌≤◌}
 use mathlib.Core.Path.{◌≡◌, refl, ap, sym, ◌∙◌}
 use mathlib.Core.List.{List, map}
 use Rattle.terms.specs.Choice.{tab, any, falls}
-use Rattle.terms.specs.Checks.{or_else, when, range, order}
 use Rattle.terms.proofs.Scans.{tab_map}
 use Rattle.records.specs.declared.Pair.{Pair}
 use Rattle.records.specs.declared.Ballot.{Ballot}

@@ -1,5 +1,6 @@
 // The contents of what was read or is to be written, judged: each check gives its refusal's number, or 0.
 #![tactic(auto)]
+
 ghost use Rattle.std.specs.Prelude.{◌≡◌, ◌≤◌};
 ghost use Rattle.terms.specs.Choice.{tab, any, falls};
 ghost use Rattle.terms.specs.Checks.{when, range, order, misbehaviour, code};

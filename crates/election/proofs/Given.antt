@@ -3,27 +3,26 @@ use Prim.Native.Nat.{ℕ, zero, suc, ◌+◌, ◌*◌, ◌<◌, ◌≤◌}
 use native.Mathlib.Omega.{arith}
 use mathlib.Core.Path.{◌≡◌, refl, ap, sym, ◌∙◌}
 use mathlib.Core.List.{List, [], ◌∷◌, map}
-use mathlib.Core.Bool.{Bool, true, false, not, ◌&&◌, ◌||◌}
-use lib.Dec.{eqb, leb, ltb}
+use mathlib.Core.Bool.{Bool, true, false, not, ◌||◌}
+use lib.Dec.{eqb, ltb}
 use lib.ListN.{length, length-map}
-use borrow.Author.Tests.{eq-eqb, le-ltb, lt-leb, lt-ltb, ltb-false, ltb-true}
+use borrow.Author.Tests.{eq-eqb, lt-leb, lt-ltb, ltb-false, ltb-true}
 use Rattle.terms.specs.Choice.{any, falls, pick}
-use Rattle.terms.specs.Checks.{if_less, if_same, or_else, code, count as few, range}
+use Rattle.terms.specs.Checks.{if_less, if_same, or_else, count as few}
 use Rattle.terms.specs.Group.{boxes, log_proof}
 use Rattle.terms.proofs.Checks.{less_no, pass, same_no, when_no}
 use Rattle.records.specs.declared.Ballot.{Ballot}
 use Rattle.records.specs.declared.Pair.{Pair}
-use Rattle.records.specs.declared.ViewMark.TheVariants.{EL}
 use Rattle.records.specs.Views.{ballot_pair}
 use Rattle.records.specs.Contents.{answer_odd, box_wide, code_wrong, count_wrong, pair_box, views_wrong}
-use Rattle.rules.specs.Bodies.{Body, stamp_of}
+use Rattle.rules.specs.Bodies.{stamp_of}
 use Rattle.rules.specs.Fallback.{ballot_view, leader_of, leads, one_view, take_act}
 use Rattle.rules.specs.Lists.{bit, tally}
 use Rattle.sheet.specs.declared.Sheet.{Sheet}
 use Rattle.sheet.specs.Masks.{has}
 use Rattle.sheet.specs.Sheets.{on}
 use Rattle.sheet.proofs.Below.{below, below_first, below_length, below_map, below_none, below_rises, below_take, below_wide}
-use Rattle.election.specs.Elections.{GivenIsRight, NotRefusedWith23, Right, ballot_on, ballots_on, chosen, election_for, election_wrong, majority, present}
+use Rattle.election.specs.Elections.{GivenIsRight, NotRefusedWith23, ballot_on, chosen, election_for, election_wrong, majority, present}
 use Rattle.rules.proofs.Leading.{leader_box}
 use Rattle.election.proofs.Gathering.{ballots_are, enough_on, small}
 

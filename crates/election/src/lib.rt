@@ -1,5 +1,6 @@
 // The leader's sheet: election answers for one transaction in one view, and the EL made of them; and the views that boxes told, for an IV.
 #![tactic(auto)]
+
 ghost use Rattle.std.specs.Prelude.{◌≡◌, ◌<◌, ◌≤◌, max};
 ghost use Rattle.terms.specs.Choice.{pick, tab};
 ghost use Rattle.terms.specs.Group.{boxes, log_proof};

@@ -21,7 +21,7 @@ use Rattle.table.proofs.Storing.{stored_put, stored_right, stored_low, stored_fo
 use Rattle.low.proofs.Raised.{raised_entries, raised_low, raised_folds, raised_right}
 use Rattle.table.proofs.Checked.{table_count, table_room}
 use Rattle.steps.proofs.Stored.{below, put_entry}
-use Rattle.engine.specs.Outcome.{Kept, kept, box_in, lent_wrong, called, table_by}
+use Rattle.engine.specs.Outcome.{Kept, box_in, lent_wrong, called, table_by}
 use Rattle.engine.specs.Safety.{leaves}
 use Rattle.engine.proofs.Guards.{through, guarded_or}
 use Rattle.engine.proofs.Raised.{body_there, body_long}

@@ -1,7 +1,7 @@
 -- Two boxes that are watched, one along calls and one along the rules: where they answer alike and the one held what the other did, a read of the
 -- one is a read of the other.
 use Prim.Native.Nat.{ℕ}
-use mathlib.Core.Bool.{Bool, not, ◌&&◌, ◌||◌}
+use mathlib.Core.Bool.{Bool, not, ◌&&◌}
 use mathlib.Core.Path.{◌≡◌}
 use mathlib.Core.Logic.{◌⊎◌, inl, inr}
 use mathlib.Core.List.{List, [], ◌∷◌, ◌++◌}

@@ -1,5 +1,5 @@
 -- A10 of calls is not empty: the rules' panel, on tables of zeros.
-use Rattle.std.specs.Prelude.{ℕ, ◌++◌}
+use Rattle.std.specs.Prelude.{◌++◌}
 use Rattle.terms.specs.declared.Decision.TheVariants.{Commit as commit}
 use Rattle.records.specs.Tx.{tx_bytes}
 use Rattle.rules.specs.Cases.{writes}

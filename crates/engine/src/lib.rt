@@ -1,6 +1,7 @@
 // The entry points of a box: one for any message, one where a certain mark is due, one that raises its low mark. Each is 14, 16, the message's refusal,
 // then one act of the rules.
 #![tactic(auto)]
+
 ghost use Rattle.std.specs.Prelude.{◌≡◌, ℕ, ◌≤◌, false, length};
 ghost use Rattle.records.specs.Cutting.{tx_part};
 ghost use Rattle.records.specs.Messages.{due_refusal};

@@ -8,7 +8,7 @@ use mathlib.Core.Bool.{Bool, true, false}
 use mathlib.Core.List.{List, [], ◌∷◌}
 use mathlib.Core.Option.{some, none}
 use lib.Dec.{eqb}
-use lib.ListN.{length, drop}
+use lib.ListN.{drop}
 use Rattle.terms.specs.Choice.{pick, tab}
 use Rattle.rules.specs.Bodies.{stamp_of}
 use Rattle.rules.specs.Table.{Entry, find}

@@ -18,7 +18,7 @@ use Rattle.rules.specs.Table.{find}
 use Rattle.table.specs.declared.State.{State}
 use Rattle.table.specs.Table.{entries_of, entry_of, entry_with, new_count, new_row, place, reason_wrong, row_body, row_wrong, state_at, state_in, stored, table_len, table_wrong}
 use Rattle.held.specs.declared.Holding.{Holding}
-use Rattle.held.specs.Held.{body_by, body_held, found_in, held_by, held_of, held_wrong, holding_of, nothing}
+use Rattle.held.specs.Held.{body_held, found_in, held_by, held_of, held_wrong, holding_of, nothing}
 use Rattle.held.proofs.Stored.{stored_held}
 
 abbrev body : Body

@@ -1,6 +1,7 @@
 // What a lent table holds under a stamp, and its entries one by one: where the body stands in its bytes, and the vote, log, view and decision beside it. A gateway that finishes
 // what another began gets the body from a box's host, which reads it off its table with this.
 #![tactic(auto)]
+
 ghost use Rattle.std.specs.Prelude.{◌≡◌, ◌+◌, ◌*◌, ◌≤◌, ◌<◌, drop, length};
 ghost use Rattle.std.proofs.Math.Option.{some};
 ghost use Rattle.table.specs.Table.{head_len, row_len, body_at, count_of, entry_of, WfRow, Wf};

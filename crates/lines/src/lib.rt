@@ -1,5 +1,6 @@
 // The bench's lines: a record's number, its mark, and what was said of it, as text put down in a lent buffer.
 #![tactic(auto)]
+
 ghost use Rattle.std.specs.Prelude.{◌≡◌, ◌+◌, ◌≤◌, length};
 ghost use Rattle.lines.specs.Lines.{decimal, decision_text, vote_text, version_text, found_text, lacking_text, refusal_text, logged_text, elected_text, answer_text, said_text, is_message, known, mark_text, line_of, put_at, Puts};
 

@@ -2,7 +2,7 @@
 use Prim.Native.Nat.{ℕ, suc, ◌+◌, ◌*◌, ◌-◌, ◌<◌, ◌≤◌, zero-le}
 use native.Mathlib.Omega.{arith}
 use mathlib.Core.Path.{◌≡◌, refl, ap, sym, ◌∙◌}
-use mathlib.Core.List.{List, [], ◌++◌, append_assoc}
+use mathlib.Core.List.{List, ◌++◌, append_assoc}
 use borrow.Rule.Slice.PartMut.{mid_of, put_mid, put_same}
 use lib.ListN.{length, take, drop, get_or, set, length-set, length-drop}
 use lib.Seq.{drop_at, drop-drop, drop-paste, get_or-drop, length-take-le, paste, paste-suc, paste-zero, take-add}

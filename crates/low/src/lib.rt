@@ -1,5 +1,6 @@
 // The low mark of a lent table: the check that gives 18 and 19, and the raise, which folds what is committed and drops all at or below it.
 #![tactic(auto)]
+
 ghost use Rattle.std.specs.Prelude.{◌≡◌, ℕ, ◌+◌, ◌*◌, ◌<◌, ◌≤◌, List, length, drop};
 ghost use Rattle.terms.specs.Choice.{any};
 ghost use Rattle.records.specs.Tx.{TxThere};

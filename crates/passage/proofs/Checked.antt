@@ -2,7 +2,6 @@
 use Prim.Native.Nat.{ℕ, zero, suc, ◌+◌, ◌-◌, ◌≤◌}
 use mathlib.Core.Path.{◌≡◌, refl}
 use borrow.Author.Tests.{eq-eqb, ne_eqb}
-use Rattle.terms.specs.Checks.{direction}
 use Rattle.terms.specs.Refusals.{refusal_of}
 use Rattle.terms.proofs.Checks.{first_none, rest_none, not_less}
 use Rattle.passage.specs.declared.Values.{Values}

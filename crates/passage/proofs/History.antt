@@ -21,7 +21,7 @@ use Rattle.rules.proofs.Trace.{table, low, folds, Step, still, arrives, lifts, L
 use Rattle.rules.proofs.Local.{local}
 use Rattle.passage.specs.Register.{version_at, Takes, Taken, LetGo, Stands, TakenBelow, NewestTaken, never, top}
 use Rattle.passage.specs.Register.{TakenStands, StandsTaken, AllStand, TakenOnce, ShowsTaken}
-use Rattle.passage.proofs.Newest.{Fits, committed, Newest, no_one, this, newest_is}
+use Rattle.passage.proofs.Newest.{Fits, Newest, no_one, this, newest_is}
 use Rattle.passage.proofs.Boxes.{shown}
 use Rattle.passage.proofs.Taking.{Held, stays, taken_now}
 use Rattle.passage.proofs.Coming.{committed_taken}

@@ -1,5 +1,6 @@
 // The passage register: four keys as one product. What is seen of a passage is judged, reported from the leading end, corrected, entered.
 #![tactic(auto)]
+
 ghost use Rattle.std.specs.Prelude.{◌≡◌, ◌≤◌, ◌<◌};
 ghost use Rattle.records.specs.Tx.{held_tx, no_tx};
 ghost use Rattle.records.specs.Contents.{tx_wrong};

@@ -1,7 +1,7 @@
 -- Answers by their number: the value, or the number only.
 use Prim.Native.Nat.{ℕ, zero, suc, ◌≤◌}
 use native.Mathlib.Omega.{arith}
-use mathlib.Core.Path.{◌≡◌, refl, ap, sym, ◌∙◌}
+use mathlib.Core.Path.{◌≡◌, refl, ap, ◌∙◌}
 use mathlib.Core.List.{List, [], ◌∷◌}
 use mathlib.Core.Logic.{inl, inr}
 use types.Run.{OneOf}
@@ -28,7 +28,7 @@ use Rattle.records.specs.Cutting.{carrier, tx_part, list_part}
 use Rattle.records.specs.Messages.{list_behind, views_behind, tx_reading_by, vl_reading_by, views_reading_by, refused_reading, message_tx, message_list, message_views, message_key, message_stamp, contents_wrong, due_refusal, reading_by, read_due, read_marked, reading_after}
 use Rattle.records.proofs.Held.{tx_in_lem, list_in_lem, own_view, views_in_lem, own_views_lem}
 use Rattle.records.specs.contracts.Mark as M
-use Rattle.reading.specs.Judging.{tx_reading_of, vl_reading_of, views_reading_of, no_lists, list_alone, views_alone, reading_of, early, list_wrong_in, listed_wrong, judged_by}
+use Rattle.reading.specs.Judging.{tx_reading_of, vl_reading_of, views_reading_of, list_alone, views_alone, reading_of, early, list_wrong_in, listed_wrong, judged_by}
 use Rattle.reading.specs.declared.Lists.{Lists}
 use Rattle.reading.proofs.Cuts.{Listed, by_list}
 

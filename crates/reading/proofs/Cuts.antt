@@ -10,7 +10,7 @@ use lib.ListN.{length, take, drop, length-take}
 use lib.Seq.{get_or-take}
 use lib.Dec.{ltb}
 use Rattle.terms.specs.Checks.{or_else, when, if_less, short}
-use Rattle.terms.specs.Group.{group_wrong, largest_f}
+use Rattle.terms.specs.Group.{largest_f}
 use Rattle.terms.proofs.Checks.{first_none, rest_none, not_less}
 use Rattle.terms.proofs.Groups.{group_small}
 use Rattle.records.specs.declared.Mark.{Mark}
@@ -18,10 +18,10 @@ use Rattle.records.specs.declared.Mark.TheVariants.{PR, LG, DC, RD, IV, LD}
 use Rattle.records.specs.declared.ViewMark.{ViewMark}
 use Rattle.records.specs.declared.ViewMark.TheVariants.{VS, EL}
 use Rattle.records.specs.Tx.{r_count, w_count, tx_len, TxThere}
-use Rattle.records.specs.Vl.{vl_count, vl_len, VlThere}
+use Rattle.records.specs.Vl.{VlThere}
 use Rattle.records.specs.Views.{ballots_from, views_count, views_len, ViewsThere}
 use Rattle.records.specs.Contents.{counts_wrong, count_wrong}
-use Rattle.records.specs.Cutting.{mark_bytes, mark_wrong, tx_cut, vl_cut, views_cut, behind_wrong, behind_mark, carrier, tx_part, list_part, listed_cut, viewed_cut, rest_cut, message_cut, listed_len, viewed_len, message_len, rd_len}
+use Rattle.records.specs.Cutting.{mark_wrong, tx_cut, vl_cut, views_cut, behind_wrong, behind_mark, carrier, tx_part, list_part, listed_cut, viewed_cut, rest_cut, message_cut, listed_len, viewed_len, message_len, rd_len}
 use Rattle.records.specs.contracts.Mark as M
 use Rattle.reading.specs.Judging.{early}
 

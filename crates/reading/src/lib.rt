@@ -1,5 +1,6 @@
 // Any bytes read as a record: cut in the paper's order, then the contents judged; the value, or the first refusal.
 #![tactic(auto)]
+
 ghost use Rattle.std.specs.Prelude.{◌≡◌, ◌≤◌, length, drop};
 ghost use Rattle.records.specs.declared.Mark.TheVariants.{PR, RD};
 ghost use Rattle.records.specs.Tx.{tx_of, held_tx, no_tx, TxThere};

@@ -1,7 +1,7 @@
 -- "Then contents: all of TX for 5, then 6, then 7; a list .. for 8, then 5, then 6. RD has 5". A VS has 5, then 6.
-use Rattle.std.specs.Prelude.{ℕ, ◌+◌, Bool, true, false, ◌||◌, List, map, eqb, ltb, leb}
+use Rattle.std.specs.Prelude.{ℕ, ◌+◌, Bool, ◌||◌, List, map, eqb, ltb, leb}
 use Rattle.terms.specs.Choice.{any, falls}
-use Rattle.terms.specs.Checks.{or_else, when, if_less, if_same, if_other, count, range, order, misbehaviour, code}
+use Rattle.terms.specs.Checks.{or_else, when, if_less, if_same, count, range, order, misbehaviour, code}
 use Rattle.terms.specs.Group.{boxes}
 use Rattle.records.specs.declared.Read.{Read}
 use Rattle.records.specs.declared.Write.{Write}

@@ -1,5 +1,5 @@
 -- What the reading of any bytes answers: the record's value, or the first refusal.
-use Rattle.std.specs.Prelude.{ℕ, zero, suc, Bool, true, false, ◌&&◌, List, [], length, get_or, eqb, ltb}
+use Rattle.std.specs.Prelude.{ℕ, zero, suc, Bool, ◌&&◌, List, [], length, get_or, eqb, ltb}
 use Rattle.terms.specs.Choice.{pick}
 use Rattle.terms.specs.Checks.{or_else, short, mark}
 use Rattle.terms.specs.Group.{group_wrong}

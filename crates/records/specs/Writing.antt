@@ -1,5 +1,5 @@
 -- "Writers check 3, the content order without 15, then 17, and write the record's bytes and no others".
-use Rattle.std.specs.Prelude.{ℕ, zero, suc, ◌+◌, ◌*◌, List, [], ◌∷◌, ◌++◌, length, drop}
+use Rattle.std.specs.Prelude.{ℕ, zero, suc, List, ◌++◌, length, drop}
 use Rattle.terms.specs.Checks.{or_else, if_less, mark, buffer}
 use Rattle.terms.specs.Refusals.{refusal_of}
 use Rattle.terms.specs.Group.{group_wrong}

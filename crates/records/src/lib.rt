@@ -1,5 +1,6 @@
 // The records' values: a transaction, a list of answers, and what reading and writing answer. Numbers are little-endian.
 #![tactic(auto)]
+
 ghost use Rattle.std.specs.Prelude.{◌≡◌, ◌+◌, ◌*◌, ◌<◌, ◌≤◌, length, get_or};
 ghost use Rattle.records.specs.Numbers.{num_at, le_bytes};
 ghost use Rattle.records.specs.Tx.{read_at, write_at, padded, zero_read, zero_write, tx_len, tx_of, held_tx, TxThere};

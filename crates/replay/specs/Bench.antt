@@ -1,5 +1,5 @@
 -- 01, 'Bench program', in its order: from the bytes read to the text printed.
-use Rattle.std.specs.Prelude.{ℕ, zero, suc, ◌+◌, Bool, true, false, ◌||◌, List, [], ◌∷◌, ◌++◌, length, get_or, take, drop, eqb, ltb}
+use Rattle.std.specs.Prelude.{ℕ, zero, suc, ◌+◌, Bool, false, ◌||◌, List, [], ◌∷◌, ◌++◌, length, get_or, take, drop, eqb, ltb}
 use Rattle.terms.specs.Choice.{pick}
 use Rattle.terms.specs.Checks.{or_else, if_less, short, buffer}
 use Rattle.terms.specs.Refusals.{refusal_of, number_of}

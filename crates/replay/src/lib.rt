@@ -1,5 +1,6 @@
 // The bench's work: from the bytes of its records to the lines of their answers, in a lent buffer.
 #![tactic(auto)]
+
 ghost use Rattle.std.specs.Prelude.{◌≡◌, ◌≤◌, length, get_or};
 ghost use Rattle.terms.specs.Checks.{if_less, short};
 ghost use Rattle.records.specs.Writing.{wrote_by, buffer_by};

@@ -1,5 +1,6 @@
 // The five thresholds as five rows of five numbers, one row for each f, held against the group's own.
 #![tactic(auto)]
+
 ghost use Rattle.std.specs.Prelude.{◌≤◌};
 
 use libc::STDOUT_FILENO;

@@ -14,7 +14,6 @@ use Rattle.terms.proofs.Checks.{first_none, rest_none, when_none}
 use Rattle.records.specs.declared.Pair.{Pair}
 use Rattle.records.specs.Vl.{Vl}
 use Rattle.records.specs.Contents.{list_wrong, code_wrong, boxes_wrong, box_wide, pair_box, answer_odd}
-use Rattle.rules.specs.Answers.{Found}
 use Rattle.rules.specs.Lists.{bit, tally}
 use Rattle.rules.specs.Act.{after}
 use Rattle.rules.specs.System.{how_many}

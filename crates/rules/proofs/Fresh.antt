@@ -3,7 +3,6 @@ use Prim.Native.Nat.{ℕ}
 use mathlib.Core.Path.{◌≡◌, refl, sym, ◌∙◌}
 use mathlib.Core.Logic.{◌⊎◌, inl, inr}
 use mathlib.Core.Option.{Option, some, none}
-use mathlib.Core.List.Memᴰ.{head as here}
 use mathlib.Core.List.{List, Memᴰ as In}
 use lib.Dec.{T}
 use Rattle.records.specs.Vl.{Vl}

@@ -1,5 +1,5 @@
 -- What a list lacks of its threshold: 1 to the threshold where it misses it, 0 where it meets it; and what a box then tells.
-use Prim.Native.Nat.{ℕ, ◌-◌, ◌<◌, ◌≤◌}
+use Prim.Native.Nat.{ℕ}
 use mathlib.Core.Bool.{Bool, true, false}
 use mathlib.Core.Path.{◌≡◌, refl}
 use native.Mathlib.Omega.{arith}

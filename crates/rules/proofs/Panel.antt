@@ -1,16 +1,16 @@
 -- The traces of specs/Panel, by computation.
 use Prim.Native.Nat.{ℕ, zero, suc, ◌<◌}
-use mathlib.Core.Bool.{not, ◌||◌}
+use mathlib.Core.Bool.{◌||◌}
 use mathlib.Core.Path.{◌≡◌, refl}
 use mathlib.Core.Logic.{◌⊎◌, inl, inr}
 use mathlib.Core.List.{List, [], ◌++◌}
 use native.Mathlib.Omega.{arith}
-use lib.Dec.{T, eqb, eqb→eq, ltb, ltb→lt}
+use lib.Dec.{T, eqb, ltb, ltb→lt}
 use Rattle.terms.specs.Group.{boxes}
 use Rattle.terms.specs.declared.Refusal.TheVariants.{TooFew}
 use Rattle.records.specs.Tx.{tx_bytes}
 use Rattle.rules.specs.Answers.{ReadMark, Refused, apart_from_number, commit, votes}
-use Rattle.rules.specs.Bodies.{Body, stamp_of, writes_key}
+use Rattle.rules.specs.Bodies.{stamp_of, writes_key}
 use Rattle.rules.specs.Act.{receive}
 use Rattle.rules.specs.System.{Event, Fair, Sound, answer_to, gave, how_many, vote}
 use Rattle.rules.specs.SlipUnder.{NoneHeld, NoneShown, asks, ever_held, holds, is_found, is_rd, read_without, reads_now, shown_below, shows_below, shows_now, watched}

@@ -1,6 +1,6 @@
 -- A10: after its answer a box that had not held, or does not show, a body below the stamp accepts it no more; 3f + 1 such boxes leave too few that do.
 use Prim.Native.Nat.{ℕ, ◌+◌, ◌*◌, ◌≤◌, ◌<◌}
-use mathlib.Core.Bool.{Bool, not, ◌&&◌, ◌||◌}
+use mathlib.Core.Bool.{Bool, not}
 use mathlib.Core.Path.{◌≡◌, refl, ◌∙◌, ap}
 use mathlib.Core.Logic.{◌⊎◌, inl, inr}
 use mathlib.Core.List.{List, [], ◌∷◌, ◌++◌}
@@ -20,7 +20,7 @@ use Rattle.rules.specs.Tests.{test5}
 use Rattle.rules.specs.Calls.{Act, look_act, raises, rd_answer}
 use Rattle.rules.specs.Act.{act, after, box_after, mark_by, marks_after, raise, table_after}
 use Rattle.rules.specs.System.{Event, Fair, Proof, Sound, Word, answer_to, box_at, gave, gives_now, how_many, is_word, told_at, vote, word_in}
-use Rattle.rules.specs.SlipUnder.{NoneHeld, NoneShown, NothingComesBetween, NothingSlipsUnder, Watched, asks, ever_held, holds, is_found, is_rd}
+use Rattle.rules.specs.SlipUnder.{NothingComesBetween, NothingSlipsUnder, Watched, asks, ever_held, holds, is_found, is_rd}
 use Rattle.rules.specs.SlipUnder.{read_without, reads_now, shown_below, shows_below, shows_now, watched}
 use Rattle.rules.proofs.Laws.{ands, any_found, any_of, find_in, lt_cases, no_both, or_cases, or_l, or_r, pick_true, same_body_refl}
 use Rattle.rules.proofs.Counting.{meet}

@@ -12,7 +12,7 @@ use Rattle.terms.proofs.Checks.{first_none, rest_none, when_none}
 use Rattle.records.specs.declared.Read.{Read}
 use Rattle.records.specs.Tx.{tx_of, read_key, read_version}
 use Rattle.records.specs.Contents.{tx_wrong, too_new, largest_key, read_wide}
-use Rattle.rules.specs.Answers.{Decision, commit, abort, Reason, Ahead, NoVersion, Overwritten, Undercuts, ReadMark, Dependency, Vote, waiting, Settled, settled, unsettled}
+use Rattle.rules.specs.Answers.{commit, abort, Reason, Ahead, NoVersion, Overwritten, Undercuts, ReadMark, Dependency, Vote, waiting, Settled, settled, unsettled}
 use Rattle.rules.specs.Answers.{voteCommit, voteAbort}
 use Rattle.rules.specs.Bodies.{Body, stamp_of, reads_of, writes_key}
 use Rattle.rules.specs.Table.{Entry, Box, Told, find, folded_at, live}

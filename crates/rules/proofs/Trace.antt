@@ -4,7 +4,6 @@ use mathlib.Core.Bool.{not, ◌&&◌}
 use mathlib.Core.Path.{◌≡◌, refl, ◌∙◌, ap}
 use mathlib.Core.Logic.{◌⊎◌, inl, inr}
 use mathlib.Core.Option.{some, none}
-use mathlib.Core.List.Memᴰ.{head as here}
 use mathlib.Core.List.{List, ◌∷◌, Memᴰ as In}
 use lib.Dec.{T, eqb, eqb→eq}
 use Rattle.rules.specs.Answers.{Version, unsettled}

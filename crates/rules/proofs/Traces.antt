@@ -28,7 +28,7 @@ use Rattle.records.specs.Cutting.{tx_part}
 use Rattle.records.specs.Messages.{due_refusal, list_behind, views_behind}
 use Rattle.rules.specs.Act.{EntryPoint, mark_by, due, receive}
 use Rattle.rules.specs.Fallback.{ballot_view}
-use Rattle.rules.specs.System.{Event, answer_to, log, elect, word, gave, given_in, how_many, Backed, BackedBy, ChosenBy, Carries, HonestBy, Honest, Fair, Proof, written}
+use Rattle.rules.specs.System.{Event, answer_to, log, elect, word, gave, given_in, how_many, Backed, BackedBy, ChosenBy, Carries, HonestBy, Honest, Fair, Proof}
 use Rattle.rules.specs.Cases.{PR, dc, iv, logs_at, pairs, reads, seen, writes}
 use Rattle.rules.specs.Traces.{liar, at, each, with_liar, busy, Busy, passage, correction, doubled, incident, Incident, NamedOnce, busy_first, busy_then}
 use Rattle.rules.specs.Traces.{torn, invoked, elected, rescued, proved, finished, Rescue, minority, fewer, other_view, misled, relieved, Misled}

@@ -20,7 +20,7 @@ use Rattle.records.specs.Messages.{list_behind, rd_key, rd_stamp, views_behind}
 use Rattle.records.specs.Tx.{read_key, read_version, write_key}
 use Rattle.records.specs.Vl.{Vl}
 use Rattle.records.specs.Views.{Views}
-use Rattle.rules.specs.Answers.{Answer, Decision, Dependency, Raised, Version, apart_from_number, Settled, Vote, settled, unsettled, unvoted, voteAbort, voteCommit, waiting}
+use Rattle.rules.specs.Answers.{Decision, Dependency, Raised, Version, apart_from_number, Settled, Vote, settled, unsettled, unvoted, voteAbort, voteCommit, waiting}
 use Rattle.rules.specs.Bodies.{Body, reads_of, same_body, stamp_of, writes_of}
 use Rattle.rules.specs.Lists.{decision_of}
 use Rattle.rules.specs.Table.{Box, Entry, Told, find, fold_at, folded_at, limit, live}

@@ -1,5 +1,5 @@
 -- What a box answers: for every case of each enum the paper's number and values.
-use Rattle.std.specs.Prelude.{ℕ, Bool, true, false, List, [], ◌∷◌}
+use Rattle.std.specs.Prelude.{ℕ, List, [], ◌∷◌}
 use Rattle.terms.specs.Refusals.{number_of, lacking_of}
 pub use Rattle.terms.specs.declared.Decision.{Decision}
 pub use Rattle.terms.specs.declared.Decision.TheVariants.{Commit as commit, Abort as abort}

@@ -3,7 +3,7 @@ use Rattle.std.specs.Prelude.{ℕ, Bool, true, false, ◌&&◌, List, [], ◌∷
 use Rattle.terms.specs.Choice.{any}
 use Rattle.records.specs.declared.Read.{Read}
 use Rattle.records.specs.declared.Write.{Write}
-use Rattle.records.specs.Tx.{Tx, tx_of, write_key}
+use Rattle.records.specs.Tx.{tx_of, write_key}
 
 -- "the transaction's bytes inside the message .. as they stand"
 abbrev pub Body : Type 0

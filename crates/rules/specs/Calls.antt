@@ -1,5 +1,5 @@
 -- PR, LG, DC and RD: what each answers and stores, once the message is read. Refusals 9 to 13, 15 and 18 stand here.
-use Rattle.std.specs.Prelude.{ℕ, zero, suc, Bool, true, false, not, ◌&&◌, List, [], ◌∷◌, eqb, ltb, leb, length}
+use Rattle.std.specs.Prelude.{ℕ, zero, suc, Bool, true, false, ◌&&◌, List, [], ◌∷◌, eqb, ltb, leb, length}
 use Rattle.std.proofs.Math.Option.{Option, some, none}
 use Rattle.terms.specs.Choice.{pick}
 use Rattle.terms.specs.Checks.{if_less, when, ahead, old}

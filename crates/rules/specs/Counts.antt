@@ -2,9 +2,8 @@
 use Rattle.std.specs.Prelude.{ℕ, ◌≡◌, List, [], ◌∷◌, map}
 use Rattle.terms.specs.declared.Refusal.TheVariants.{OtherBody}
 use Rattle.records.specs.declared.Read.{Read}
-use Rattle.records.specs.declared.Write.{Write}
 use Rattle.records.specs.Tx.{Tx}
-use Rattle.rules.specs.Answers.{Ahead, Answer, Decided, Dependency, NoVersion, Overwritten, ReadMark, Reason, Refused, Undercuts, Vote, Voted}
+use Rattle.rules.specs.Answers.{Ahead, Answer, Decided, Dependency, NoVersion, Overwritten, ReadMark, Reason, Refused, Undercuts, Voted}
 use Rattle.rules.specs.Answers.{abort, commit, settled, unsettled, unvisited, unvoted, visited, voteAbort, voteCommit, waiting}
 use Rattle.rules.specs.Table.{Entry}
 use Rattle.rules.specs.Act.{act, receive}

@@ -6,7 +6,7 @@ use Rattle.terms.specs.Group.{abort_list, boxes, commit_list, log_proof}
 use Rattle.terms.specs.declared.Refusal.TheVariants.{OtherBody, Passed, NotLogged, Election, LastView}
 use Rattle.records.specs.declared.Ballot.{Ballot}
 use Rattle.records.specs.Views.{Views, ballot_pair}
-use Rattle.rules.specs.Answers.{Decided, Decision, Elected, Log, Settled, View, log_view, logged, settled, unlogged, unsettled, view_as}
+use Rattle.rules.specs.Answers.{Decided, Decision, Elected, Log, Settled, log_view, logged, settled, unlogged, unsettled, view_as}
 use Rattle.rules.specs.Bodies.{Body, same_body, stamp_of}
 use Rattle.rules.specs.Lists.{bit, decision_of, tally}
 use Rattle.rules.specs.Table.{Box, Told, Entry, find, log_in, view_in}

@@ -1,5 +1,5 @@
 -- DEMAND 3: many boxes under the rules, any messages in any order, and what is claimed of them. A trace lists what happened, the newest first.
-use Rattle.std.specs.Prelude.{ℕ, zero, suc, ◌+◌, ◌≤◌, ◌<◌, Bool, true, false, not, ◌&&◌, ◌||◌, ◌≡◌, T, eqb}
+use Rattle.std.specs.Prelude.{ℕ, zero, suc, ◌+◌, ◌≤◌, ◌<◌, Bool, false, not, ◌&&◌, ◌||◌, ◌≡◌, T, eqb}
 use mathlib.Core.List.{List, [], ◌∷◌, Memᴰ as In}
 use Rattle.std.proofs.Math.Option.{Option, some, none}
 use Rattle.terms.specs.Choice.{pick}

@@ -3,7 +3,7 @@ use Rattle.std.specs.Prelude.{ℕ, ◌+◌, Bool, true, false, List, [], ◌∷�
 use Rattle.std.proofs.Math.Option.{Option, some, none}
 use Rattle.terms.specs.Choice.{pick}
 pub use Rattle.rules.specs.declared.Told.{Told}
-use Rattle.rules.specs.Answers.{Log, Version, View, logged, unlogged, view_as}
+use Rattle.rules.specs.Answers.{Log, Version, View, unlogged, view_as}
 use Rattle.rules.specs.Answers.{Settled, Vote, abort, commit, settled, unsettled, unvoted, voteAbort, voteCommit, waiting}
 use Rattle.rules.specs.Bodies.{Body, stamp_of}
 

@@ -1,5 +1,6 @@
 // What a box answers: votes with their reasons, and the answer to each call; and the leader of a view. The rules of a box stand in specs/, their theorem in proofs/.
 #![tactic(auto)]
+
 ghost use Rattle.std.specs.Prelude.{◌≡◌, ◌≤◌};
 ghost use Rattle.rules.specs.Answers.{reason_number, vote_number, vote_reason, settled_number, log_number, log_view, visited_told, visited_number};
 ghost use Rattle.rules.specs.Fallback.{leader_of};

@@ -1,5 +1,6 @@
 // The scans of a box's table that the rules need: the five tests of a PR, the waiting rule, the first vote, and what RD finds.
 #![tactic(auto)]
+
 ghost use Rattle.std.specs.Prelude.{◌≡◌, ◌||◌, false, ℕ, ◌+◌, ◌*◌, ◌≤◌, ltb, eqb, length, get_or, []};
 ghost use Rattle.std.proofs.Math.Option.{Option, some};
 ghost use Rattle.terms.specs.Choice.{any};

@@ -1,5 +1,6 @@
 // The gateway's tally sheet: for one transaction and one kind, which box has answered what. Counts are always taken from the masks.
 #![tactic(auto)]
+
 ghost use Rattle.std.specs.Prelude.{◌≡◌, false, ◌-◌, ◌<◌, ◌≤◌, ◌^◌, leb};
 ghost use Rattle.terms.specs.Choice.{any};
 ghost use Rattle.records.specs.Vl.{held_list};

@@ -1,10 +1,9 @@
 -- PR, LG, DC, IV and LD by what is held under the message's stamp.
-use Prim.Native.Nat.{ℕ, ◌<◌, ◌≤◌}
+use Prim.Native.Nat.{ℕ}
 use mathlib.Core.Path.{◌≡◌, refl, sym, ap, ◌∙◌}
 use mathlib.Core.Bool.{Bool, true, false}
 use mathlib.Core.Option.{Option, some, none}
 use lib.Dec.{T}
-use lib.ListN.{length}
 use Rattle.terms.specs.Choice.{pick}
 use Rattle.terms.specs.declared.Decision.{Decision}
 use Rattle.terms.specs.declared.Kind.{Kind}
@@ -25,11 +24,9 @@ use Rattle.rules.specs.Calls.{Act, refuse, needing, pr_by_decision, pr_by_entry,
 use Rattle.rules.specs.Fallback.{iv_by_decision, iv_by_entry, iv_rule, ld_by_decision, ld_by_entry, ld_rule}
 use Rattle.rules.proofs.Laws.{same_body_eq}
 use Rattle.rules.proofs.Lacking.{few as too_few, enough as not_few}
-use Rattle.terms.proofs.Scans.{tab_length}
-use Rattle.table.specs.declared.State.{State}
-use Rattle.table.specs.Table.{entry_at, entries, entry_with, state_in, place}
+use Rattle.table.specs.Table.{entry_with, state_in, place}
 use Rattle.steps.specs.declared.Held.{Held}
-use Rattle.steps.specs.declared.Held.TheVariants.{Not, Same, Other}
+use Rattle.steps.specs.declared.Held.TheVariants.{Same, Other}
 use Rattle.steps.specs.declared.Look.{Look}
 use Rattle.steps.specs.declared.Step.{Step}
 use Rattle.steps.specs.Step.{change_by, step_by, kept, put, held_by, look_of, pr_by, lg_by, dc_by, dc_proved, iv_by, ld_by}

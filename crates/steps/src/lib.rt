@@ -1,5 +1,6 @@
 // PR, LG, DC, RD, IV and LD over the rows of a table: what each does, as one step by value. One other function applies it.
 #![tactic(auto)]
+
 ghost use Rattle.std.specs.Prelude.{◌≡◌, List, ◌&&◌, map, ℕ, max, ◌≤◌, leb, ltb, length};
 ghost use Rattle.std.proofs.Math.Option.{Option, some, none};
 ghost use Rattle.terms.specs.Choice.{pick};

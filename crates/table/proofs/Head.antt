@@ -1,14 +1,13 @@
 -- The head of a table: what the bytes of a key's fold say is the key's folded version.
-use Prim.Native.Nat.{ℕ, ◌+◌, ◌*◌, ◌<◌, ◌≤◌}
+use Prim.Native.Nat.{ℕ, ◌+◌, ◌<◌, ◌≤◌}
 use native.Mathlib.Omega.{arith}
-use mathlib.Core.Path.{◌≡◌, refl, ap, sym, ◌∙◌}
+use mathlib.Core.Path.{◌≡◌, ap, ◌∙◌}
 use mathlib.Core.List.{List}
 use lib.ListN.{length, get_or-eq_default}
 use Rattle.terms.specs.Choice.{tab}
 use Rattle.terms.proofs.Scans.{tab_get, tab_length}
-use Rattle.records.specs.Numbers.{num_at}
 use Rattle.rules.specs.Table.{fold_at, no_version}
-use Rattle.table.specs.Table.{folds_at, fold_len, fold_in, folds_of}
+use Rattle.table.specs.Table.{fold_in, folds_of}
 
 pub fold_there : (t : List ℕ) (k : ℕ) → k ≤ 511 → fold_at (folds_of t) k ≡ fold_in t k
 unfolding folds_of

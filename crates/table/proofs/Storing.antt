@@ -1,5 +1,5 @@
 -- A row that is stored is an entry that is put into the table of the rules, and the table is taken as before.
-use Prim.Native.Nat.{ℕ, ◌+◌, ◌*◌, ◌-◌, ◌<◌, ◌≤◌}
+use Prim.Native.Nat.{ℕ, ◌+◌, ◌*◌, ◌<◌, ◌≤◌}
 use native.Mathlib.Omega.{arith}
 use mathlib.Core.Bool.{Bool, true, false}
 use mathlib.Core.Path.{◌≡◌, refl, ap, sym, ◌∙◌}
@@ -24,7 +24,7 @@ use Rattle.table.specs.Table.{vote_wrong, row_wrong, row_bad, table_wrong, place
 use Rattle.table.proofs.Bodies.{num_take, num_set}
 use Rattle.table.proofs.Checked.{any_false, row_long, table_room, table_count, row_right}
 use Rattle.table.proofs.Coding.{vote_back, settled_back, view_back, log_back, vote_small, reason_right, settled_small, log_small}
-use Rattle.table.proofs.Placing.{own, long, other, entries_put, entries_push, put_held, put_new, place_within}
+use Rattle.table.proofs.Placing.{own, other, entries_put, entries_push, put_held, put_new, place_within}
 
 -- ---- the entry of a new row
 module _ (d b : List ℕ) (x : State) (ld : length d ≡ row_len) (lb : length b ≡ tx_len b) (small : body_at + length b ≤ row_len) where

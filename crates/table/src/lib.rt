@@ -1,5 +1,6 @@
 // The table that the caller lends: count, low mark and folds, then a row for each entry; the check that gives 16, look-up, store.
 #![tactic(auto)]
+
 ghost use Rattle.std.specs.Prelude.{◌≡◌, ℕ, ◌+◌, ◌-◌, ◌*◌, ◌<◌, ◌≤◌, ◌&&◌, ◌++◌, eqb, length, drop};
 ghost use Rattle.terms.specs.Choice.{tab, any};
 ghost use Rattle.records.specs.Numbers.{le_bytes};

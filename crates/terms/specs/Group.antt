@@ -2,7 +2,6 @@
 use Rattle.std.specs.Prelude.{ℕ, zero, suc, ◌+◌, ◌*◌}
 use Rattle.terms.specs.Refusals.{refusal_of}
 use Rattle.terms.specs.Checks.{or_else, if_less, group}
-use Rattle.terms.specs.declared.Group.{Group}
 use Rattle.terms.specs.declared.GroupAnswer.{GroupAnswer}
 use Rattle.terms.specs.declared.GroupAnswer.TheVariants.{Of, Refused}
 

@@ -1,5 +1,6 @@
 // The records written: 14 where f matters, then 3, the contents, 17; then the record's bytes at the buffer's front and no others.
 #![tactic(auto)]
+
 ghost use Rattle.std.specs.Prelude.{◌≡◌, [], ◌∷◌, ◌++◌, ◌+◌, ◌*◌, ◌≤◌, length, get_or};
 ghost use Rattle.terms.specs.Choice.{tab};
 ghost use Rattle.terms.specs.Checks.{or_else, if_less, buffer};

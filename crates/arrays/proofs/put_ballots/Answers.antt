@@ -1,5 +1,4 @@
 use mathlib.Core.Path.{refl}
-use Prim.Native.Nat.{◌-◌}
 use Rattle.terms.proofs.Scans.{none, more}
 use Rattle.arrays.proofs.Filled.{filled}
 use native.Mathlib.Omega.{arith}

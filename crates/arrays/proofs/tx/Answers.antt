@@ -1,5 +1,4 @@
 use mathlib.Core.Path.{refl}
-use Prim.Native.Nat.{◌-◌}
 use Rattle.terms.proofs.Scans.{none, more}
 use Rattle.arrays.specs.Arrays.{lent_tx}
 use Rattle.arrays.proofs.Filled.{filled}

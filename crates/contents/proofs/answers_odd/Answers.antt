@@ -1,7 +1,6 @@
 use borrow.Author.Tests.{eq-eqb, ne_eqb, lt-ltb, le-ltb}
 use Rattle.terms.proofs.Checks.{tells, tells_not}
 use Rattle.terms.proofs.Scans.{begin, found, go, end}
-use Prim.Native.Nat.{◌-◌}
 use native.Mathlib.Omega.{arith}
 use Rattle.contents.proofs.answers_odd.Goals as goal
 

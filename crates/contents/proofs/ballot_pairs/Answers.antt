@@ -1,7 +1,6 @@
 use mathlib.Core.Path.{◌≡◌, refl}
 use Rattle.terms.proofs.Scans.{none, more}
 use Rattle.contents.specs.Ballots.{ballot_pairs}
-use Prim.Native.Nat.{◌-◌}
 use native.Mathlib.Omega.{arith}
 use Rattle.contents.proofs.ballot_pairs.Goals as goal
 

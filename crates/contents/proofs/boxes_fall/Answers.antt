@@ -1,6 +1,5 @@
 use Rattle.terms.proofs.Checks.{tells, tells_not}
 use Rattle.terms.proofs.Scans.{rise_begin, rise_falls, rise_go, rise_end}
-use Prim.Native.Nat.{◌-◌}
 use native.Mathlib.Omega.{arith}
 use Rattle.contents.proofs.boxes_fall.Goals as goal
 

@@ -1,5 +1,4 @@
 use borrow.Author.Tests.{le-leb, lt-leb}
-use Prim.Native.Nat.{◌-◌}
 use Rattle.terms.proofs.Checks.{tells, tells_not}
 use Rattle.terms.proofs.Scans.{begin, found, go, end}
 use native.Mathlib.Omega.{arith}

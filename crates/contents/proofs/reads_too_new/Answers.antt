@@ -1,7 +1,6 @@
 use borrow.Author.Tests.{le-leb, lt-leb}
 use Rattle.terms.proofs.Checks.{tells, tells_not}
 use Rattle.terms.proofs.Scans.{begin, found, go, end}
-use Prim.Native.Nat.{◌-◌}
 use native.Mathlib.Omega.{arith}
 use Rattle.contents.proofs.reads_too_new.Goals as goal
 

@@ -1,6 +1,5 @@
 use native.Mathlib.Omega.{arith}
 use Rattle.election.proofs.Gathering.{tally_none, tally_yes, tally_no, tally_all}
-use Prim.Native.Nat.{◌-◌}
 use Rattle.election.proofs.commits_among.Goals as goal
 
 pub loop-i-init : goal.loop-i-init

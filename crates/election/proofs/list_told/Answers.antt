@@ -1,7 +1,6 @@
 use Rattle.terms.specs.Group.{boxes}
 use Rattle.sheet.proofs.Below.{noted_none, noted_yes, noted_no}
 use mathlib.Core.Path.{◌≡◌}
-use Prim.Native.Nat.{◌-◌}
 use Rattle.election.proofs.Heights.{told_none, told_yes, told_no, told_held}
 use native.Mathlib.Omega.{arith}
 use Rattle.election.proofs.list_told.Goals as goal

@@ -1,6 +1,5 @@
 use Rattle.election.proofs.Gathering.{ballots_none, ballots_yes, ballots_no, box_left, unled_held}
 use Rattle.sheet.proofs.Below.{noted_none, noted_yes, noted_no}
-use Prim.Native.Nat.{◌-◌}
 use native.Mathlib.Omega.{arith}
 use Rattle.election.proofs.lowest.Goals as goal
 

@@ -1,5 +1,4 @@
 use Rattle.lines.proofs.Putting.{copied_none, copied_more, copied_all}
-use Prim.Native.Nat.{◌-◌}
 use native.Mathlib.Omega.{arith}
 use Rattle.lines.proofs.put_text.Goals as goal
 

@@ -1,6 +1,5 @@
 use Rattle.table.proofs.Bodies.{row_fits}
 use Rattle.terms.proofs.Scans.{begin, found, go, end}
-use Prim.Native.Nat.{◌-◌}
 use mathlib.Core.Path.{sym, ◌∙◌}
 use native.Mathlib.Omega.{arith}
 use Rattle.low.proofs.any_open.Goals as goal

@@ -3,7 +3,6 @@ use Rattle.table.specs.Table.{head_len, row_at, row_tx}
 use Rattle.rules.specs.Bodies.{stamp_of}
 use Rattle.records.specs.Tx.{w_count}
 use lib.ListN.{drop}
-use Prim.Native.Nat.{◌-◌}
 use mathlib.Core.Path.{ap, ◌∙◌}
 use native.Mathlib.Omega.{arith}
 use Rattle.low.proofs.fold_row.Goals as goal

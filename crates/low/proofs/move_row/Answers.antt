@@ -1,5 +1,4 @@
 use Rattle.low.proofs.Moving.{copied_moved, copy_more, copy_none, moved_same}
-use Prim.Native.Nat.{◌-◌}
 use mathlib.Core.Path.{refl}
 use native.Mathlib.Omega.{arith}
 use Rattle.low.proofs.move_row.Goals as goal

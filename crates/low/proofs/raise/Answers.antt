@@ -1,6 +1,5 @@
 use lib.ListN.{length-set}
 use Rattle.low.proofs.Passes.{raising_done, raising_more, raising_none, row_in}
-use Prim.Native.Nat.{◌-◌}
 use native.Mathlib.Omega.{arith}
 use Rattle.low.proofs.raise.Goals as goal
 

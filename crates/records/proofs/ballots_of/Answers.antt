@@ -2,7 +2,6 @@ use Rattle.terms.proofs.Scans.{none, more}
 use Rattle.records.specs.Views.{ballot_at}
 use Rattle.records.proofs.Held.{ballots_few, ballots_before}
 use mathlib.Core.Path.{◌≡◌}
-use Prim.Native.Nat.{◌-◌}
 use native.Mathlib.Omega.{arith}
 use borrow.Author.Rules.{rules}
 use Rattle.records.proofs.ballots_of.Goals as goal

@@ -1,7 +1,5 @@
 use Rattle.terms.proofs.Scans.{none, more}
-use Rattle.records.specs.Vl.{pair_at}
 use mathlib.Core.Path.{◌≡◌}
-use Prim.Native.Nat.{◌-◌}
 use native.Mathlib.Omega.{arith}
 use borrow.Author.Rules.{rules}
 use Rattle.records.proofs.pairs_of.Goals as goal

@@ -1,7 +1,5 @@
 use Rattle.terms.proofs.Scans.{none, more}
-use Rattle.records.specs.Tx.{write_at}
 use mathlib.Core.Path.{◌≡◌}
-use Prim.Native.Nat.{◌-◌}
 use native.Mathlib.Omega.{arith}
 use borrow.Author.Rules.{rules}
 use Rattle.records.proofs.writes_of.Goals as goal

@@ -1,4 +1,3 @@
-use Prim.Native.Nat.{◌-◌}
 use mathlib.Core.Path.{refl, sym, ◌∙◌}
 use Rattle.lines.proofs.Putting.{line_put}
 use Rattle.replay.proofs.Running.{running_first, running_end, same_long, running_cut, running_stop, running_more, has_room, fits, gp_long}

@@ -1,4 +1,3 @@
-use Prim.Native.Nat.{◌-◌}
 use Rattle.scans.specs.Keys.{keys_at}
 use Rattle.scans.proofs.Keys.{joined, stays, still_long}
 use Rattle.scans.proofs.Skipping.{none_begin, none_more, none_end}

@@ -1,10 +1,8 @@
 use mathlib.Core.Path.{sym, ◌∙◌}
-use Prim.Native.Nat.{◌-◌}
 use Rattle.terms.proofs.Scans.{found, go, end}
 use Rattle.records.specs.Tx.{tx_of}
 use Rattle.rules.specs.Bodies.{reads_of}
 use Rattle.table.proofs.Bodies.{begin_as}
-use Rattle.scans.specs.Scans.{below}
 use native.Mathlib.Omega.{arith}
 use Rattle.scans.proofs.any_below.Goals as goal
 

@@ -1,8 +1,7 @@
 use mathlib.Core.Path.{refl, sym, ◌∙◌}
-use Prim.Native.Nat.{◌-◌}
 use Rattle.terms.proofs.Scans.{found, go, end}
 use Rattle.table.proofs.Bodies.{begin_as}
-use Rattle.scans.specs.Keys.{in_keys, keys_at}
+use Rattle.scans.specs.Keys.{keys_at}
 use native.Mathlib.Omega.{arith}
 use Rattle.scans.proofs.any_in.Goals as goal
 

@@ -1,5 +1,4 @@
 use mathlib.Core.Path.{sym, ◌∙◌}
-use Prim.Native.Nat.{◌-◌}
 use Rattle.terms.proofs.Scans.{begin, found, go, end}
 use native.Mathlib.Omega.{arith}
 use Rattle.scans.proofs.entries_3.Goals as goal

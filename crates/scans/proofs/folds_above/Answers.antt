@@ -1,9 +1,7 @@
 use mathlib.Core.Path.{sym, ◌∙◌}
-use Prim.Native.Nat.{◌-◌}
 use Rattle.terms.proofs.Scans.{found, go, end}
 use Rattle.records.specs.Tx.{tx_of}
 use Rattle.rules.specs.Bodies.{reads_of}
-use Rattle.rules.specs.Tests.{fold_above}
 use Rattle.table.proofs.Bodies.{begin_as}
 use native.Mathlib.Omega.{arith}
 use Rattle.scans.proofs.folds_above.Goals as goal

@@ -1,4 +1,3 @@
-use Prim.Native.Nat.{◌-◌}
 use Rattle.records.specs.Tx.{tx_of}
 use Rattle.rules.specs.Bodies.{reads_of}
 use Rattle.scans.proofs.Skipping.{none_begin, none_more, none_end, older_less, older_not}

@@ -1,5 +1,4 @@
 use mathlib.Core.Path.{refl, sym, ◌∙◌}
-use Prim.Native.Nat.{◌-◌}
 use Rattle.terms.proofs.Scans.{found, go, end}
 use Rattle.rules.specs.Tests.{test4}
 use Rattle.table.proofs.Bodies.{begin_as}

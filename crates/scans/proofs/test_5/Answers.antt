@@ -1,4 +1,3 @@
-use Prim.Native.Nat.{◌-◌}
 use Rattle.terms.proofs.Scans.{found, go, end}
 use Rattle.records.specs.Tx.{tx_of}
 use Rattle.rules.specs.Bodies.{stamp_of, writes_of}

@@ -1,5 +1,4 @@
 use mathlib.Core.Path.{sym, ◌∙◌}
-use Prim.Native.Nat.{◌-◌}
 use Rattle.scans.proofs.Visits.{pass_begin, pass_found, pass_go, pass_end}
 use native.Mathlib.Omega.{arith}
 use Rattle.scans.proofs.through_4.Goals as goal

@@ -1,4 +1,3 @@
-use Prim.Native.Nat.{◌-◌}
 use Rattle.records.specs.Tx.{tx_of}
 use Rattle.rules.specs.Bodies.{writes_of}
 use Rattle.scans.proofs.Written.{first_begin, first_found, first_go, first_end}

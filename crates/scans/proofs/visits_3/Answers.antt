@@ -1,5 +1,4 @@
 use mathlib.Core.Path.{sym, ◌∙◌}
-use Prim.Native.Nat.{◌-◌}
 use Rattle.terms.proofs.Scans.{tab_length}
 use Rattle.records.specs.Tx.{tx_of}
 use Rattle.rules.specs.Bodies.{reads_of}

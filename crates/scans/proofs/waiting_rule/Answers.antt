@@ -1,6 +1,4 @@
 use mathlib.Core.Path.{refl}
-use Prim.Native.Nat.{◌-◌}
-use mathlib.Core.Bool.{false}
 use Rattle.terms.proofs.Scans.{tab_length}
 use Rattle.records.specs.Tx.{tx_of}
 use Rattle.rules.specs.Bodies.{reads_of}

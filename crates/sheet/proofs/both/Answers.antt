@@ -1,4 +1,3 @@
-use Prim.Native.Nat.{◌-◌}
 use Rattle.terms.proofs.Scans.{begin, found, go, end}
 use native.Mathlib.Omega.{arith}
 use Rattle.sheet.proofs.both.Goals as goal

@@ -1,7 +1,6 @@
 use Rattle.rules.specs.System.{how_many}
 use Rattle.sheet.proofs.Masks.{count_yes, count_no}
 use mathlib.Core.Path.{◌≡◌, refl}
-use Prim.Native.Nat.{◌-◌}
 use native.Mathlib.Omega.{arith}
 use borrow.Author.Rules.{rules}
 use Rattle.sheet.proofs.counted.Goals as goal

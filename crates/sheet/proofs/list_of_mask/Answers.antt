@@ -1,7 +1,6 @@
 use Rattle.sheet.proofs.Below.{noted_none, noted_yes, noted_no}
 use Rattle.sheet.proofs.Listed.{listed_none, listed_yes, listed_no, noted_list}
 use mathlib.Core.Path.{◌≡◌}
-use Prim.Native.Nat.{◌-◌}
 use native.Mathlib.Omega.{arith}
 use borrow.Author.Rules.{rules}
 use Rattle.sheet.proofs.list_of_mask.Goals as goal

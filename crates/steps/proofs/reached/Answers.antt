@@ -1,4 +1,3 @@
-use Prim.Native.Nat.{◌-◌}
 use mathlib.Core.Path.{◌∙◌}
 use Rattle.records.specs.Views.{views_in}
 use Rattle.steps.proofs.Ballots.{top_begin, top_one, top_none, top_end}

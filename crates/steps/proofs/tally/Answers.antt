@@ -2,7 +2,6 @@ use Rattle.records.specs.Vl.{list_in, pairs_in}
 use Rattle.steps.proofs.Tallying.{count_begin, count_one, count_none, count_end, tally_passing}
 use mathlib.Core.Path.{◌∙◌}
 use borrow.Author.Tests.{eq-eqb, ne_eqb}
-use Prim.Native.Nat.{◌-◌}
 use native.Mathlib.Omega.{arith}
 use Rattle.steps.proofs.tally.Goals.{then-p-l, else-p-l}
 use Rattle.steps.proofs.tally.Goals as goal

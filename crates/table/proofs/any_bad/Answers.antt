@@ -1,4 +1,4 @@
-use Prim.Native.Nat.{◌+◌, ◌-◌}
+use Prim.Native.Nat.{◌+◌}
 use mathlib.Core.Path.{sym, ◌∙◌}
 use Rattle.terms.proofs.Scans.{begin, found, go}
 use Rattle.table.proofs.Bodies.{go_to}

@@ -1,4 +1,3 @@
-use Prim.Native.Nat.{◌-◌}
 use mathlib.Core.Path.{sym, ◌∙◌}
 use Rattle.terms.proofs.Scans.{found, go, end}
 use Rattle.table.proofs.Bodies.{rest_from}

@@ -1,4 +1,4 @@
-use Prim.Native.Nat.{◌+◌, ◌-◌}
+use Prim.Native.Nat.{◌+◌}
 use mathlib.Core.Path.{sym, ◌∙◌}
 use Rattle.table.proofs.Bodies.{row_fits}
 use Rattle.table.proofs.Looking.{seek_begin, place_found, place_go, place_next}

@@ -1,4 +1,3 @@
-use Prim.Native.Nat.{◌-◌}
 use mathlib.Core.Path.{sym, ◌∙◌}
 use Rattle.table.proofs.Bodies.{row_fits}
 use Rattle.table.proofs.Looking.{seek_from, seek_end, place_found, place_go}

@@ -1,5 +1,4 @@
 use Rattle.table.proofs.Copying.{copy_none, copy_more, copy_all}
-use Prim.Native.Nat.{◌-◌}
 use native.Mathlib.Omega.{arith}
 use Rattle.table.proofs.put_body.Goals as goal
 

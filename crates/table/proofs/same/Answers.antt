@@ -1,4 +1,3 @@
-use Prim.Native.Nat.{◌-◌}
 use Rattle.table.proofs.Comparing.{left_begin, left_go, left_end, uneven}
 use native.Mathlib.Omega.{arith}
 use Rattle.table.proofs.same.Goals as goal

@@ -3,7 +3,6 @@ use borrow.Author.Tests.{eq-eqb, ne_eqb}
 use Rattle.rules.specs.Bodies.{writes_key, writes_of}
 use Rattle.records.specs.Tx.{write_at, tx_of}
 use Rattle.terms.proofs.Scans.{found, go, end}
-use Prim.Native.Nat.{◌-◌}
 use native.Mathlib.Omega.{arith}
 use Rattle.table.proofs.writes_key.Goals as goal
 

@@ -1,7 +1,6 @@
 use Rattle.records.proofs.Held.{ballots_before}
 use Rattle.writing.proofs.Lengths.{ballot_long}
 use Rattle.writing.proofs.Laid.{fill_none, fill_more, ballots_all}
-use Prim.Native.Nat.{◌-◌}
 use native.Mathlib.Omega.{arith}
 use Rattle.writing.proofs.put_ballots.Goals as goal
 

@@ -1,5 +1,4 @@
 use Rattle.writing.proofs.Laid.{fill_none, fill_more, items_all}
-use Prim.Native.Nat.{◌-◌}
 use native.Mathlib.Omega.{arith}
 use borrow.Author.Rules.{rules}
 use Rattle.writing.proofs.put_reads.Goals as goal
