@@ -44,7 +44,9 @@ fn row_of(rt: &impl Print, f: u64) -> io::Result<()> {
     match Group::of(f) {
         GroupAnswer::Of(g) => {
             if 1 <= f && f <= 5 {
-                show(rt, f, ROWS[(f - 1) as usize], g)?;
+                let i = (f - 1) as usize;
+                let row = ROWS[i];
+                show(rt, f, row, g)?;
             }
             Ok(())
         }
