@@ -27,8 +27,7 @@ use sheet::Sheet;
 use terms::{Group, Key, Stamp};
 
 // The library's version, as a number.
-#[unsafe(no_mangle)]
-pub extern "C" fn stobbarel_version() -> u32
+pub fn stobbarel_version() -> u32
     ensures { result ≡ version }
 {
     7000
@@ -76,8 +75,7 @@ fn put(out: &mut [u64; 5], v: [u64; 5])
 }
 
 // Any of the six messages, by its mark.
-#[unsafe(no_mangle)]
-pub extern "C" fn stobbarel_receive(
+pub fn stobbarel_receive(
     table: &mut [u8],
     marks: &mut [u64; 512],
     f: u64,
@@ -100,8 +98,7 @@ pub extern "C" fn stobbarel_receive(
 }
 
 // A message where one with this mark is due: 1 PR, 2 LG, 3 DC, 4 RD, 5 IV, 6 LD.
-#[unsafe(no_mangle)]
-pub extern "C" fn stobbarel_due(
+pub fn stobbarel_due(
     mark: u64,
     table: &mut [u8],
     marks: &mut [u64; 512],
@@ -125,14 +122,7 @@ pub extern "C" fn stobbarel_due(
 }
 
 // The low mark raised. It is told f and capacity only: no clock matters.
-#[unsafe(no_mangle)]
-pub extern "C" fn stobbarel_raise(
-    table: &mut [u8],
-    f: u64,
-    capacity: u64,
-    low: u64,
-    out: &mut [u64; 5],
-)
+pub fn stobbarel_raise(table: &mut [u8], f: u64, capacity: u64, low: u64, out: &mut [u64; 5])
     ensures { (out.new ≡ answer_row (lowered low (told_of f capacity 0 0) table.old).answer) × (table.new ≡ table_by table.old (lowered low (told_of f capacity 0 0) table.old).change) }
 {
     let told = Told {
@@ -153,8 +143,7 @@ fn put_eight(out: &mut [u64; 8], v: [u64; 8])
 }
 
 // What a table holds under a stamp.
-#[unsafe(no_mangle)]
-pub extern "C" fn stobbarel_held(table: &[u8], capacity: u64, stamp: u64, out: &mut [u64; 8]) -> u8
+pub fn stobbarel_held(table: &[u8], capacity: u64, stamp: u64, out: &mut [u64; 8]) -> u8
     ensures { (result ≡ (held_of table.now capacity stamp).wrong) × (out.new ≡ holding_row (held_of table.now capacity stamp)) }
 {
     let holding = held::held(table, capacity, Stamp(stamp));
@@ -163,8 +152,7 @@ pub extern "C" fn stobbarel_held(table: &[u8], capacity: u64, stamp: u64, out: &
 }
 
 // How many entries a table has.
-#[unsafe(no_mangle)]
-pub extern "C" fn stobbarel_entries(table: &[u8], capacity: u64, count: &mut usize) -> u8
+pub fn stobbarel_entries(table: &[u8], capacity: u64, count: &mut usize) -> u8
     ensures { (result ≡ (how_many_told table.now capacity).wrong) × (count.new ≡ (how_many_told table.now capacity).count) }
 {
     let entries = held::how_many(table, capacity);
@@ -173,8 +161,7 @@ pub extern "C" fn stobbarel_entries(table: &[u8], capacity: u64, count: &mut usi
 }
 
 // One of them, the first being 0.
-#[unsafe(no_mangle)]
-pub extern "C" fn stobbarel_entry(table: &[u8], capacity: u64, i: u64, out: &mut [u64; 8]) -> u8
+pub fn stobbarel_entry(table: &[u8], capacity: u64, i: u64, out: &mut [u64; 8]) -> u8
     ensures { (result ≡ (entry_told table.now capacity i).wrong) × (out.new ≡ holding_row (entry_told table.now capacity i)) }
 {
     let entry = held::entry(table, capacity, i);
@@ -183,8 +170,7 @@ pub extern "C" fn stobbarel_entry(table: &[u8], capacity: u64, i: u64, out: &mut
 }
 
 // Reading alone: the refusal's number, or 0.
-#[unsafe(no_mangle)]
-pub extern "C" fn stobbarel_reading(f: u64, message: &[u8]) -> u8
+pub fn stobbarel_reading(f: u64, message: &[u8]) -> u8
     ensures { result ≡ found_number (read_message f message.now).found }
 {
     let reading = reading::read(f, message);
@@ -193,8 +179,7 @@ pub extern "C" fn stobbarel_reading(f: u64, message: &[u8]) -> u8
 }
 
 // A TX by itself.
-#[unsafe(no_mangle)]
-pub extern "C" fn stobbarel_reading_tx(bytes: &[u8]) -> u8
+pub fn stobbarel_reading_tx(bytes: &[u8]) -> u8
     ensures { result ≡ (read_tx bytes.now).wrong }
 {
     let tx = reading::read_tx(bytes);
@@ -208,8 +193,7 @@ fn put_three(out: &mut [u64; 3], v: [u64; 3])
 }
 
 // Its values, put down in what is lent for them: all 0 where it is refused.
-#[unsafe(no_mangle)]
-pub extern "C" fn stobbarel_tx_of(
+pub fn stobbarel_tx_of(
     bytes: &[u8],
     head: &mut [u64; 3],
     reads: &mut [u16; 8],
@@ -227,8 +211,7 @@ pub extern "C" fn stobbarel_tx_of(
 }
 
 // A VL by itself.
-#[unsafe(no_mangle)]
-pub extern "C" fn stobbarel_reading_vl(f: u64, bytes: &[u8]) -> u8
+pub fn stobbarel_reading_vl(f: u64, bytes: &[u8]) -> u8
     ensures { result ≡ (read_vl f bytes.now).wrong }
 {
     let list = reading::read_vl(f, bytes);
@@ -236,8 +219,7 @@ pub extern "C" fn stobbarel_reading_vl(f: u64, bytes: &[u8]) -> u8
 }
 
 // A VS by itself.
-#[unsafe(no_mangle)]
-pub extern "C" fn stobbarel_reading_vs(f: u64, bytes: &[u8]) -> u8
+pub fn stobbarel_reading_vs(f: u64, bytes: &[u8]) -> u8
     ensures { result ≡ (read_views VS f bytes.now).wrong }
 {
     let told = reading::read_views(ViewMark::VS, f, bytes);
@@ -245,8 +227,7 @@ pub extern "C" fn stobbarel_reading_vs(f: u64, bytes: &[u8]) -> u8
 }
 
 // An EL by itself.
-#[unsafe(no_mangle)]
-pub extern "C" fn stobbarel_reading_el(f: u64, bytes: &[u8]) -> u8
+pub fn stobbarel_reading_el(f: u64, bytes: &[u8]) -> u8
     ensures { result ≡ (read_views EL f bytes.now).wrong }
 {
     let told = reading::read_views(ViewMark::EL, f, bytes);
@@ -254,8 +235,7 @@ pub extern "C" fn stobbarel_reading_el(f: u64, bytes: &[u8]) -> u8
 }
 
 // A message's values, put down in what is lent for them: all 0 where it is refused.
-#[unsafe(no_mangle)]
-pub extern "C" fn stobbarel_fields(
+pub fn stobbarel_fields(
     f: u64,
     message: &[u8],
     head: &mut [u64; 9],
@@ -283,8 +263,7 @@ fn put_five(out: &mut [u64; 5], mark: u64, row: [u64; 4])
 }
 
 // What an IV or an LD lists, put down in what is lent for it: all 0 in another message, and where it is refused.
-#[unsafe(no_mangle)]
-pub extern "C" fn stobbarel_views(
+pub fn stobbarel_views(
     f: u64,
     message: &[u8],
     head: &mut [u64; 5],
@@ -304,8 +283,7 @@ pub extern "C" fn stobbarel_views(
 }
 
 // The length of the transaction's bytes inside a message, which stand behind its mark.
-#[unsafe(no_mangle)]
-pub extern "C" fn stobbarel_part(f: u64, message: &[u8]) -> usize
+pub fn stobbarel_part(f: u64, message: &[u8]) -> usize
     ensures { result ≡ length (handed_back f message.now) }
 {
     let part = reading::tx_part(f, message);
@@ -320,8 +298,7 @@ fn put_reply(out: &mut [u8; 5], v: [u8; 5])
 }
 
 // The gateway's tally: a sheet of one kind takes a box's answer.
-#[unsafe(no_mangle)]
-pub extern "C" fn stobbarel_take(
+pub fn stobbarel_take(
     kind: u8,
     commits: &mut u32,
     aborts: &mut u32,
@@ -346,8 +323,7 @@ pub extern "C" fn stobbarel_take(
 }
 
 // What a sheet has reached as it is, as a reply tells it.
-#[unsafe(no_mangle)]
-pub extern "C" fn stobbarel_reached(kind: u8, commits: u32, aborts: u32, f: u64, out: &mut [u8; 5])
+pub fn stobbarel_reached(kind: u8, commits: u32, aborts: u32, f: u64, out: &mut [u8; 5])
     ensures { out.new ≡ reply_values (reached_of (sheet_of kind commits aborts) f) }
 {
     let s = Sheet {
@@ -361,8 +337,7 @@ pub extern "C" fn stobbarel_reached(kind: u8, commits: u32, aborts: u32, f: u64,
 }
 
 // The list of the boxes under a decision, put down; 14, 16, 8 or 0.
-#[unsafe(no_mangle)]
-pub extern "C" fn stobbarel_sheet_list(
+pub fn stobbarel_sheet_list(
     kind: u8,
     view: u16,
     commits: u32,
@@ -406,8 +381,7 @@ fn put_pair(out: &mut [u8; 2], v: [u8; 2])
 }
 
 // The leader's sheet takes a box's election answer, given with a view.
-#[unsafe(no_mangle)]
-pub extern "C" fn stobbarel_elect(
+pub fn stobbarel_elect(
     view: u16,
     commits: &mut u32,
     aborts: &mut u32,
@@ -428,8 +402,7 @@ pub extern "C" fn stobbarel_elect(
 }
 
 // The EL of a leader's sheet, put down; 14, 16, 23 or 0.
-#[unsafe(no_mangle)]
-pub extern "C" fn stobbarel_election(
+pub fn stobbarel_election(
     view: u16,
     commits: u32,
     aborts: u32,
@@ -455,14 +428,7 @@ fn put_views_told(out: &mut [u16; 26], v: [u16; 26])
 }
 
 // The highest view that each box told: one more is told.
-#[unsafe(no_mangle)]
-pub extern "C" fn stobbarel_tell(
-    told: &mut u32,
-    views: &mut [u16; 26],
-    f: u64,
-    number: u64,
-    view: u64,
-) -> u8
+pub fn stobbarel_tell(told: &mut u32, views: &mut [u16; 26], f: u64, number: u64, view: u64) -> u8
     ensures { (result ≡ tell_wrong told.old f number view) × (told.new ≡ (taller told.old views.old f number view).told) × (views.new ≡ (taller told.old views.old f number view).views) }
 {
     let highest = election::taller(*told, *views, f, number, view);
@@ -473,8 +439,7 @@ pub extern "C" fn stobbarel_tell(
 }
 
 // The boxes that told a view, and the view of each, as a VS lists them; 14, 16 or 0.
-#[unsafe(no_mangle)]
-pub extern "C" fn stobbarel_told(
+pub fn stobbarel_told(
     told: u32,
     views: &[u16; 26],
     f: u64,
@@ -520,8 +485,7 @@ fn put_row(out: &mut [u64; 6], v: [u64; 6])
 }
 
 // The number of boxes and the five thresholds of a group; 14 or 0.
-#[unsafe(no_mangle)]
-pub extern "C" fn stobbarel_thresholds(f: u64, out: &mut [u64; 6]) -> u8
+pub fn stobbarel_thresholds(f: u64, out: &mut [u64; 6]) -> u8
     ensures { (result ≡ group_wrong f) × (out.new ≡ thresholds_by (group_wrong f) f out.old) }
 {
     let wrong = terms::group_wrong(f);
@@ -546,8 +510,7 @@ fn listed_mark(mark: u64) -> Mark
 }
 
 // A TX by itself.
-#[unsafe(no_mangle)]
-pub extern "C" fn stobbarel_write_tx(
+pub fn stobbarel_write_tx(
     stamp: u64,
     r: usize,
     w: usize,
@@ -566,8 +529,7 @@ pub extern "C" fn stobbarel_write_tx(
 }
 
 // A VL by itself.
-#[unsafe(no_mangle)]
-pub extern "C" fn stobbarel_write_vl(
+pub fn stobbarel_write_vl(
     f: u64,
     kind: u8,
     decision: u8,
@@ -586,8 +548,7 @@ pub extern "C" fn stobbarel_write_vl(
 }
 
 // A VS by itself.
-#[unsafe(no_mangle)]
-pub extern "C" fn stobbarel_write_vs(
+pub fn stobbarel_write_vs(
     f: u64,
     count: usize,
     numbers: &[u8; 26],
@@ -603,8 +564,7 @@ pub extern "C" fn stobbarel_write_vs(
 }
 
 // An EL by itself.
-#[unsafe(no_mangle)]
-pub extern "C" fn stobbarel_write_el(
+pub fn stobbarel_write_el(
     f: u64,
     leader: u8,
     decision: u8,
@@ -624,8 +584,7 @@ pub extern "C" fn stobbarel_write_el(
 }
 
 // PR: a transaction to vote on.
-#[unsafe(no_mangle)]
-pub extern "C" fn stobbarel_write_pr(
+pub fn stobbarel_write_pr(
     stamp: u64,
     r: usize,
     w: usize,
@@ -644,8 +603,7 @@ pub extern "C" fn stobbarel_write_pr(
 }
 
 // LG or DC: a transaction and a list.
-#[unsafe(no_mangle)]
-pub extern "C" fn stobbarel_write_listed(
+pub fn stobbarel_write_listed(
     mark: u64,
     f: u64,
     stamp: u64,
@@ -673,8 +631,7 @@ pub extern "C" fn stobbarel_write_listed(
 }
 
 // IV: a transaction and views.
-#[unsafe(no_mangle)]
-pub extern "C" fn stobbarel_write_iv(
+pub fn stobbarel_write_iv(
     f: u64,
     stamp: u64,
     r: usize,
@@ -698,8 +655,7 @@ pub extern "C" fn stobbarel_write_iv(
 }
 
 // LD: a transaction and election answers.
-#[unsafe(no_mangle)]
-pub extern "C" fn stobbarel_write_ld(
+pub fn stobbarel_write_ld(
     f: u64,
     stamp: u64,
     r: usize,
@@ -727,8 +683,7 @@ pub extern "C" fn stobbarel_write_ld(
 }
 
 // RD: what stands at a key.
-#[unsafe(no_mangle)]
-pub extern "C" fn stobbarel_write_rd(key: u16, stamp: u64, out: &mut [u8], length: &mut usize) -> u8
+pub fn stobbarel_write_rd(key: u16, stamp: u64, out: &mut [u8], length: &mut usize) -> u8
     ensures { left result length.new out.new ≡ rd_left key stamp out.old }
 {
     let written = writing::write_rd(Key(key), Stamp(stamp), out);
@@ -785,8 +740,7 @@ fn put_four(out: &mut [u64; 4], v: [u64; 4])
 }
 
 // The keys of a passage's four RDs; 26, 5 or 0.
-#[unsafe(no_mangle)]
-pub extern "C" fn stobbarel_asks(passage: u64, stamp: u64, keys: &mut [u16; 4]) -> u8
+pub fn stobbarel_asks(passage: u64, stamp: u64, keys: &mut [u16; 4]) -> u8
     ensures { (result ≡ (asks_of passage stamp).wrong) × (keys.new ≡ asked_keys (asks_of passage stamp)) }
 {
     let asked = passage::asks(passage, Stamp(stamp));
@@ -821,8 +775,7 @@ fn report_row(reported: Reported) -> [u64; 4]
 }
 
 // A passage's report; 26 to 30 or 0.
-#[unsafe(no_mangle)]
-pub extern "C" fn stobbarel_report(
+pub fn stobbarel_report(
     passage: u64,
     versions: &[u64; 4],
     values: &[u64; 4],
@@ -851,8 +804,7 @@ fn put_made(
 }
 
 // The direction's correction: 26 to 30, 5, 7 or 0.
-#[unsafe(no_mangle)]
-pub extern "C" fn stobbarel_correct_direction(
+pub fn stobbarel_correct_direction(
     passage: u64,
     stamp: u64,
     stamps: &[u64; 4],
@@ -870,8 +822,7 @@ pub extern "C" fn stobbarel_correct_direction(
 }
 
 // A general correction, with four new values: the same.
-#[unsafe(no_mangle)]
-pub extern "C" fn stobbarel_correct(
+pub fn stobbarel_correct(
     passage: u64,
     stamp: u64,
     stamps: &[u64; 4],
@@ -890,8 +841,7 @@ pub extern "C" fn stobbarel_correct(
 }
 
 // An entry over whatever stands there: 26, 28 to 30, 5, 7 or 0.
-#[unsafe(no_mangle)]
-pub extern "C" fn stobbarel_enter(
+pub fn stobbarel_enter(
     passage: u64,
     stamp: u64,
     stamps: &[u64; 4],

@@ -1,23 +1,19 @@
 // The bench: records from standard input, a line for each to standard output.
 #![tactic(auto)]
 
-use libc::{STDIN_FILENO, STDOUT_FILENO};
 use records::Written;
+use std::io;
+use std::io::{Read, Write};
 
-// replay::ROOM, room for every text. By a function of its own, so that no proof in main counts its bytes one by one.
-fn room() -> [u8; 786_544] {
-    [0; 786_544]
-}
+// One byte more than is taken.
+const MOST: u64 = 65_537;
 
-fn main() {
-    let mut input = [0u8; 65537]; // one byte more than is taken
-    let mut out = room();
-    let n = io::read_full(STDIN_FILENO, &mut input);
-    let written = replay::replay(&input[..n], &mut out);
-    match written {
-        Written::Wrote(k) => {
-            io::write_all(STDOUT_FILENO, &out[..k]);
-        }
-        Written::Refused(_) => {}
+fn main(rt: HostRuntime) -> io::Result<()> {
+    let mut input = Vec::new(rt.alloc());
+    rt.stdin().take(MOST).read_to_end(&mut input)?;
+    let mut out = Vec::from_elem(rt.alloc(), 0, replay::ROOM)?;
+    match replay::replay(&input, &mut out) {
+        Written::Wrote(k) => rt.stdout().write_all(&out[..k]),
+        Written::Refused(_) => Ok(()),
     }
 }

@@ -3,7 +3,7 @@
 
 ghost use Rattle.std.specs.Prelude.{◌≤◌};
 
-use libc::STDOUT_FILENO;
+use std::io;
 use terms::{Group, GroupAnswer};
 
 // Commit list, abort list, commit proof, abort proof, proof from logs: 01's table, written out.
@@ -14,10 +14,6 @@ const ROWS: [[usize; 5]; 5] = [
     [13, 5, 21, 13, 17],
     [16, 6, 26, 16, 21],
 ];
-
-fn print(n: usize) {
-    io::print_decimal(STDOUT_FILENO, n as u64);
-}
 
 // 1 where the two are the same.
 fn one(a: usize, b: usize) -> usize
@@ -33,56 +29,34 @@ fn agreeing(row: [usize; 5], g: Group) -> usize {
     lists + votes + one(row[4], g.log_proof())
 }
 
-// A number behind a blank.
-fn next(n: usize) {
-    io::write_all(STDOUT_FILENO, b" ");
-    print(n);
-}
-
 // One line: f, n, the row, and how many of the five agree.
-fn show(f: u64, row: [usize; 5], g: Group) {
-    print(f as usize);
-    io::write_all(STDOUT_FILENO, b": n ");
-    print(g.n());
-    io::write_all(STDOUT_FILENO, b", thresholds");
-    next(row[0]);
-    next(row[1]);
-    next(row[2]);
-    next(row[3]);
-    next(row[4]);
-    io::write_all(STDOUT_FILENO, b", agreeing ");
-    print(agreeing(row, g));
-    io::write_all(STDOUT_FILENO, b"\n");
+fn show(rt: &impl Print, f: u64, row: [usize; 5], g: Group) -> io::Result<()> {
+    let [a, b, c, d, e] = row;
+    println!(rt;
+        "{f}: n {}, thresholds {a} {b} {c} {d} {e}, agreeing {}",
+        g.n(),
+        agreeing(row, g)
+    )
 }
 
 // The row of f, or the refusal's number.
-fn row_of(f: u64) {
-    let answer = Group::of(f);
-    match answer {
+fn row_of(rt: &impl Print, f: u64) -> io::Result<()> {
+    match Group::of(f) {
         GroupAnswer::Of(g) => {
-            if 1 <= f {
-                if f <= 5 {
-                    let i = (f - 1) as usize;
-                    let row = ROWS[i];
-                    show(f, row, g);
-                }
+            if 1 <= f && f <= 5 {
+                let i = (f - 1) as usize;
+                let row = ROWS[i];
+                show(rt, f, row, g)?;
             }
+            Ok(())
         }
-        GroupAnswer::Refused(r) => {
-            print(f as usize);
-            io::write_all(STDOUT_FILENO, b": refused ");
-            print(r.number() as usize);
-            io::write_all(STDOUT_FILENO, b"\n");
-        }
+        GroupAnswer::Refused(r) => println!(rt; "{f}: refused {}", r.number()),
     }
 }
 
-fn main() {
-    row_of(0);
-    row_of(1);
-    row_of(2);
-    row_of(3);
-    row_of(4);
-    row_of(5);
-    row_of(6);
+fn main(rt: HostRuntime) -> io::Result<()> {
+    for f in 0..=6 {
+        row_of(&rt, f)?;
+    }
+    Ok(())
 }
