@@ -25,7 +25,7 @@ use Rattle.rules.specs.Bodies.{stamp_of}
 use Rattle.rules.specs.Calls.{Act, old_wrong}
 use Rattle.rules.specs.Act.{rule, unless_old}
 use Rattle.table.specs.Table.{low_of}
-use Rattle.steps.specs.Step.{kept as keptStep}
+use Rattle.steps.specs.Step.{kept as kept_step}
 use Rattle.engine.specs.Outcome.{Does, box_in, kept, old_now}
 use Rattle.engine.proofs.Steps.{stops}
 
@@ -61,11 +61,11 @@ old_is k t m b s l p u q h = rw (p, u, q) (old_by k (low_of t) m (no_read k h))
 
 -- and then it is refused with 18
 module _ (told : Told) (t marks m : List ℕ) where
-  refuses_old : (a : Act) → leb (stamp_of (tx_part m)) (low_of t) ≡ true → Does (unless_old (box_in (kept t marks)) (tx_part m) a) t m (keptStep (Refused Old))
+  refuses_old : (a : Act) → leb (stamp_of (tx_part m)) (low_of t) ≡ true → Does (unless_old (box_in (kept t marks)) (tx_part m) a) t m (kept_step (Refused Old))
   unfolding unless_old old_wrong box_in refusal_of
   refuses_old a e = stops old _ a (sym (when_yes _ _ e)) (λ z. omega arith)
 
-  pub old_stops : (k : Mark) → old_now k (low_of t) m ≡ true → Does (rule k told (box_in (kept t marks)) m) t m (keptStep (Refused Old))
+  pub old_stops : (k : Mark) → old_now k (low_of t) m ≡ true → Does (rule k told (box_in (kept t marks)) m) t m (kept_step (Refused Old))
   unfolding rule
   old_stops PR e = refuses_old _ e
   old_stops LG e = refuses_old _ e

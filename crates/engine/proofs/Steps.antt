@@ -27,7 +27,7 @@ use Rattle.records.proofs.Held.{list_in_lem, views_in_lem}
 use Rattle.reading.proofs.Answers.{behind_view, behind_own}
 use Rattle.reading.proofs.Due.{tx_due}
 use Rattle.rules.specs.declared.Answer.{Answer}
-use Rattle.rules.specs.declared.Answer.TheVariants.{Refused as refusedAnswer}
+use Rattle.rules.specs.declared.Answer.TheVariants.{Refused as refused_answer}
 use Rattle.rules.specs.declared.Told.{Told}
 use Rattle.rules.specs.Bodies.{Body, stamp_of}
 use Rattle.rules.specs.Table.{Box}
@@ -38,7 +38,7 @@ use Rattle.rules.proofs.Deeds.{guarded_elim}
 use Rattle.rules.proofs.Room.{FitsBy, Fit, rule_fits}
 use Rattle.table.specs.Table.{box_from, entries, entries_of, low_of, count_of, place, stored, state_in, head_len}
 use Rattle.steps.specs.declared.Step.{Step}
-use Rattle.steps.specs.Step.{change_by, step_by, kept as keptStep}
+use Rattle.steps.specs.Step.{change_by, step_by, kept as kept_step}
 use Rattle.steps.proofs.Stored.{below}
 use Rattle.engine.specs.Outcome.{kept, box_in, lent_wrong, table_by, table_of, marks_of, Leaves, Ready, Does}
 use Rattle.engine.proofs.Guards.{through, halted}
@@ -49,12 +49,12 @@ module _ {t m : List ℕ} where
   pub does_as : {a b : Act} {s : Step} → a ≡ b → Does a t m s → Does b t m s
   does_as {s = s} p d = subst (λ (y : Act). Does y t m s) p d
 
-  pub refuses : (q : Refusal) → Does (refuse q) t m (keptStep (refusedAnswer q))
+  pub refuses : (q : Refusal) → Does (refuse q) t m (kept_step (refused_answer q))
   unfolding table_by marks_after
   refuses q = record { ready = tt; answer = refl; table = refl; marks = λ _. refl }
 
   -- a check in front: it refuses, or it passes
-  pub stops : (n N : ℕ) (a : Act) → n ≡ N → (n ≡ 0 → ⊥) → Does (guarded N a) t m (keptStep (refusedAnswer (refusal_of n)))
+  pub stops : (n N : ℕ) (a : Act) → n ≡ N → (n ≡ 0 → ⊥) → Does (guarded N a) t m (kept_step (refused_answer (refusal_of n)))
   stops n N a p h = does_as (halted n N a p h) (refuses (refusal_of n))
 
   pub passes : (N : ℕ) {a : Act} {s : Step} → N ≡ 0 → Does a t m s → Does (guarded N a) t m s

@@ -11,7 +11,7 @@ use Rattle.records.specs.Numbers.{num_at}
 use Rattle.records.specs.Tx.{tx_of}
 use Rattle.rules.specs.declared.Log.TheVariants.{Is as logged}
 use Rattle.rules.specs.declared.Settled.TheVariants.{None as unsettled}
-use Rattle.rules.specs.declared.Vote.TheVariants.{Commit as voteCommit}
+use Rattle.rules.specs.declared.Vote.TheVariants.{Commit as vote_commit}
 use Rattle.rules.specs.Answers.{view_as}
 use Rattle.rules.specs.Bodies.{Body, stamp_of}
 use Rattle.rules.specs.Table.{find}
@@ -25,7 +25,7 @@ abbrev body : Body
 body = 84 ∷ 88 ∷ 0 ∷ 1 ∷ 50 ∷ 0 ∷ 0 ∷ 0 ∷ 0 ∷ 0 ∷ 0 ∷ 0 ∷ 3 ∷ 0 ∷ 7 ∷ 0 ∷ 0 ∷ 0 ∷ 0 ∷ 0 ∷ 0 ∷ 0 ∷ []
 
 abbrev state : State
-state = record { vote = voteCommit; log = logged abort (view_as 3); view = view_as 300; decided = unsettled }
+state = record { vote = vote_commit; log = logged abort (view_as 3); view = view_as 300; decided = unsettled }
 
 abbrev empty : List ℕ
 empty = replicate (table_len 2) 0

@@ -11,7 +11,7 @@ use Rattle.rules.specs.Answers.{reason_number}
 use Rattle.terms.specs.declared.Decision.{Decision}
 use Rattle.terms.specs.declared.Decision.TheVariants.{Commit as commit, Abort as abort}
 use Rattle.rules.specs.declared.Vote.{Vote}
-use Rattle.rules.specs.declared.Vote.TheVariants.{None as unvoted, Commit as voteCommit, Abort as voteAbort, Waiting as waiting}
+use Rattle.rules.specs.declared.Vote.TheVariants.{None as unvoted, Commit as vote_commit, Abort as vote_abort, Waiting as waiting}
 use Rattle.rules.specs.declared.Version.{Version}
 use Rattle.rules.specs.declared.Answer.{Answer}
 use Rattle.rules.specs.declared.Answer.TheVariants.{Voted, Decided, Logged, Done, Found, Refused, Elected, Raised}
@@ -92,8 +92,8 @@ decision_text abort = abort_text
 -- "`commit`, `abort` and reason, `wait`"; no PR is answered with vote none
 unfoldable pub vote_text : Vote → List ℕ
 vote_text unvoted = none_text
-vote_text voteCommit = commit_text
-vote_text (voteAbort r) = abort_blank ++ decimal (reason_number r)
+vote_text vote_commit = commit_text
+vote_text (vote_abort r) = abort_blank ++ decimal (reason_number r)
 vote_text waiting = wait_text
 
 -- "four numbers for RD (committed version, value, undecided version, value)"

@@ -17,7 +17,7 @@ use Rattle.passage.specs.Register.{seen_in, report_in, TakenBelow, NewestTaken, 
 use Rattle.passage.proofs.Boxes.{shown, seen_is, report_is}
 use Rattle.passage.proofs.History.{Sees, sees_above, sees_all, shown_top, once, all_stand, stands_taken}
 
-module _ (f g i j : ℕ) (es ds : List Event) (same : SameTaken f i es g j ds) (s : ℕ) (seesF : Sees f i es s) (seesG : Sees g j ds s) where
+module _ (f g i j : ℕ) (es ds : List Event) (same : SameTaken f i es g j ds) (s : ℕ) (sees_f : Sees f i es s) (sees_g : Sees g j ds s) where
   over : {k : ℕ} {b : List ℕ} → TakenBelow f i es k s b → TakenBelow g j ds k s b
   over {k} {b} w = record { taken = (same b).0 w.taken; writes = w.writes; below = w.below }
 
@@ -35,7 +35,7 @@ module _ (f g i j : ℕ) (es ds : List Event) (same : SameTaken f i es g j ds) (
       rw (once g j b c ds (over w).taken y.taken z)
 
   shown_same : (k : ℕ) → k ≤ largest_key → shown (box_at f i es) k s ≡ shown (box_at g j ds) k s
-  shown_same k h = by k (shown_top f i es k s h seesF) (shown_top g j ds k s h seesG)
+  shown_same k h = by k (shown_top f i es k s h sees_f) (shown_top g j ds k s h sees_g)
 
   seen_same : (p : ℕ) → p ≤ 127 → seen_in (box_at f i es) p s ≡ seen_in (box_at g j ds) p s
   seen_same p h =

@@ -25,7 +25,7 @@ use Rattle.records.specs.declared.VlReading.{VlReading}
 use Rattle.records.specs.declared.ViewsReading.{ViewsReading}
 use Rattle.reading.specs.declared.Lists.{Lists}
 use Rattle.reading.specs.declared.TxRead.{TxRead}
-use Rattle.reading.specs.declared.TxRead.TheVariants.{Tx as readTx, Refused as readRefused}
+use Rattle.reading.specs.declared.TxRead.TheVariants.{Tx as tx_read, Refused as read_refused}
 
 -- ---- answers: the value, or the refusal's number only
 unfoldable pub tx_reading_of : ℕ → Transaction → TxReading
@@ -61,8 +61,8 @@ early k f m = or_else (group_wrong f) (or_else (message_cut k m) (behind_wrong (
 -- ---- "a list is judged only when the transaction before it was read"
 -- the reader's answer with the transaction inside
 abbrev pub read_by : ℕ → Transaction → TxRead
-read_by zero t = readTx t
-read_by (suc n) t = readRefused (suc n)
+read_by zero t = tx_read t
+read_by (suc n) t = read_refused (suc n)
 
 abbrev pub read_of : TxReading → TxRead
 read_of r = read_by r.wrong r.tx

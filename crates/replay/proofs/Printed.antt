@@ -9,7 +9,7 @@ use Rattle.terms.specs.Refusals.{refusal_of}
 use Rattle.terms.specs.declared.Refusal.TheVariants.{Buffer}
 use Rattle.terms.proofs.Checks.{less_no, less_yes}
 use Rattle.records.specs.declared.Written.{Written}
-use Rattle.records.specs.declared.Written.TheVariants.{Wrote, Refused as refusedWritten}
+use Rattle.records.specs.declared.Written.TheVariants.{Wrote, Refused as refused_written}
 use Rattle.records.specs.Writing.{wrote_by, buffer_by}
 use Rattle.rules.specs.declared.Answer.TheVariants.{Refused}
 use Rattle.lines.specs.declared.Said.{Said}
@@ -50,7 +50,7 @@ module _ (s out : List ℕ) where
   abbrev pub Printed : Written → List ℕ → Type 0
   Printed r after = (r ≡ wrote_by (room_wrong out) (bench_text s)) × (after ≡ buffer_by (room_wrong out) (bench_text s) out) × (wrote_in r ≤ room)
 
-  pub no_room : length out < room → Printed (refusedWritten Buffer) out
+  pub no_room : length out < room → Printed (refused_written Buffer) out
   unfolding room_wrong wrote_by buffer_by refusal_of
   no_room h = rw (less_yes (length out) room 17 h) (refl, refl, omega arith)
 

@@ -5,7 +5,7 @@ use Rattle.terms.specs.Checks.{or_else, if_less, short, buffer}
 use Rattle.terms.specs.Refusals.{refusal_of, number_of}
 use Rattle.records.specs.Numbers.{num_at}
 use Rattle.records.specs.declared.Written.{Written}
-use Rattle.records.specs.declared.Written.TheVariants.{Wrote, Refused as refusedWritten}
+use Rattle.records.specs.declared.Written.TheVariants.{Wrote, Refused as refused_written}
 use Rattle.records.specs.declared.Marked.{Marked}
 use Rattle.records.specs.declared.Marked.TheVariants.{Is, Refused as Unmarked}
 use Rattle.records.specs.Cutting.{mark_wrong, message_cut, message_len}
@@ -137,4 +137,4 @@ room_wrong out = if_less (length out) room buffer
 -- how much was written
 abbrev pub wrote_in : Written → ℕ
 wrote_in (Wrote n) = n
-wrote_in (refusedWritten r) = 0
+wrote_in (refused_written r) = 0

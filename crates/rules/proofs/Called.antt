@@ -11,7 +11,7 @@ use Rattle.terms.specs.declared.Refusal.{Refusal}
 use Rattle.records.specs.Tx.{tx_of}
 use Rattle.records.specs.Vl.{Vl}
 use Rattle.records.specs.Contents.{tx_wrong, list_wrong}
-use Rattle.rules.specs.Answers.{Decision, commit, abort, votes, Vote, unvoted, waiting, voteCommit, voteAbort, Decided, unsettled, Settled, settled, Log, logged, unlogged}
+use Rattle.rules.specs.Answers.{Decision, commit, abort, votes, Vote, unvoted, waiting, vote_commit, vote_abort, Decided, unsettled, Settled, settled, Log, logged, unlogged}
 use Rattle.rules.specs.Bodies.{Body, stamp_of, same_body}
 use Rattle.rules.specs.Lists.{kind_of, decision_of, for_logging, for_proof, meets}
 use Rattle.rules.specs.Table.{Entry, Box, Told, find}
@@ -58,8 +58,8 @@ module _ {f : ℕ} {x : Box} {way : EntryPoint} {m : List ℕ} {b : Body} where
 module _ (told : Told) (x : Box) (way : EntryPoint) (m : List ℕ) (b : Body) (sane : tx_wrong (tx_of b) ≡ 0) where
   pr_vote : (e : Entry) → Prior x.table b (some e) → (v : Vote) → e.vote ≡ v → Move told.f x way m b (pr_by_vote told x b e v)
   unfolding pr_by_vote Holds cast vote_word word_in
-  pr_vote e p voteCommit q = again (vote commit) e p (rw q) refl
-  pr_vote e p (voteAbort r) q = again (vote abort) e p (rw q) refl
+  pr_vote e p vote_commit q = again (vote commit) e p (rw q) refl
+  pr_vote e p (vote_abort r) q = again (vote abort) e p (rw q) refl
   pr_vote e p waiting q = casts (waiting_rule x b) _ (some e) p (rw q) (ready_waiting x b sane) (λ _. inr q)
   pr_vote e p unvoted q = let w = first_of told x b sane in casts (first_vote told x b) _ (some e) p (rw q) w.ready (λ k. inl (w.clear k))
 

@@ -16,7 +16,7 @@ use Rattle.records.specs.Contents.{counts_wrong}
 use Rattle.records.specs.Cutting.{behind_mark, message_cut, rest_cut, tx_cut, tx_part}
 use Rattle.records.specs.Messages.{due_refusal}
 use Rattle.records.specs.Tx.{r_count, read_at, tx_len, tx_of, w_count, write_at, writes_from}
-use Rattle.rules.specs.Answers.{Answer, Settled, Vote, Voted, settled, unsettled, unvisited, unvoted, visited, voteAbort, voteCommit, waiting}
+use Rattle.rules.specs.Answers.{Answer, Settled, Vote, Voted, settled, unsettled, unvisited, unvoted, visited, vote_abort, vote_commit, waiting}
 use Rattle.rules.specs.Bodies.{Body, reads_of, same_body, stamp_of, writes_of}
 use Rattle.rules.specs.Table.{Box, Entry, Told, find}
 use Rattle.rules.specs.Tests.{test1, test2, test3, test4, test5}
@@ -114,8 +114,8 @@ module _ (told : Told) (x : Box) (p : EntryPoint) (m : List ℕ) where
     vote_bears : (e : Entry) → find (stamp_of (tx_part m)) x.table ≡ some e → e.decided ≡ unsettled → (v : Vote) → e.vote ≡ v
         → Bears told x p m (pr_by_vote told x (tx_part m) e v)
     unfolding pr_by_vote number_in answered
-    vote_bears e at d voteCommit q = kept_bears _ refl (record { entry = e; at = at; already = rw (d, q) tt })
-    vote_bears e at d (voteAbort n) q = kept_bears _ refl (record { entry = e; at = at; already = rw (d, q) tt })
+    vote_bears e at d vote_commit q = kept_bears _ refl (record { entry = e; at = at; already = rw (d, q) tt })
+    vote_bears e at d (vote_abort n) q = kept_bears _ refl (record { entry = e; at = at; already = rw (d, q) tt })
     vote_bears e at d waiting q =
         cast_bears _ _ _ _ (again_most told x (tx_part m) r w) (λ k. let s = some_eq k.at at in rw (s, d, q) at k.already)
     vote_bears e at d unvoted q =

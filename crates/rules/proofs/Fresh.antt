@@ -6,7 +6,7 @@ use mathlib.Core.Option.{Option, some, none}
 use mathlib.Core.List.{List, Memᴰ as In}
 use lib.Dec.{T}
 use Rattle.records.specs.Vl.{Vl}
-use Rattle.rules.specs.Answers.{Decision, commit, abort, Vote, unvoted, waiting, voteCommit, voteAbort, Answer, Voted, visited, Logged, Done, Settled, settled, unsettled}
+use Rattle.rules.specs.Answers.{Decision, commit, abort, Vote, unvoted, waiting, vote_commit, vote_abort, Answer, Voted, visited, Logged, Done, Settled, settled, unsettled}
 use Rattle.rules.specs.Answers.{View, logged, unlogged, view_as}
 use Rattle.rules.specs.Bodies.{Body, stamp_of}
 use Rattle.rules.specs.Lists.{decision_of}
@@ -182,5 +182,5 @@ stands_live e w = go e.decided e.vote refl w.vote
     go (settled abort) v q h = absurd (w.decided q)
     go unsettled unvoted q h = h
     go unsettled waiting q h = h
-    go unsettled voteCommit q h = h
-    go unsettled (voteAbort r) q h = h
+    go unsettled vote_commit q h = h
+    go unsettled (vote_abort r) q h = h

@@ -18,7 +18,7 @@ use Rattle.records.specs.declared.Mark.{Mark}
 use Rattle.records.specs.declared.Mark.TheVariants.{LG, DC, LD}
 use Rattle.records.specs.declared.Marked.TheVariants.{Is}
 use Rattle.rules.specs.Act.{EntryPoint, mark_by}
-use Rattle.rules.specs.Answers.{Decision, commit, abort, votes, Settled, settled, unsettled, Vote, unvoted, waiting, voteCommit, voteAbort, Answer}
+use Rattle.rules.specs.Answers.{Decision, commit, abort, votes, Settled, settled, unsettled, Vote, unvoted, waiting, vote_commit, vote_abort, Answer}
 use Rattle.rules.specs.Answers.{Log, View, logged, unlogged, log_view, view_as}
 use Rattle.rules.specs.Bodies.{Body, stamp_of, reads_of, writes_key}
 use Rattle.rules.specs.Lists.{kind_of, decision_of, for_logging, for_proof, tally, meets}
@@ -59,15 +59,15 @@ Holds o (elect d v) = ⊥
 unfoldable pub stands : Vote → Bool
 stands unvoted = false
 stands waiting = true
-stands voteCommit = true
-stands (voteAbort r) = false
+stands vote_commit = true
+stands (vote_abort r) = false
 
 pub stands_cast : (v : Vote) → cast v ≡ settled commit → T (stands v)
 unfolding cast stands
 stands_cast unvoted h = un_settled refl h
 stands_cast waiting h = tt
-stands_cast voteCommit h = tt
-stands_cast (voteAbort r) h = abort_commit refl h
+stands_cast vote_commit h = tt
+stands_cast (vote_abort r) h = abort_commit refl h
 
 -- the tests for words
 pub word_eq : (w : Word) (o : Option Word) → T (is_word w o) → o ≡ some w
@@ -118,7 +118,7 @@ pub data Names (x : Box) (r : Read) : Type 0 where
 -- what a vote that is stored has been tested for
 pub record Ready (x : Box) (b : Body) (v : Vote) : Type 0 where
   pub below : (r : Read) → In r (reads_of b) → read_version r < stamp_of b
-  pub settled : v ≡ voteCommit → (r : Read) → In r (reads_of b) → Names x r
+  pub settled : v ≡ vote_commit → (r : Read) → In r (reads_of b) → Names x r
 
 pub record Clear (x : Box) (b : Body) : Type 0 where
   pub under : (e : Entry) → In e x.table → T (live e) → T (undercut b e.body) → ⊥

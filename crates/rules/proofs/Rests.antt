@@ -14,7 +14,7 @@ use Rattle.records.specs.Vl.{Vl}
 use Rattle.records.specs.Views.{Views}
 use Rattle.records.specs.declared.Mark.{Mark}
 use Rattle.records.specs.declared.Mark.TheVariants.{PR, LG, DC, RD, IV, LD}
-use Rattle.rules.specs.Answers.{Decision, commit, Version, Vote, unvoted, waiting, voteCommit, voteAbort, settled}
+use Rattle.rules.specs.Answers.{Decision, commit, Version, Vote, unvoted, waiting, vote_commit, vote_abort, settled}
 use Rattle.rules.specs.Bodies.{Body, stamp_of, reads_of, writes_key}
 use Rattle.rules.specs.Lists.{decision_of}
 use Rattle.rules.specs.Table.{Entry, empty, find, fold_at, no_version}
@@ -143,12 +143,12 @@ module _ (f : ℕ) (faulty : ℕ → Bool) where
     folded = λ k. inl (ap (λ (v : Version). v.stamp.0) (none_folded 512 k));
   }
 
-  cast_commit : (v : Vote) → cast v ≡ settled commit → v ≡ voteCommit
+  cast_commit : (v : Vote) → cast v ≡ settled commit → v ≡ vote_commit
   unfolding cast
   cast_commit unvoted h = absurd (un_settled refl h)
   cast_commit waiting h = absurd (un_settled refl h)
-  cast_commit voteCommit h = refl
-  cast_commit (voteAbort r) h = absurd (abort_commit refl h)
+  cast_commit vote_commit h = refl
+  cast_commit (vote_abort r) h = absurd (abort_commit refl h)
 
   ready_read : (i : ℕ) (es : List Event) → Rests i es → (b : Body) (v : Vote) → cast v ≡ settled commit → Ready (box_at f i es) b v → (r : Read)
       → In r (reads_of b) → ReadOk es b r

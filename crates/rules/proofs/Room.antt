@@ -20,7 +20,7 @@ use Rattle.records.specs.declared.Mark.TheVariants.{PR, LG, DC, RD, IV, LD}
 use Rattle.records.specs.declared.Marked.{Marked}
 use Rattle.records.specs.declared.Marked.TheVariants.{Is, Refused as Unmarked}
 use Rattle.records.specs.Messages.{contents_wrong, due_refusal, rd_key, rd_stamp}
-use Rattle.rules.specs.Answers.{Decision, commit, abort, Log, logged, unlogged, Settled, settled, unsettled, Vote, unvoted, waiting, voteCommit, voteAbort}
+use Rattle.rules.specs.Answers.{Decision, commit, abort, Log, logged, unlogged, Settled, settled, unsettled, Vote, unvoted, waiting, vote_commit, vote_abort}
 use Rattle.rules.specs.Bodies.{Body, stamp_of, same_body}
 use Rattle.rules.specs.Lists.{decision_of, meets}
 use Rattle.rules.specs.Table.{Entry, Box, Told, find, put}
@@ -75,8 +75,8 @@ module _ (K L : ℕ → Type 0) (told : Told) (x : Box) (b : Body) where
   pr_by_lem (some e) p = pick_elim (Fit K L told x b) (same_body e.body b) (λ _. by_decision e.decided) (λ _. tt)
     where
       by_vote : (v : Vote) → Fit K L told x b (pr_by_vote told x b e v)
-      by_vote voteCommit = tt
-      by_vote (voteAbort r) = tt
+      by_vote vote_commit = tt
+      by_vote (vote_abort r) = tt
       by_vote waiting = (refl, λ q. absurd (none_some q p))
       by_vote unvoted = (refl, λ q. absurd (none_some q p))
 

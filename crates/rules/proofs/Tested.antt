@@ -13,7 +13,7 @@ use Rattle.records.specs.declared.Read.{Read}
 use Rattle.records.specs.Tx.{tx_of, read_key, read_version}
 use Rattle.records.specs.Contents.{tx_wrong, too_new, largest_key, read_wide}
 use Rattle.rules.specs.Answers.{commit, abort, Reason, Ahead, NoVersion, Overwritten, Undercuts, ReadMark, Dependency, Vote, waiting, Settled, settled, unsettled}
-use Rattle.rules.specs.Answers.{voteCommit, voteAbort}
+use Rattle.rules.specs.Answers.{vote_commit, vote_abort}
 use Rattle.rules.specs.Bodies.{Body, stamp_of, reads_of, writes_key}
 use Rattle.rules.specs.Table.{Entry, Box, Told, find, folded_at, live}
 use Rattle.rules.specs.Tests.{test1, test2, undercut, test3, test4, test5, Status, status_by, status_of, status, is_bad, is_pending, waiting_rule}
@@ -21,10 +21,10 @@ use Rattle.rules.specs.Tests.{fold_above, first_vote, is_folded, is_low, status_
 use Rattle.rules.proofs.Laws.{pick_elim, both, decide_t, no_both, nor_l, nor_r, any_of, not_any}
 use Rattle.rules.proofs.Moves.{stands, Committed, Names, start, here_held, here_folded, Ready, Clear}
 
-not_commit : (r : Reason) {A : Type 0} → ◌≡◌ {A = Vote} (voteAbort r) voteCommit → A
+not_commit : (r : Reason) {A : Type 0} → ◌≡◌ {A = Vote} (vote_abort r) vote_commit → A
 not_commit r p = let z : ◌≡◌ {A = ℕ} 0 1 = cc in absurd (omega arith)
 
-not_waiting : {A : Type 0} → ◌≡◌ {A = Vote} waiting voteCommit → A
+not_waiting : {A : Type 0} → ◌≡◌ {A = Vote} waiting vote_commit → A
 not_waiting p = let z : ◌≡◌ {A = ℕ} 0 1 = cc in absurd (omega arith)
 
 -- 5: the keys of a transaction that is read without refusal
@@ -76,7 +76,7 @@ settled_of_lem x r =
     P : Status → Type 0
     P s = (T (is_bad s) → ⊥) → (T (is_pending s) → ⊥) → Names x r
 
-ready_abort : (x : Box) (b : Body) (n : Reason) → tx_wrong (tx_of b) ≡ 0 → Ready x b (voteAbort n)
+ready_abort : (x : Box) (b : Body) (n : Reason) → tx_wrong (tx_of b) ≡ 0 → Ready x b (vote_abort n)
 ready_abort x b n h = record { below = below_of b h; settled = λ p. not_commit n p }
 
 pub ready_waiting : (x : Box) (b : Body) → tx_wrong (tx_of b) ≡ 0 → Ready x b (waiting_rule x b)
@@ -97,7 +97,7 @@ pub record First (x : Box) (b : Body) (v : Vote) : Type 0 where
   pub ready : Ready x b v
   pub clear : T (stands v) → Clear x b
 
-first_abort : (x : Box) (b : Body) (n : Reason) → tx_wrong (tx_of b) ≡ 0 → First x b (voteAbort n)
+first_abort : (x : Box) (b : Body) (n : Reason) → tx_wrong (tx_of b) ≡ 0 → First x b (vote_abort n)
 unfolding stands
 first_abort x b n h = record { ready = ready_abort x b n h; clear = λ s. absurd s }
 

@@ -16,7 +16,7 @@ use Rattle.records.specs.Vl.{Vl}
 use Rattle.records.specs.Views.{Views}
 use Rattle.records.specs.Contents.{list_wrong}
 use Rattle.records.specs.declared.Mark.{Mark}
-use Rattle.records.specs.declared.Mark.TheVariants.{PR as markedPR, LG as markedLG, DC as markedDC, RD as markedRD, IV as markedIV, LD as markedLD}
+use Rattle.records.specs.declared.Mark.TheVariants.{PR as marked_pr, LG as marked_lg, DC as marked_dc, RD as marked_rd, IV as marked_iv, LD as marked_ld}
 use Rattle.records.specs.declared.ViewMark.TheVariants.{EL}
 use Rattle.records.specs.declared.Marked.{Marked}
 use Rattle.terms.specs.declared.Refusal.TheVariants.{Mark as OtherMark}
@@ -70,21 +70,21 @@ module _ (f : ℕ) (faulty : ℕ → Bool) where
       upheld_gave f faulty es b (elect (decision_of p.answer) (ballot_view p)) p.number (all_in _ l.ballots h p m) s.1
 
   carries_test : List Event → Mark → List ℕ → Bool
-  carries_test es markedPR m = true
-  carries_test es markedLG m = backed_test es (tx_part m) (list_behind m)
-  carries_test es markedDC m = backed_test es (tx_part m) (list_behind m)
-  carries_test es markedRD m = true
-  carries_test es markedIV m = true
-  carries_test es markedLD m = chosen_test es (tx_part m) (views_behind EL m)
+  carries_test es marked_pr m = true
+  carries_test es marked_lg m = backed_test es (tx_part m) (list_behind m)
+  carries_test es marked_dc m = backed_test es (tx_part m) (list_behind m)
+  carries_test es marked_rd m = true
+  carries_test es marked_iv m = true
+  carries_test es marked_ld m = chosen_test es (tx_part m) (views_behind EL m)
 
   carries_by : (es : List Event) (k : Mark) (m : List ℕ) → T (carries_test es k m) → Carries f faulty (given_in f es) k m
   unfolding Carries carries_test
-  carries_by es markedPR m h = tt
-  carries_by es markedLG m h = backed_by es (tx_part m) (list_behind m) h
-  carries_by es markedDC m h = backed_by es (tx_part m) (list_behind m) h
-  carries_by es markedRD m h = tt
-  carries_by es markedIV m h = tt
-  carries_by es markedLD m h = chosen_by es (tx_part m) (views_behind EL m) h
+  carries_by es marked_pr m h = tt
+  carries_by es marked_lg m h = backed_by es (tx_part m) (list_behind m) h
+  carries_by es marked_dc m h = backed_by es (tx_part m) (list_behind m) h
+  carries_by es marked_rd m h = tt
+  carries_by es marked_iv m h = tt
+  carries_by es marked_ld m h = chosen_by es (tx_part m) (views_behind EL m) h
 
   -- what a message carries that is read was given
   honest_test : List Event → EntryPoint → List ℕ → Bool
@@ -145,7 +145,7 @@ few = omega arith
 
 record BusyTests : Type 0 where
   fair : T (fair_test 1 liar busy)
-  other_mark : answer_to 1 (at (due (Is markedLG)) 0 (PR (writes 50 3))) (each (due (Is markedPR)) 0 4 (PR (writes 50 3)) []) ≡ Refused OtherMark
+  other_mark : answer_to 1 (at (due (Is marked_lg)) 0 (PR (writes 50 3))) (each (due (Is marked_pr)) 0 4 (PR (writes 50 3)) []) ≡ Refused OtherMark
   written : T (provable 1 liar busy (tx_bytes (writes 50 3)) commit)
   was_read : T (provable 1 liar busy (tx_bytes (reads 60 3 50)) commit)
   other : T (provable 1 liar busy (tx_bytes (writes 55 3)) abort)
@@ -213,7 +213,7 @@ record RescueTests : Type 0 where
   no_abort : T (not (provable 1 liar (torn 50) (tx_bytes (writes 50 3)) abort))
   still_no_commit : T (not (provable 1 liar (invoked 50 0 (torn 50)) (tx_bytes (writes 50 3)) commit))
   still_no_abort : T (not (provable 1 liar (invoked 50 0 (torn 50)) (tx_bytes (writes 50 3)) abort))
-  moves : answer_to 1 (at (due (Is markedIV)) 3 (iv (writes 50 3) (seen 0 4 0))) (torn 50) ≡ Elected abort (view_as 1) 3
+  moves : answer_to 1 (at (due (Is marked_iv)) 3 (iv (writes 50 3) (seen 0 4 0))) (torn 50) ≡ Elected abort (view_as 1) 3
   takes : answer_to 1 (at receive 3 (elected 50 3 1)) (invoked 50 0 (torn 50)) ≡ Logged commit (view_as 1)
   commits : T (provable 1 liar rescued (tx_bytes (writes 50 3)) commit)
   done : answer_to 1 (at receive 0 proved) rescued ≡ Done

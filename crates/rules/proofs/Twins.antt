@@ -20,7 +20,7 @@ use Rattle.records.specs.Messages.{list_behind, rd_key, rd_stamp, views_behind}
 use Rattle.records.specs.Tx.{read_key, read_version, write_key}
 use Rattle.records.specs.Vl.{Vl}
 use Rattle.records.specs.Views.{Views}
-use Rattle.rules.specs.Answers.{Decision, Dependency, Raised, Version, apart_from_number, Settled, Vote, settled, unsettled, unvoted, voteAbort, voteCommit, waiting}
+use Rattle.rules.specs.Answers.{Decision, Dependency, Raised, Version, apart_from_number, Settled, Vote, settled, unsettled, unvoted, vote_abort, vote_commit, waiting}
 use Rattle.rules.specs.Bodies.{Body, reads_of, same_body, stamp_of, writes_of}
 use Rattle.rules.specs.Lists.{decision_of}
 use Rattle.rules.specs.Table.{Box, Entry, Told, find, fold_at, folded_at, limit, live}
@@ -95,8 +95,8 @@ module _ {x y : Box} (w : Twins x y) where
   unfolding waiting_rule
   waiting_twins b =
       λ i.
-      pick (any (λ r. is_bad (status_twins r i)) (reads_of b)) (voteAbort Dependency)
-      (pick (any (λ r. is_pending (status_twins r i)) (reads_of b)) waiting voteCommit)
+      pick (any (λ r. is_bad (status_twins r i)) (reads_of b)) (vote_abort Dependency)
+      (pick (any (λ r. is_pending (status_twins r i)) (reads_of b)) waiting vote_commit)
 
   names_twins : (r : Read) → names x r ≡ names y r
   unfolding names
@@ -129,8 +129,8 @@ module _ {x y : Box} (w : Twins x y) where
   -- ---- PR, whose number may differ
   vote_twins : (told : Told) (b : Body) (e : Entry) (v : Vote) → apart_in (pr_by_vote told x b e v) ≡ apart_in (pr_by_vote told y b e v)
   unfolding pr_by_vote
-  vote_twins told b e voteCommit = refl
-  vote_twins told b e (voteAbort r) = refl
+  vote_twins told b e vote_commit = refl
+  vote_twins told b e (vote_abort r) = refl
   vote_twins told b e waiting = rw (waiting_twins b) (cast_apart b (some e) _ _ _)
   vote_twins told b e unvoted = rw (first_twins told b) (cast_apart b (some e) _ _ _)
 

@@ -9,7 +9,7 @@ pub use Rattle.terms.specs.Codes.{decision_number, kind_number}
 pub use Rattle.rules.specs.declared.Reason.{Reason}
 pub use Rattle.rules.specs.declared.Reason.TheVariants.{Ahead, NoVersion, Overwritten, Undercuts, ReadMark, Dependency}
 pub use Rattle.rules.specs.declared.Vote.{Vote}
-pub use Rattle.rules.specs.declared.Vote.TheVariants.{None as unvoted, Commit as voteCommit, Abort as voteAbort, Waiting as waiting}
+pub use Rattle.rules.specs.declared.Vote.TheVariants.{None as unvoted, Commit as vote_commit, Abort as vote_abort, Waiting as waiting}
 pub use Rattle.rules.specs.declared.Settled.{Settled}
 pub use Rattle.rules.specs.declared.Settled.TheVariants.{None as unsettled, Is as settled}
 pub use Rattle.rules.specs.declared.Version.{Version}
@@ -34,15 +34,15 @@ reason_number Dependency = 6
 -- the reason beside it
 abbrev pub vote_number : Vote → ℕ
 vote_number unvoted = 0
-vote_number voteCommit = 1
-vote_number (voteAbort r) = 2
+vote_number vote_commit = 1
+vote_number (vote_abort r) = 2
 vote_number waiting = 3
 
 abbrev pub vote_reason : Vote → ℕ
 vote_reason unvoted = 0
 vote_reason waiting = 0
-vote_reason voteCommit = 0
-vote_reason (voteAbort r) = reason_number r
+vote_reason vote_commit = 0
+vote_reason (vote_abort r) = reason_number r
 
 -- "decision or none": its code
 abbrev pub settled_number : Settled → ℕ

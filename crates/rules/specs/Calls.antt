@@ -11,7 +11,7 @@ use Rattle.records.specs.Tx.{write_key, write_value}
 use Rattle.records.specs.Vl.{Vl}
 use Rattle.rules.specs.Answers.{Answer, Decided, Decision, Done, Found, Logged, Refused, Settled, Version, Voted, abort, commit, settled, unsettled}
 use Rattle.rules.specs.Answers.{Log, View, logged, unlogged, view_as}
-use Rattle.rules.specs.Answers.{Vote, unvisited, unvoted, visited, voteAbort, voteCommit, waiting}
+use Rattle.rules.specs.Answers.{Vote, unvisited, unvoted, visited, vote_abort, vote_commit, waiting}
 use Rattle.rules.specs.Bodies.{Body, same_body, stamp_of, writes_key, writes_of}
 use Rattle.rules.specs.Lists.{decision_of, for_logging, for_proof, kind_of, lacking, meets}
 use Rattle.rules.specs.Table.{Box, Told, Entry, find, fold_at, limit, live, log_in, no_version, view_in, vote_in}
@@ -72,8 +72,8 @@ cast_act b o v n = record { answer = Voted v (visited n); change = puts (record 
 -- "vote cast, the same vote again; waiting, the waiting rule; undecided with vote none .., the tests as if new, in its place"; A2: "A PR for it later,
 -- while it is undecided, runs the five tests as if new but takes no further room."; A6: "an answer for an entry already .. voted on" carries no number
 unfoldable pub pr_by_vote : Told → Box → Body → Entry → Vote → Act
-pr_by_vote told x b e voteCommit = keep (Voted voteCommit unvisited)
-pr_by_vote told x b e (voteAbort r) = keep (Voted (voteAbort r) unvisited)
+pr_by_vote told x b e vote_commit = keep (Voted vote_commit unvisited)
+pr_by_vote told x b e (vote_abort r) = keep (Voted (vote_abort r) unvisited)
 pr_by_vote told x b e waiting = cast_act b (some e) (waiting_rule x b) (again_visits x b)
 pr_by_vote told x b e unvoted = cast_act b (some e) (first_vote told x b) (first_visits told x b x.table)
 

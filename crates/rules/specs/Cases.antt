@@ -8,9 +8,9 @@ use Rattle.records.specs.Tx.{Tx}
 use Rattle.records.specs.Vl.{Vl}
 use Rattle.records.specs.declared.Ballot.{Ballot}
 use Rattle.records.specs.declared.ViewMark.TheVariants.{VS, EL}
-use Rattle.records.specs.declared.Mark.TheVariants.{LG as markedLG, DC as markedDC}
+use Rattle.records.specs.declared.Mark.TheVariants.{LG as marked_lg, DC as marked_dc}
 use Rattle.records.specs.Writing.{pr_bytes, listed_bytes, viewed_bytes, rd_bytes}
-use Rattle.rules.specs.Answers.{Answer, Decision, Done, Found, Kind, Logged, Refused, Voted, abort, commit, logs, voteAbort, voteCommit, votes}
+use Rattle.rules.specs.Answers.{Answer, Decision, Done, Found, Kind, Logged, Refused, Voted, abort, commit, logs, vote_abort, vote_commit, votes}
 use Rattle.rules.specs.Answers.{Reason, Ahead, Dependency, NoVersion, Overwritten, ReadMark, Undercuts}
 use Rattle.rules.specs.Answers.{apart_from_number, decision_number, kind_number, unvisited, view_as, waiting}
 use Rattle.rules.specs.Table.{Box, Told, empty}
@@ -95,10 +95,10 @@ unfoldable pub PR : Tx → List ℕ
 PR t = pr_bytes t
 
 unfoldable pub lg : Tx → Vl → List ℕ
-lg t l = listed_bytes markedLG t l
+lg t l = listed_bytes marked_lg t l
 
 unfoldable pub dc : Tx → Vl → List ℕ
-dc t l = listed_bytes markedDC t l
+dc t l = listed_bytes marked_dc t l
 
 unfoldable pub iv : Tx → List Ballot → List ℕ
 iv t ps = viewed_bytes VS t (record { leader = 0; decision = 0; view = 0; ballots = ps })
@@ -119,13 +119,13 @@ RD k s = rd_bytes k s
 
 -- ---- the answers of a PR, apart from A6's number
 unfoldable pub commits : Answer
-commits = Voted voteCommit unvisited
+commits = Voted vote_commit unvisited
 
 unfoldable pub waits : Answer
 waits = Voted waiting unvisited
 
 unfoldable pub aborts : Reason → Answer
-aborts r = Voted (voteAbort r) unvisited
+aborts r = Voted (vote_abort r) unvisited
 
 -- the answer of an LG: a log of view 0
 unfoldable pub logs0 : Decision → Answer

@@ -4,7 +4,7 @@ use Rattle.terms.specs.declared.Refusal.TheVariants.{OtherBody}
 use Rattle.records.specs.declared.Read.{Read}
 use Rattle.records.specs.Tx.{Tx}
 use Rattle.rules.specs.Answers.{Ahead, Answer, Decided, Dependency, NoVersion, Overwritten, ReadMark, Reason, Refused, Undercuts, Voted}
-use Rattle.rules.specs.Answers.{abort, commit, settled, unsettled, unvisited, unvoted, visited, voteAbort, voteCommit, waiting}
+use Rattle.rules.specs.Answers.{abort, commit, settled, unsettled, unvisited, unvoted, visited, vote_abort, vote_commit, waiting}
 use Rattle.rules.specs.Table.{Entry}
 use Rattle.rules.specs.Act.{act, receive}
 use Rattle.rules.specs.Cases.{PR, line, read, reads, tx, write, writes}
@@ -27,17 +27,17 @@ at t asked due = record { standing = t; mark = 0; asked = asked; due = due }
 
 -- a vote with its number, and one without
 unfoldable pub commits_by : ℕ → Answer
-commits_by n = Voted voteCommit (visited n)
+commits_by n = Voted vote_commit (visited n)
 
 unfoldable pub waits_by : ℕ → Answer
 waits_by n = Voted waiting (visited n)
 
 unfoldable pub aborts_by : Reason → ℕ → Answer
-aborts_by r n = Voted (voteAbort r) (visited n)
+aborts_by r n = Voted (vote_abort r) (visited n)
 
 -- H = 3: 10, 20 and 30, committed, write the keys 4, 5 and 6
 unfoldable pub done : Tx → Entry
-done t = entry t voteCommit unsettled (settled commit)
+done t = entry t vote_commit unsettled (settled commit)
 
 unfoldable pub writers : List Entry
 writers = done (writes 10 4) ∷ done (writes 20 5) ∷ done (writes 30 6) ∷ []
@@ -126,7 +126,7 @@ all_pass =
     -- of one stamp held twice the first is found
     ∷ at (done (writes 10 4) ∷ done (writes 10 4) ∷ []) (reads 60 4 10) (commits_by 6)
     -- "wait" carries a number
-    ∷ at (entry (writes 50 3) voteCommit unsettled unsettled ∷ []) (reads 60 3 50) (waits_by 4)
+    ∷ at (entry (writes 50 3) vote_commit unsettled unsettled ∷ []) (reads 60 3 50) (waits_by 4)
     -- 1 + 4 × 8: eight reads of one entry, and eight writes
     ∷ at (done (tx 10 [] (write 0 7 ∷ write 1 7 ∷ write 2 7 ∷ write 3 7 ∷ write 4 7 ∷ write 5 7 ∷ write 6 7 ∷ write 7 7 ∷ [])) ∷ [])
     (tx 60 (read 0 10 ∷ read 1 10 ∷ read 2 10 ∷ read 3 10 ∷ read 4 10 ∷ read 5 10 ∷ read 6 10 ∷ read 7 10 ∷ [])
@@ -138,9 +138,9 @@ all_pass =
 unfoldable pub again : List Counted
 again =
     at (done (writes 10 4) ∷ entry (reads 60 4 10) waiting unsettled unsettled ∷ done (writes 30 6) ∷ []) (reads 60 4 10) (commits_by 3)
-    ∷ at (entry (writes 10 4) voteCommit unsettled unsettled ∷ entry (reads 60 4 10) waiting unsettled unsettled ∷ []) (reads 60 4 10) (waits_by 3)
+    ∷ at (entry (writes 10 4) vote_commit unsettled unsettled ∷ entry (reads 60 4 10) waiting unsettled unsettled ∷ []) (reads 60 4 10) (waits_by 3)
     ∷ at
-    (entry (writes 10 4) voteCommit unsettled (settled abort) ∷ done (writes 20 5) ∷ entry (reading (read 4 10) (read 5 20) (read 6 0)) waiting unsettled unsettled ∷ [])
+    (entry (writes 10 4) vote_commit unsettled (settled abort) ∷ done (writes 20 5) ∷ entry (reading (read 4 10) (read 5 20) (read 6 0)) waiting unsettled unsettled ∷ [])
     (reading (read 4 10) (read 5 20) (read 6 0))
     (aborts_by Dependency 6)
     ∷ at (done (writes 20 5) ∷ entry (reading (read 4 10) (read 5 20) (read 6 0)) waiting unsettled unsettled ∷ [])
@@ -166,8 +166,8 @@ none_held =
 -- "A refusal and an answer for an entry already decided or voted on carry no number."
 unfoldable pub no_number : List Counted
 no_number =
-    at (entry (writes 60 3) voteCommit unsettled unsettled ∷ []) (writes 60 3) (Voted voteCommit unvisited)
-    ∷ at (entry (writes 60 3) (voteAbort Undercuts) unsettled unsettled ∷ []) (writes 60 3) (Voted (voteAbort Undercuts) unvisited)
+    at (entry (writes 60 3) vote_commit unsettled unsettled ∷ []) (writes 60 3) (Voted vote_commit unvisited)
+    ∷ at (entry (writes 60 3) (vote_abort Undercuts) unsettled unsettled ∷ []) (writes 60 3) (Voted (vote_abort Undercuts) unvisited)
     ∷ at (done (writes 60 3) ∷ []) (writes 60 3) (Decided commit)
     ∷ at (done (writes 60 4) ∷ []) (writes 60 3) (Refused OtherBody)
     ∷ []

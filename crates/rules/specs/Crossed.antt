@@ -1,9 +1,9 @@
 -- A9 is not empty: on a lent table that holds one stamp twice, two decisions for stamps that it does not hold, in either order.
 use Rattle.std.specs.Prelude.{ℕ, ◌≡◌, List, [], ◌∷◌, ◌++◌}
 use Rattle.terms.specs.declared.Refusal.TheVariants.{Full, Old}
-use Rattle.records.specs.declared.Mark.TheVariants.{DC as markedDC}
+use Rattle.records.specs.declared.Mark.TheVariants.{DC as marked_dc}
 use Rattle.records.specs.declared.Marked.TheVariants.{Is}
-use Rattle.rules.specs.Answers.{Answer, Decided, Done, NoVersion, Raised, Refused, abort, commit, settled, unsettled, unvoted, voteCommit, votes}
+use Rattle.rules.specs.Answers.{Answer, Decided, Done, NoVersion, Raised, Refused, abort, commit, settled, unsettled, unvoted, vote_commit, votes}
 use Rattle.rules.specs.Answers.{waiting}
 use Rattle.rules.specs.Table.{Box, Entry}
 use Rattle.rules.specs.Act.{due, raising, receive}
@@ -14,7 +14,7 @@ use Rattle.rules.specs.Vectors.{elects, entry, logs_in, marked}
 -- 50 is held twice, undecided and committed, and 60 waits for it
 unfoldable pub three : List Entry → List Entry
 three es =
-    entry (writes 50 3) voteCommit unsettled unsettled
+    entry (writes 50 3) vote_commit unsettled unsettled
     ∷ entry (tx 50 [] (write 3 9 ∷ [])) unvoted unsettled (settled commit)
     ∷ entry (reads 60 3 50) waiting unsettled unsettled
     ∷ es
@@ -29,7 +29,7 @@ committing capacity =
 
 unfoldable pub aborting : ℕ → Call
 aborting capacity =
-    record { entry = due (Is markedDC); told = record { f = 1; capacity = capacity; clock = 0; delta = 3 }; message = DC (writes 65 5) votes abort 4 }
+    record { entry = due (Is marked_dc); told = record { f = 1; capacity = capacity; clock = 0; delta = 3 }; message = DC (writes 65 5) votes abort 4 }
 
 unfoldable pub committed : Entry
 committed = entry (writes 70 5) unvoted unsettled (settled commit)

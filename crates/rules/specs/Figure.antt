@@ -5,7 +5,7 @@ use Rattle.records.specs.declared.Mark.TheVariants.{PR}
 use Rattle.records.specs.declared.Marked.TheVariants.{Is}
 use Rattle.records.specs.Cutting.{tx_part}
 use Rattle.rules.specs.Answers.{Answer, Decided, Done, Elected, Found, Logged, Raised, Refused, Settled, Visited, Vote, Voted}
-use Rattle.rules.specs.Answers.{settled, unsettled, unvisited, unvoted, visited, voteAbort, voteCommit, waiting}
+use Rattle.rules.specs.Answers.{settled, unsettled, unvisited, unvoted, visited, vote_abort, vote_commit, waiting}
 use Rattle.rules.specs.Bodies.{stamp_of}
 use Rattle.rules.specs.Table.{Box, Entry, Told, find}
 use Rattle.rules.specs.Act.{EntryPoint, act, mark_by}
@@ -28,8 +28,8 @@ figure_of t = 33 * (length t + 1)
 -- "already decided or voted on": a commit or an abort; a waiting vote is asked again
 unfoldable pub answered : Settled → Vote → Bool
 answered (settled d) v = true
-answered unsettled voteCommit = true
-answered unsettled (voteAbort r) = true
+answered unsettled vote_commit = true
+answered unsettled (vote_abort r) = true
 answered unsettled waiting = false
 answered unsettled unvoted = false
 

@@ -3,7 +3,7 @@ use Rattle.std.specs.Prelude.{ℕ, zero, suc, ◌+◌, Bool, false, not, ◌&&�
 use Rattle.terms.specs.declared.Refusal.TheVariants.{Ahead as AheadOfClock, Full, Group, Misbehaviour, Old, Undecided}
 use Rattle.records.specs.Tx.{Tx, tx_bytes}
 use Rattle.rules.specs.Answers.{Answer, Dependency, Done, NoVersion, Overwritten, Raised, Refused, Version, apart_from_number}
-use Rattle.rules.specs.Answers.{abort, commit, settled, unsettled, unvoted, voteAbort, voteCommit, votes, waiting}
+use Rattle.rules.specs.Answers.{abort, commit, settled, unsettled, unvoted, vote_abort, vote_commit, votes, waiting}
 use Rattle.rules.specs.Bodies.{Body}
 use Rattle.rules.specs.Table.{Box, Entry, box_with, empty, no_version}
 use Rattle.rules.specs.Act.{EntryPoint, act, raising, receive}
@@ -42,11 +42,11 @@ olds =
     -- 15 stands before it, and so does 7; 9 and 13 behind it
     ∷ called (LM 120 ∷ got (RD 3 111) ∷ got (RD 3 110) ∷ got (PR (reads 60 3 60)) ∷ got (PR (reads 60 3 50)) ∷ [])
     (Raised ∷ Refused AheadOfClock ∷ Refused Old ∷ Refused Misbehaviour ∷ Refused Old ∷ [])
-    ∷ lent_low (entry (writes 50 4) voteCommit unsettled unsettled ∷ []) 50 no_version (got (PR (writes 50 3)) ∷ got (PR (writes 50 4)) ∷ [])
+    ∷ lent_low (entry (writes 50 4) vote_commit unsettled unsettled ∷ []) 50 no_version (got (PR (writes 50 3)) ∷ got (PR (writes 50 4)) ∷ [])
     (Refused Old ∷ Refused Old ∷ [])
     ∷ record {
       told = record { f = 1; capacity = 1; clock = 100; delta = 10 };
-      start = folded (entry (writes 60 4) voteCommit unsettled unsettled ∷ []) 50 no_version;
+      start = folded (entry (writes 60 4) vote_commit unsettled unsettled ∷ []) 50 no_version;
       sent = got (PR (writes 50 3)) ∷ got (PR (writes 51 3)) ∷ [];
       due = Refused Old ∷ Refused Full ∷ [];
     }
@@ -60,12 +60,12 @@ olds =
     (commits ∷ waits ∷ Done ∷ Refused Undecided ∷ Raised ∷ [])
     ∷ called (got (LG (writes 50 3) commit 4) ∷ LM 50 ∷ []) (logs0 commit ∷ Refused Undecided ∷ [])
     -- 18 before 19
-    ∷ lent_low (entry (writes 50 3) voteCommit unsettled unsettled ∷ []) 60 no_version (LM 55 ∷ LM 60 ∷ LM 61 ∷ [])
+    ∷ lent_low (entry (writes 50 3) vote_commit unsettled unsettled ∷ []) 60 no_version (LM 55 ∷ LM 60 ∷ LM 61 ∷ [])
     (Refused Old ∷ Refused Old ∷ Refused Undecided ∷ [])
     -- 14 before both
     ∷ record {
       told = record { f = 1; capacity = 256; clock = 100; delta = 10 };
-      start = folded (entry (writes 50 3) voteCommit unsettled unsettled ∷ []) 60 no_version;
+      start = folded (entry (writes 50 3) vote_commit unsettled unsettled ∷ []) 60 no_version;
       sent = LM 55 ∷ LM 61 ∷ [];
       due = Refused Group ∷ Refused Group ∷ [];
     }
@@ -166,16 +166,16 @@ leavings =
     -- committed and aborted ones go, "the rest staying in order"; the read marks stay
     leaves
     (box_with
-    (entry (writes 60 3) voteCommit unsettled unsettled ∷ done (writes 50 0) ∷ entry (reads 70 3 0) (voteAbort Overwritten) unsettled (settled abort)
+    (entry (writes 60 3) vote_commit unsettled unsettled ∷ done (writes 50 0) ∷ entry (reads 70 3 0) (vote_abort Overwritten) unsettled (settled abort)
     ∷ entry (writes 40 4) unvoted unsettled (settled abort) ∷ done (writes 55 4) ∷ [])
     (9 ∷ replicate 511 0) 20 (version 10 6 ∷ replicate 511 no_version))
     (LM 50 ∷ [])
     (box_with
-    (entry (writes 60 3) voteCommit unsettled unsettled ∷ entry (reads 70 3 0) (voteAbort Overwritten) unsettled (settled abort) ∷ done (writes 55 4) ∷ [])
+    (entry (writes 60 3) vote_commit unsettled unsettled ∷ entry (reads 70 3 0) (vote_abort Overwritten) unsettled (settled abort) ∷ done (writes 55 4) ∷ [])
     (9 ∷ replicate 511 0) 50 (version 50 7 ∷ replicate 511 no_version))
     -- 18 of an RD leaves its mark; 18 and 19 leave all else
-    ∷ leaves (folded (entry (writes 60 0) voteCommit unsettled unsettled ∷ []) 50 (version 40 7)) (got (RD 0 50) ∷ LM 50 ∷ LM 60 ∷ got (PR (writes 50 3)) ∷ [])
-    (folded (entry (writes 60 0) voteCommit unsettled unsettled ∷ []) 50 (version 40 7))
+    ∷ leaves (folded (entry (writes 60 0) vote_commit unsettled unsettled ∷ []) 50 (version 40 7)) (got (RD 0 50) ∷ LM 50 ∷ LM 60 ∷ got (PR (writes 50 3)) ∷ [])
+    (folded (entry (writes 60 0) vote_commit unsettled unsettled ∷ []) 50 (version 40 7))
     -- no other call raises the low mark or folds
     ∷ leaves (folded [] 50 (version 40 7)) (got (PR (writes 60 0)) ∷ got (DC (writes 60 0) votes commit 6) ∷ [])
     (folded (done (writes 60 0) ∷ []) 50 (version 40 7))

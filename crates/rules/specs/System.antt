@@ -18,7 +18,7 @@ use Rattle.records.specs.declared.Marked.TheVariants.{Is}
 use Rattle.records.specs.Cutting.{tx_part}
 use Rattle.records.specs.Messages.{due_refusal, list_behind, views_behind}
 use Rattle.rules.specs.Answers.{Answer, Decided, Decision, Done, Elected, Found, Kind, Logged, Raised, Refused, Voted, abort, commit, logs, votes}
-use Rattle.rules.specs.Answers.{Settled, Vote, settled, unsettled, unvoted, voteAbort, voteCommit, waiting}
+use Rattle.rules.specs.Answers.{Settled, Vote, settled, unsettled, unvoted, vote_abort, vote_commit, waiting}
 use Rattle.rules.specs.Bodies.{Body, reads_of, same_body, stamp_of, writes_key}
 use Rattle.rules.specs.Lists.{bit, decision_of, for_proof, kind_of, meets}
 use Rattle.rules.specs.Table.{Box, Told, empty}
@@ -61,8 +61,8 @@ word logs v d = log d v
 unfoldable pub cast : Vote → Settled
 cast unvoted = unsettled
 cast waiting = unsettled
-cast voteCommit = settled commit
-cast (voteAbort r) = settled abort
+cast vote_commit = settled commit
+cast (vote_abort r) = settled abort
 
 unfoldable pub vote_word : Settled → Option Word
 vote_word unsettled = none

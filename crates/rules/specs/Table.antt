@@ -4,7 +4,7 @@ use Rattle.std.proofs.Math.Option.{Option, some, none}
 use Rattle.terms.specs.Choice.{pick}
 pub use Rattle.rules.specs.declared.Told.{Told}
 use Rattle.rules.specs.Answers.{Log, Version, View, unlogged, view_as}
-use Rattle.rules.specs.Answers.{Settled, Vote, abort, commit, settled, unsettled, unvoted, voteAbort, voteCommit, waiting}
+use Rattle.rules.specs.Answers.{Settled, Vote, abort, commit, settled, unsettled, unvoted, vote_abort, vote_commit, waiting}
 use Rattle.rules.specs.Bodies.{Body, stamp_of}
 
 -- "An entry holds body, vote (waiting, commit, abort with reason, or none), logged decision or none, decision or none"; A5: "a current view and the
@@ -75,8 +75,8 @@ live_by (settled commit) v = true
 live_by (settled abort) v = false
 live_by unsettled unvoted = false
 live_by unsettled waiting = true
-live_by unsettled voteCommit = true
-live_by unsettled (voteAbort r) = false
+live_by unsettled vote_commit = true
+live_by unsettled (vote_abort r) = false
 
 unfoldable pub live : Entry → Bool
 live e = live_by e.decided e.vote

@@ -5,7 +5,7 @@ use Rattle.terms.specs.Choice.{any, pick}
 use Rattle.records.specs.declared.Read.{Read}
 use Rattle.records.specs.Tx.{read_key, read_version, write_key}
 use Rattle.rules.specs.Answers.{Ahead, Dependency, NoVersion, Overwritten, ReadMark, Undercuts}
-use Rattle.rules.specs.Answers.{Settled, Vote, abort, commit, settled, unsettled, voteAbort, voteCommit, waiting}
+use Rattle.rules.specs.Answers.{Settled, Vote, abort, commit, settled, unsettled, vote_abort, vote_commit, waiting}
 use Rattle.rules.specs.Bodies.{Body, reads_of, stamp_of, writes_key, writes_of}
 use Rattle.rules.specs.Table.{Box, Told, Entry, find, folded_at, limit, live}
 
@@ -98,14 +98,14 @@ is_pending fine = false
 -- "Waiting rule, over the nonzero versions read: any ..: abort, reason 6. Else any undecided: wait. Else commit."
 unfoldable pub waiting_rule : Box → Body → Vote
 waiting_rule x b =
-    pick (any (λ r. is_bad (status x r)) (reads_of b)) (voteAbort Dependency)
-    (pick (any (λ r. is_pending (status x r)) (reads_of b)) waiting voteCommit)
+    pick (any (λ r. is_bad (status x r)) (reads_of b)) (vote_abort Dependency)
+    (pick (any (λ r. is_pending (status x r)) (reads_of b)) waiting vote_commit)
 
 -- "the first failing test gives an abort vote"; "Each test runs over all its keys before the next. If none fails .. the waiting rule runs."
 unfoldable pub first_vote : Told → Box → Body → Vote
 first_vote told x b =
-    pick (test1 told b) (voteAbort Ahead)
-    (pick (test2 x b) (voteAbort NoVersion)
-    (pick (test3 x b) (voteAbort Overwritten)
-    (pick (test4 x b) (voteAbort Undercuts)
-    (pick (test5 x b) (voteAbort ReadMark) (waiting_rule x b)))))
+    pick (test1 told b) (vote_abort Ahead)
+    (pick (test2 x b) (vote_abort NoVersion)
+    (pick (test3 x b) (vote_abort Overwritten)
+    (pick (test4 x b) (vote_abort Undercuts)
+    (pick (test5 x b) (vote_abort ReadMark) (waiting_rule x b)))))

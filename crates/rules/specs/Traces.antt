@@ -4,7 +4,7 @@ use mathlib.Core.List.{List, [], ◌∷◌, ◌++◌, map, Memᴰ as In}
 use Rattle.terms.specs.Group.{abort_proof}
 use Rattle.terms.specs.declared.Refusal.TheVariants.{Election, Mark as OtherMark, Order}
 use Rattle.records.specs.declared.Marked.TheVariants.{Is}
-use Rattle.records.specs.declared.Mark.TheVariants.{PR as markedPR, LG as markedLG, DC as markedDC, RD as markedRD, IV as markedIV, LD as markedLD}
+use Rattle.records.specs.declared.Mark.TheVariants.{PR as marked_pr, LG as marked_lg, DC as marked_dc, RD as marked_rd, IV as marked_iv, LD as marked_ld}
 use Rattle.records.specs.declared.Pair.{Pair}
 use Rattle.records.specs.Tx.{Tx, tx_bytes}
 use Rattle.records.specs.Vl.{Vl}
@@ -35,16 +35,16 @@ with_liar i n d = pairs i n d ++ pairs 5 1 d
 -- box 4 has key 4 read at 80 and votes abort on 70, so that 70 commits by logs only. The liar stands on both sides of 70, and in every list.
 -- Every entry point is called; where box 0 is due an LG it gets a PR and refuses it
 unfoldable pub busy_first : List Event
-busy_first = at (due (Is markedLG)) 0 (PR (writes 50 3)) ∷ each (due (Is markedPR)) 0 4 (PR (writes 50 3)) []
+busy_first = at (due (Is marked_lg)) 0 (PR (writes 50 3)) ∷ each (due (Is marked_pr)) 0 4 (PR (writes 50 3)) []
 
 unfoldable pub busy_then : List Event → List Event
 busy_then before =
-    each (due (Is markedDC)) 0 5 (dc (writes 70 4) (list logs commit (with_liar 0 4 commit)))
+    each (due (Is marked_dc)) 0 5 (dc (writes 70 4) (list logs commit (with_liar 0 4 commit)))
     (each receive 4 1 (lg (writes 70 4) (list votes abort (with_liar 4 1 abort)))
-    (each (due (Is markedLG)) 0 4 (lg (writes 70 4) (list votes commit (with_liar 0 4 commit)))
+    (each (due (Is marked_lg)) 0 4 (lg (writes 70 4) (list votes commit (with_liar 0 4 commit)))
     (each receive 0 5 (PR (writes 70 4))
-    (each (due (Is markedRD)) 4 1 (RD 4 80)
-    (each (due (Is markedPR)) 0 5 (PR (writes 55 3))
+    (each (due (Is marked_rd)) 4 1 (RD 4 80)
+    (each (due (Is marked_pr)) 0 5 (PR (writes 55 3))
     (each receive 0 5 (PR (reads 60 3 50))
     (each receive 0 5 (dc (writes 50 3) (list votes commit (with_liar 0 5 commit)))
     (each receive 4 1 (PR (writes 50 3)) before))))))))
@@ -54,7 +54,7 @@ busy = busy_then busy_first
 
 pub record Busy : Type 0 where
   pub fair : Fair 1 liar busy
-  pub other_mark : answer_to 1 (at (due (Is markedLG)) 0 (PR (writes 50 3))) (each (due (Is markedPR)) 0 4 (PR (writes 50 3)) []) ≡ Refused OtherMark
+  pub other_mark : answer_to 1 (at (due (Is marked_lg)) 0 (PR (writes 50 3))) (each (due (Is marked_pr)) 0 4 (PR (writes 50 3)) []) ≡ Refused OtherMark
   pub writer_commits : Proof 1 liar busy (tx_bytes (writes 50 3)) commit
   pub reader_commits : Proof 1 liar busy (tx_bytes (reads 60 3 50)) commit
   pub other_aborts : Proof 1 liar busy (tx_bytes (writes 55 3)) abort
@@ -120,7 +120,7 @@ elected s leader v = ld (writes s 3) leader commit v (elections 0 3 commit v ++ 
 
 -- ---- a dead gateway's transaction is finished: the leader of view 1 of 50 is box 3
 unfoldable pub rescued : List Event
-rescued = each (due (Is markedLD)) 0 5 (elected 50 3 1) (invoked 50 0 (torn 50))
+rescued = each (due (Is marked_ld)) 0 5 (elected 50 3 1) (invoked 50 0 (torn 50))
 
 -- five logs of view 1
 unfoldable pub proved : List ℕ
@@ -137,7 +137,7 @@ pub record Rescue : Type 0 where
   pub stuck : (d : Decision) → Proof 1 liar (torn 50) (tx_bytes (writes 50 3)) d → ⊥
   pub still_stuck : (d : Decision) → Proof 1 liar (invoked 50 0 (torn 50)) (tx_bytes (writes 50 3)) d → ⊥
   -- the boxes move to view 1, whose leader is box 3, and take its decision, box 3 over its own log
-  pub moves : answer_to 1 (at (due (Is markedIV)) 3 (iv (writes 50 3) (seen 0 4 0))) (torn 50) ≡ Elected abort (view_as 1) 3
+  pub moves : answer_to 1 (at (due (Is marked_iv)) 3 (iv (writes 50 3) (seen 0 4 0))) (torn 50) ≡ Elected abort (view_as 1) 3
   pub takes : answer_to 1 (at receive 3 (elected 50 3 1)) (invoked 50 0 (torn 50)) ≡ Logged commit (view_as 1)
   -- so that there is a proof, and every box decides
   pub commits : Proof 1 liar rescued (tx_bytes (writes 50 3)) commit

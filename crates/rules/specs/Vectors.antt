@@ -5,7 +5,7 @@ use Rattle.terms.specs.declared.Refusal.TheVariants.{Election, LastView, NotLogg
 use Rattle.records.specs.Tx.{Tx, tx_bytes}
 use Rattle.rules.specs.Answers.{Answer, Decided, Decision, Done, Elected, Logged, Refused, Settled, Vote, abort, commit, logs, settled, unsettled, unvoted, votes, waiting}
 use Rattle.rules.specs.Answers.{Log, logged, unlogged, view_as}
-use Rattle.rules.specs.Answers.{Ahead, Dependency, NoVersion, Overwritten, ReadMark, Undercuts, voteAbort, voteCommit}
+use Rattle.rules.specs.Answers.{Ahead, Dependency, NoVersion, Overwritten, ReadMark, Undercuts, vote_abort, vote_commit}
 use Rattle.rules.specs.Table.{Box, Told, Entry, empty, no_version}
 use Rattle.rules.specs.Act.{after}
 use Rattle.rules.specs.Cases.{Case, DC, LG, PR, RD, aborts, case, commits, dc, due, few, found, given, lg, line, list, logs0, pairs, read, reads, tx, waits, write, writes}
@@ -210,9 +210,9 @@ refusals =
 unfoldable pub lents : List Case
 lents =
     -- "If it holds one stamp twice, a look-up by stamp takes the first such entry, tests 3 and 4 look at every entry"
-    lent (entry (writes 50 4) voteCommit unsettled unsettled ∷ entry (writes 50 3) voteCommit unsettled unsettled ∷ []) (PR (writes 50 3) ∷ PR (reads 60 3 0) ∷ [])
+    lent (entry (writes 50 4) vote_commit unsettled unsettled ∷ entry (writes 50 3) vote_commit unsettled unsettled ∷ []) (PR (writes 50 3) ∷ PR (reads 60 3 0) ∷ [])
     (Refused OtherBody ∷ aborts Overwritten ∷ [])
-    ∷ lent (entry (reads 60 4 0) voteCommit unsettled unsettled ∷ entry (reads 60 3 0) voteCommit unsettled unsettled ∷ []) (PR (writes 50 3) ∷ [])
+    ∷ lent (entry (reads 60 4 0) vote_commit unsettled unsettled ∷ entry (reads 60 3 0) vote_commit unsettled unsettled ∷ []) (PR (writes 50 3) ∷ [])
     (aborts Undercuts ∷ [])
     -- "undecided with vote none .., the tests as if new, in its place": its log stays
     ∷ lent (entry (writes 50 3) unvoted (settled commit) unsettled ∷ []) (PR (writes 50 3) ∷ LG (writes 50 3) abort 1 ∷ []) (commits ∷ logs0 commit ∷ [])
@@ -221,13 +221,13 @@ lents =
     -- "committed by a body that lacks the key"; "any undecided: wait", whether it lacks the key or not
     ∷ lent (entry (writes 50 4) unvoted unsettled (settled commit) ∷ entry (reads 60 3 50) waiting unsettled unsettled ∷ []) (PR (reads 60 3 50) ∷ [])
     (aborts Dependency ∷ [])
-    ∷ lent (entry (writes 50 4) voteCommit unsettled unsettled ∷ entry (reads 60 3 50) waiting unsettled unsettled ∷ []) (PR (reads 60 3 50) ∷ []) (waits ∷ [])
+    ∷ lent (entry (writes 50 4) vote_commit unsettled unsettled ∷ entry (reads 60 3 50) waiting unsettled unsettled ∷ []) (PR (reads 60 3 50) ∷ []) (waits ∷ [])
     -- "A version on which this box itself voted abort but which is undecided is still waited for."; a new reader of it fails test 2
-    ∷ lent (entry (writes 50 3) (voteAbort ReadMark) unsettled unsettled ∷ entry (reads 60 3 50) waiting unsettled unsettled ∷ [])
+    ∷ lent (entry (writes 50 3) (vote_abort ReadMark) unsettled unsettled ∷ entry (reads 60 3 50) waiting unsettled unsettled ∷ [])
     (PR (reads 60 3 50) ∷ PR (reads 70 3 50) ∷ [])
     (waits ∷ aborts NoVersion ∷ [])
     -- test 4: "at a version below this stamp", so not at this stamp
-    ∷ lent (entry (reads 60 3 50) voteCommit unsettled unsettled ∷ []) (PR (writes 50 3) ∷ []) (commits ∷ [])
+    ∷ lent (entry (reads 60 3 50) vote_commit unsettled unsettled ∷ []) (PR (writes 50 3) ∷ []) (commits ∷ [])
     -- "RD takes the first among equals, in an entry the first write of the key"
     ∷ lent (entry (tx 50 [] (write 3 8 ∷ write 3 9 ∷ [])) unvoted unsettled (settled commit) ∷ entry (writes 50 3) unvoted unsettled (settled commit) ∷ [])
     (RD 3 60 ∷ [])
@@ -371,44 +371,44 @@ storings =
     -- a vote is stored behind the others, and changed in its place
     stores []
     (PR (writes 50 3) ∷ PR (reads 60 3 50) ∷ PR (writes 70 3) ∷ DC (writes 50 3) votes commit 6 ∷ PR (reads 60 3 50) ∷ [])
-    (entry (writes 50 3) voteCommit unsettled (settled commit) ∷ entry (reads 60 3 50) voteCommit unsettled unsettled ∷ entry (writes 70 3) voteCommit unsettled unsettled ∷ [])
+    (entry (writes 50 3) vote_commit unsettled (settled commit) ∷ entry (reads 60 3 50) vote_commit unsettled unsettled ∷ entry (writes 70 3) vote_commit unsettled unsettled ∷ [])
     0
     -- "An abort vote carries one of six reasons, and it is stored."; a log stands beside it
-    ∷ stores [] (PR (reads 60 3 40) ∷ LG (reads 60 3 40) abort 2 ∷ []) (entry (reads 60 3 40) (voteAbort NoVersion) (settled abort) unsettled ∷ []) 0
+    ∷ stores [] (PR (reads 60 3 40) ∷ LG (reads 60 3 40) abort 2 ∷ []) (entry (reads 60 3 40) (vote_abort NoVersion) (settled abort) unsettled ∷ []) 0
     -- "a new entry with vote none and this decision"
     ∷ stores [] (DC (writes 50 3) votes abort 4 ∷ []) (entry (writes 50 3) unvoted unsettled (settled abort) ∷ []) 0
     -- "the new body replaces it, vote and log become none, decision commit"
     ∷ stores [] (PR (writes 50 3) ∷ LG (writes 50 3) commit 4 ∷ PR (writes 60 3) ∷ DC (writes 50 4) votes commit 6 ∷ [])
-    (entry (writes 50 4) unvoted unsettled (settled commit) ∷ entry (writes 60 3) voteCommit unsettled unsettled ∷ [])
+    (entry (writes 50 4) unvoted unsettled (settled commit) ∷ entry (writes 60 3) vote_commit unsettled unsettled ∷ [])
     0
     -- "undecided takes it", with its vote and its log; "equal decision changes nothing"; nor does a refusal
     ∷ stores []
     (PR (writes 50 3) ∷ LG (writes 50 3) commit 4 ∷ DC (writes 50 3) votes abort 4 ∷ DC (writes 50 3) logs abort 5
     ∷ DC (writes 50 3) votes commit 6 ∷ [])
-    (entry (writes 50 3) voteCommit (settled commit) (settled abort) ∷ [])
+    (entry (writes 50 3) vote_commit (settled commit) (settled abort) ∷ [])
     0
     -- A2: "stores the body with vote none and that log", behind the others; a PR "takes no further room", and it keeps the log and its place
     ∷ stores [] (PR (writes 60 3) ∷ LG (writes 50 3) abort 2 ∷ [])
-    (entry (writes 60 3) voteCommit unsettled unsettled ∷ entry (writes 50 3) unvoted (settled abort) unsettled ∷ [])
+    (entry (writes 60 3) vote_commit unsettled unsettled ∷ entry (writes 50 3) unvoted (settled abort) unsettled ∷ [])
     0
     ∷ stores [] (LG (writes 50 3) commit 4 ∷ PR (writes 60 3) ∷ PR (writes 50 3) ∷ LG (writes 70 3) commit 3 ∷ [])
-    (entry (writes 50 3) voteCommit (settled commit) unsettled ∷ entry (writes 60 3) voteCommit unsettled unsettled ∷ [])
+    (entry (writes 50 3) vote_commit (settled commit) unsettled ∷ entry (writes 60 3) vote_commit unsettled unsettled ∷ [])
     0
     -- "Raises the key's read mark to the stamp if it is lower."
     ∷ stores [] (RD 0 60 ∷ RD 0 50 ∷ RD 0 111 ∷ []) [] 60
     -- "in its place": only the vote changes
     ∷ stores (entry (writes 50 3) unvoted (settled commit) unsettled ∷ entry (writes 60 4) unvoted unsettled unsettled ∷ []) (PR (writes 50 3) ∷ [])
-    (entry (writes 50 3) voteCommit (settled commit) unsettled ∷ entry (writes 60 4) unvoted unsettled unsettled ∷ [])
+    (entry (writes 50 3) vote_commit (settled commit) unsettled ∷ entry (writes 60 4) unvoted unsettled unsettled ∷ [])
     0
     -- A5: an IV changes the current view only
     ∷ stores [] (PR (writes 50 3) ∷ LG (writes 50 3) abort 2 ∷ PR (writes 60 3) ∷ iv (writes 50 3) (seen 0 4 0) ∷ [])
-    (viewed (writes 50 3) voteCommit (logged abort (view_as 0)) 1 unsettled ∷ entry (writes 60 3) voteCommit unsettled unsettled ∷ [])
+    (viewed (writes 50 3) vote_commit (logged abort (view_as 0)) 1 unsettled ∷ entry (writes 60 3) vote_commit unsettled unsettled ∷ [])
     0
     -- a decision that is taken: log and both views, in its place; and a new entry, with vote none
     ∷ stores []
     (PR (writes 50 3) ∷ LG (writes 50 3) commit 4 ∷ ld (writes 60 3) 1 commit 1 (elections 0 5 commit 1)
     ∷ ld (writes 50 3) 4 abort 2 (elections 0 5 abort 2) ∷ [])
-    (viewed (writes 50 3) voteCommit (logged abort (view_as 2)) 2 unsettled ∷ viewed (writes 60 3) unvoted (logged commit (view_as 1)) 1 unsettled ∷ [])
+    (viewed (writes 50 3) vote_commit (logged abort (view_as 2)) 2 unsettled ∷ viewed (writes 60 3) unvoted (logged commit (view_as 1)) 1 unsettled ∷ [])
     0
     -- a log from an LG: view 0, beside the current view
     ∷ stores (viewed (writes 50 3) unvoted unlogged 3 unsettled ∷ []) (LG (writes 50 3) commit 4 ∷ [])
@@ -418,20 +418,20 @@ storings =
     ∷ stores
     (viewed (writes 50 3) unvoted (logged abort (view_as 2)) 5 unsettled ∷ viewed (reads 60 3 50) waiting (logged commit (view_as 3)) 4 unsettled ∷ [])
     (PR (writes 50 3) ∷ PR (reads 60 3 50) ∷ dc (writes 50 3) (logs_at 2 abort (pairs 0 5 abort)) ∷ PR (reads 60 3 50) ∷ [])
-    (viewed (writes 50 3) voteCommit (logged abort (view_as 2)) 5 (settled abort)
-    ∷ viewed (reads 60 3 50) (voteAbort Dependency) (logged commit (view_as 3)) 4 unsettled
+    (viewed (writes 50 3) vote_commit (logged abort (view_as 2)) 5 (settled abort)
+    ∷ viewed (reads 60 3 50) (vote_abort Dependency) (logged commit (view_as 3)) 4 unsettled
     ∷ [])
     0
     -- a body in the place of another has none
-    ∷ stores (viewed (writes 50 3) voteCommit (logged abort (view_as 2)) 5 unsettled ∷ []) (DC (writes 50 4) votes commit 6 ∷ [])
+    ∷ stores (viewed (writes 50 3) vote_commit (logged abort (view_as 2)) 5 unsettled ∷ []) (DC (writes 50 4) votes commit 6 ∷ [])
     (entry (writes 50 4) unvoted unsettled (settled commit) ∷ [])
     0
     -- 9, 21, 22, 23 and 24 change nothing
     ∷ stores
-    (viewed (writes 50 3) voteCommit (logged abort (view_as 2)) 5 unsettled ∷ entry (writes 60 3) voteCommit unsettled unsettled ∷ [])
+    (viewed (writes 50 3) vote_commit (logged abort (view_as 2)) 5 unsettled ∷ entry (writes 60 3) vote_commit unsettled unsettled ∷ [])
     (iv (writes 50 4) (seen 0 4 7) ∷ ld (writes 50 3) 0 commit 4 (elections 0 5 commit 4) ∷ iv (writes 60 3) (seen 0 4 7)
     ∷ ld (writes 50 3) 3 commit 7 (elections 0 4 commit 7) ∷ iv (writes 50 3) (seen 0 4 65535) ∷ ld (writes 50 4) 3 commit 7 (elections 0 5 commit 7) ∷ [])
-    (viewed (writes 50 3) voteCommit (logged abort (view_as 2)) 5 unsettled ∷ entry (writes 60 3) voteCommit unsettled unsettled ∷ [])
+    (viewed (writes 50 3) vote_commit (logged abort (view_as 2)) 5 unsettled ∷ entry (writes 60 3) vote_commit unsettled unsettled ∷ [])
     0
     ∷ []
 

@@ -14,7 +14,7 @@ use Rattle.records.specs.Tx.{r_count, w_count, read_at, write_at, writes_from, r
 use Rattle.rules.specs.declared.Reason.TheVariants.{Overwritten, ReadMark, Undercuts}
 use Rattle.rules.specs.declared.Told.{Told}
 use Rattle.rules.specs.declared.Vote.{Vote}
-use Rattle.rules.specs.declared.Vote.TheVariants.{Waiting as waiting, Commit as voteCommit, Abort as voteAbort}
+use Rattle.rules.specs.declared.Vote.TheVariants.{Waiting as waiting, Commit as vote_commit, Abort as vote_abort}
 use Rattle.rules.specs.Bodies.{Body, reads_of, stamp_of, writes_key, writes_of}
 use Rattle.rules.specs.Table.{Box, Entry, live}
 use Rattle.rules.specs.Tests.{fold_above, is_folded, is_low, names, test1, test2, test3, test4, test5, waiting_rule, first_vote}
@@ -103,7 +103,7 @@ module _ (x : Box) (b : Body) (n g : ℕ) (w : Vote) (l : length x.table ≡ n) 
   marks_v4 = refl
 
   module _ (d : test3 (unmarked x) b ≡ true) where
-    pub later_3 : voteAbort Overwritten ≡ later_vote x b w
+    pub later_3 : vote_abort Overwritten ≡ later_vote x b w
     unfolding later_vote
     later_3 = rw (sym (marks_3 x b) ∙ d)
 
@@ -116,7 +116,7 @@ module _ (x : Box) (b : Body) (n g : ℕ) (w : Vote) (l : length x.table ≡ n) 
     third r e = rw (e, ← l, ← reads_count b) (marks_v3 ∙ visits3_all (unmarked x) b d)
 
     module _ (f : test4 (entries_only x.table) b ≡ true) where
-      pub later_4 : voteAbort Undercuts ≡ later_vote x b w
+      pub later_4 : vote_abort Undercuts ≡ later_vote x b w
       unfolding later_vote
       later_4 = rw (sym (marks_3 x b) ∙ d, sym (marks_4 x b) ∙ f)
 
@@ -129,7 +129,7 @@ module _ (x : Box) (b : Body) (n g : ℕ) (w : Vote) (l : length x.table ≡ n) 
       fourth r e = rw (e, ← l, ← writes_count b) (marks_v4 ∙ visits4_all (entries_only x.table) b f)
 
       module _ (i : test5 (marks_only x.marks) b ≡ true) where
-        pub later_5 : voteAbort ReadMark ≡ later_vote x b w
+        pub later_5 : vote_abort ReadMark ≡ later_vote x b w
         unfolding later_vote
         later_5 = rw (sym (marks_3 x b) ∙ d, sym (marks_4 x b) ∙ f, sym (marks_5 x b) ∙ i)
 
@@ -163,7 +163,7 @@ module _ (x : Box) (b : Body) (what : ℕ) (e : what ≡ named_all x false (read
   unfolding vote_after
   after_is = by (eqb what 1) refl
     where
-      by : (c : Bool) → eqb what 1 ≡ c → pick c waiting voteCommit ≡ waiting_rule x b
+      by : (c : Bool) → eqb what 1 ≡ c → pick c waiting vote_commit ≡ waiting_rule x b
       by true q = then_waits x b e h (eqb-true what 1 q)
       by false q = then_commits x b e h (eqb-false what 1 q)
 

@@ -14,7 +14,7 @@ use Rattle.terms.specs.declared.Decision.TheVariants.{Commit as commit, Abort as
 use Rattle.records.specs.declared.Read.{Read}
 use Rattle.records.specs.Tx.{read_key, read_version}
 use Rattle.rules.specs.declared.Vote.{Vote}
-use Rattle.rules.specs.declared.Vote.TheVariants.{Waiting as waiting, Commit as voteCommit}
+use Rattle.rules.specs.declared.Vote.TheVariants.{Waiting as waiting, Commit as vote_commit}
 use Rattle.rules.specs.declared.Settled.{Settled}
 use Rattle.rules.specs.declared.Settled.TheVariants.{None as unsettled, Is as settled}
 use Rattle.rules.specs.Bodies.{Body, reads_of, writes_key}
@@ -229,6 +229,6 @@ module _ (x : Box) (b : Body) where
       unfolding named_all waiting_rule
       then_waits p = rw (none_bad (first_not failed open_read (λ z. h (e ∙ z))), next_is failed open_read (sym e ∙ p))
 
-      pub then_commits : (y ≡ 1 → ⊥) → voteCommit ≡ waiting_rule x b
+      pub then_commits : (y ≡ 1 → ⊥) → vote_commit ≡ waiting_rule x b
       unfolding named_all waiting_rule
       then_commits p = rw (none_bad (first_not failed open_read (λ z. h (e ∙ z))), next_not failed open_read (λ z. h (e ∙ z)) (λ z. p (e ∙ z)))

@@ -13,7 +13,7 @@ use Rattle.records.specs.declared.Read.{Read}
 use Rattle.records.specs.declared.Write.{Write}
 use Rattle.records.specs.Tx.{read_key, read_version, write_key}
 use Rattle.rules.specs.declared.Reason.TheVariants.{Ahead, NoVersion}
-use Rattle.rules.specs.declared.Vote.TheVariants.{Abort as voteAbort}
+use Rattle.rules.specs.declared.Vote.TheVariants.{Abort as vote_abort}
 use Rattle.rules.specs.Bodies.{Body, stamp_of, reads_of, writes_key}
 use Rattle.rules.specs.declared.Told.{Told}
 use Rattle.rules.specs.Table.{Box, Entry, box_with, find, limit, live}
@@ -217,10 +217,10 @@ module _ (ms : List ℕ) (s : ℕ) (w : Write) {x : ℕ} (e : x ≡ get_or ms (w
 
 -- ---- the first vote
 module _ (told : Told) (x : Box) (b : Body) where
-  pub first_1 : test1 told b ≡ true → voteAbort Ahead ≡ first_vote told x b
+  pub first_1 : test1 told b ≡ true → vote_abort Ahead ≡ first_vote told x b
   unfolding first_vote
   first_1 a = rw a
 
-  pub first_2 : test1 told b ≡ false → test2 (unmarked x) b ≡ true → voteAbort NoVersion ≡ first_vote told x b
+  pub first_2 : test1 told b ≡ false → test2 (unmarked x) b ≡ true → vote_abort NoVersion ≡ first_vote told x b
   unfolding first_vote
   first_2 a d = rw (a, sym (marks_2 x b) ∙ d)

@@ -15,7 +15,7 @@ use Rattle.records.specs.declared.Read.{Read}
 use Rattle.records.specs.Tx.{read_key, read_version}
 use Rattle.rules.specs.declared.Reason.TheVariants.{Dependency}
 use Rattle.rules.specs.declared.Vote.{Vote}
-use Rattle.rules.specs.declared.Vote.TheVariants.{Waiting as waiting, Commit as voteCommit, Abort as voteAbort}
+use Rattle.rules.specs.declared.Vote.TheVariants.{Waiting as waiting, Commit as vote_commit, Abort as vote_abort}
 use Rattle.rules.specs.declared.Settled.{Settled}
 use Rattle.rules.specs.declared.Settled.TheVariants.{None as unsettled, Is as settled}
 use Rattle.rules.specs.declared.Version.{Version}
@@ -107,7 +107,7 @@ pub record Waits (x : Box) (f : ℕ → Read) (n : ℕ) (W : Vote) (d w : Bool) 
   pub same : wait_by x d w (tab f j (n - j)) ≡ W
 
 abbrev choice : Bool → Bool → Vote
-choice x y = pick x (voteAbort Dependency) (pick y waiting voteCommit)
+choice x y = pick x (vote_abort Dependency) (pick y waiting vote_commit)
 
 or_assoc : (x y z : Bool) → (x || (y || z)) ≡ ((x || y) || z)
 or_assoc true y z = refl
@@ -149,7 +149,7 @@ module _ {x : Box} {f : ℕ → Read} {n : ℕ} {W : Vote} where
         }
 
     module _ (h : n ≤ j) where
-      pub waits_abort : d ≡ true → voteAbort Dependency ≡ W
+      pub waits_abort : d ≡ true → vote_abort Dependency ≡ W
       unfolding wait_by
       waits_abort p = let e : n - j ≡ 0 = omega arith in rw (e, p) at r.same
 
@@ -157,6 +157,6 @@ module _ {x : Box} {f : ℕ → Read} {n : ℕ} {W : Vote} where
       unfolding wait_by
       waits_wait p q = let e : n - j ≡ 0 = omega arith in rw (e, p, q) at r.same
 
-      pub waits_commit : d ≡ false → w ≡ false → voteCommit ≡ W
+      pub waits_commit : d ≡ false → w ≡ false → vote_commit ≡ W
       unfolding wait_by
       waits_commit p q = let e : n - j ≡ 0 = omega arith in rw (e, p, q) at r.same

@@ -7,7 +7,7 @@ use Rattle.records.specs.declared.Write.{Write}
 use Rattle.records.specs.Tx.{read_key, read_version, write_key}
 use Rattle.rules.specs.declared.Reason.TheVariants.{Dependency}
 use Rattle.rules.specs.declared.Vote.{Vote}
-use Rattle.rules.specs.declared.Vote.TheVariants.{Waiting as waiting, Commit as voteCommit, Abort as voteAbort}
+use Rattle.rules.specs.declared.Vote.TheVariants.{Waiting as waiting, Commit as vote_commit, Abort as vote_abort}
 use Rattle.rules.specs.Bodies.{Body, stamp_of, writes_key, writes_of}
 use Rattle.rules.specs.declared.Version.{Version}
 use Rattle.rules.specs.Table.{Box, Entry, box_with, find, fold_at, live, no_version}
@@ -59,8 +59,8 @@ status_number bad = 2
 -- the waiting rule over the reads that are left, d where a bad version stood before them, w where an undecided one did
 unfoldable pub wait_by : Box → Bool → Bool → List Read → Vote
 wait_by x d w rs =
-    pick (d || any (λ r. is_bad (status x r)) rs) (voteAbort Dependency)
-    (pick (w || any (λ r. is_pending (status x r)) rs) waiting voteCommit)
+    pick (d || any (λ r. is_bad (status x r)) rs) (vote_abort Dependency)
+    (pick (w || any (λ r. is_pending (status x r)) rs) waiting vote_commit)
 
 -- A11: a version at or below the low mark, by the folds alone: 0 where it is 0 or its key's folded one, else 2
 unfoldable pub low_number : List Version → Read → ℕ

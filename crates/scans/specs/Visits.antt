@@ -5,7 +5,7 @@ use Rattle.records.specs.declared.Read.{Read}
 use Rattle.records.specs.Tx.{read_key, read_version}
 use Rattle.rules.specs.declared.Reason.TheVariants.{Overwritten, ReadMark, Undercuts}
 use Rattle.rules.specs.declared.Vote.{Vote}
-use Rattle.rules.specs.declared.Vote.TheVariants.{Waiting as waiting, Commit as voteCommit, Abort as voteAbort}
+use Rattle.rules.specs.declared.Vote.TheVariants.{Waiting as waiting, Commit as vote_commit, Abort as vote_abort}
 use Rattle.rules.specs.Bodies.{Body}
 use Rattle.rules.specs.Table.{Box}
 use Rattle.rules.specs.Tests.{test3, test4, test5}
@@ -18,11 +18,11 @@ read_below k s r = eqb k (read_key r) && ltb (read_version r) s
 -- ---- behind test 2
 -- the waiting rule by what test 2 passed: 1 where a version is undecided
 unfoldable pub vote_after : ℕ → Vote
-vote_after what = pick (eqb what 1) waiting voteCommit
+vote_after what = pick (eqb what 1) waiting vote_commit
 
 -- the first vote where tests 1 and 2 pass, w the vote of the waiting rule
 unfoldable pub later_vote : Box → Body → Vote → Vote
-later_vote x b w = pick (test3 x b) (voteAbort Overwritten) (pick (test4 x b) (voteAbort Undercuts) (pick (test5 x b) (voteAbort ReadMark) w))
+later_vote x b w = pick (test3 x b) (vote_abort Overwritten) (pick (test4 x b) (vote_abort Undercuts) (pick (test5 x b) (vote_abort ReadMark) w))
 
 -- the entries visited there, n of them by the waiting rule
 unfoldable pub later_visits : Box → Body → ℕ → ℕ

@@ -16,7 +16,7 @@ use Rattle.rules.specs.declared.Settled.TheVariants.{None as unsettled, Is as se
 use Rattle.rules.specs.declared.Told.{Told}
 use Rattle.rules.specs.declared.Visited.TheVariants.{None as unvisited}
 use Rattle.rules.specs.declared.Vote.{Vote}
-use Rattle.rules.specs.declared.Vote.TheVariants.{None as unvoted, Commit as voteCommit, Abort as voteAbort, Waiting as waiting}
+use Rattle.rules.specs.declared.Vote.TheVariants.{None as unvoted, Commit as vote_commit, Abort as vote_abort, Waiting as waiting}
 use Rattle.rules.specs.Answers.{View, view_as}
 use Rattle.rules.specs.Bodies.{Body, stamp_of}
 use Rattle.rules.specs.Lists.{decision_of, for_logging}
@@ -51,11 +51,11 @@ module _ (i : ℕ) (told : Told) (x : Box) (b : Body) where
     unfolding pr_by pr_by_decision entry_with
     pr_open h = rw h
 
-    pub pr_commit : e.vote ≡ voteCommit → kept (Voted e.vote unvisited) ≡ step_by i (pr_by_vote told x b (entry_with b e) e.vote)
+    pub pr_commit : e.vote ≡ vote_commit → kept (Voted e.vote unvisited) ≡ step_by i (pr_by_vote told x b (entry_with b e) e.vote)
     unfolding pr_by_vote step_by change_by
     pr_commit h = rw h
 
-    pub pr_abort : (r : Reason) → e.vote ≡ voteAbort r → kept (Voted e.vote unvisited) ≡ step_by i (pr_by_vote told x b (entry_with b e) e.vote)
+    pub pr_abort : (r : Reason) → e.vote ≡ vote_abort r → kept (Voted e.vote unvisited) ≡ step_by i (pr_by_vote told x b (entry_with b e) e.vote)
     unfolding pr_by_vote step_by change_by
     pr_abort r h = rw h
 

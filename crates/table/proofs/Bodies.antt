@@ -14,7 +14,7 @@ use Rattle.records.specs.Numbers.{le_val, num_at}
 use Rattle.records.specs.Tx.{Tx, tx_of, tx_len, r_count, w_count, read_at, write_at, writes_from, write_key, TxThere}
 use Rattle.records.specs.declared.Write.{Write}
 use Rattle.rules.specs.declared.Reason.{Reason}
-use Rattle.rules.specs.declared.Vote.TheVariants.{None as unvoted, Abort as voteAbort}
+use Rattle.rules.specs.declared.Vote.TheVariants.{None as unvoted, Abort as vote_abort}
 use Rattle.rules.specs.declared.Settled.TheVariants.{None as unsettled}
 use Rattle.rules.specs.Bodies.{stamp_of, reads_of, writes_of, writes_key}
 use Rattle.rules.specs.Table.{live_by}
@@ -148,7 +148,7 @@ pub row_fits : {t : List ℕ} {n : ℕ} → Wf t n → (i : ℕ) → i < n → (
 row_fits w i h = let m = w.room in (omega arith, w.rows i h)
 
 -- an abort vote and no vote are not live where nothing is decided
-pub dead_vote : (b : Bool) (r : Reason) → false ≡ live_by unsettled (pick b (voteAbort r) unvoted)
+pub dead_vote : (b : Bool) (r : Reason) → false ≡ live_by unsettled (pick b (vote_abort r) unvoted)
 unfolding live_by
 dead_vote true r = refl
 dead_vote false r = refl

@@ -10,7 +10,7 @@ use Rattle.rules.specs.Answers.{reason_number, vote_number, vote_reason, settled
 use Rattle.rules.specs.declared.Reason.{Reason}
 use Rattle.rules.specs.declared.Reason.TheVariants.{Ahead, NoVersion, Overwritten, Undercuts, ReadMark, Dependency}
 use Rattle.rules.specs.declared.Vote.{Vote}
-use Rattle.rules.specs.declared.Vote.TheVariants.{None as unvoted, Waiting as waiting, Commit as voteCommit, Abort as voteAbort}
+use Rattle.rules.specs.declared.Vote.TheVariants.{None as unvoted, Waiting as waiting, Commit as vote_commit, Abort as vote_abort}
 use Rattle.rules.specs.declared.Settled.{Settled}
 use Rattle.rules.specs.declared.Settled.TheVariants.{None as unsettled, Is as settled}
 use Rattle.rules.specs.declared.Log.{Log}
@@ -30,8 +30,8 @@ reason_back Dependency = refl
 pub vote_back : (v : Vote) → vote_of (vote_number v) (vote_reason v) ≡ v
 vote_back unvoted = refl
 vote_back waiting = refl
-vote_back voteCommit = refl
-vote_back (voteAbort r) = ap voteAbort (reason_back r)
+vote_back vote_commit = refl
+vote_back (vote_abort r) = ap vote_abort (reason_back r)
 
 pub settled_back : (x : Settled) → settled_of (settled_number x) ≡ x
 settled_back unsettled = refl
@@ -51,20 +51,20 @@ log_back (logged abort w) v e = rw e
 pub vote_small : (v : Vote) → vote_number v ≤ 3
 vote_small unvoted = omega arith
 vote_small waiting = omega arith
-vote_small voteCommit = omega arith
-vote_small (voteAbort r) = omega arith
+vote_small vote_commit = omega arith
+vote_small (vote_abort r) = omega arith
 
 pub reason_right : (v : Vote) → reason_wrong (vote_number v) (vote_reason v) ≡ 0
 unfolding reason_wrong or_else if_less if_same
 reason_right unvoted = refl
 reason_right waiting = refl
-reason_right voteCommit = refl
-reason_right (voteAbort Ahead) = refl
-reason_right (voteAbort NoVersion) = refl
-reason_right (voteAbort Overwritten) = refl
-reason_right (voteAbort Undercuts) = refl
-reason_right (voteAbort ReadMark) = refl
-reason_right (voteAbort Dependency) = refl
+reason_right vote_commit = refl
+reason_right (vote_abort Ahead) = refl
+reason_right (vote_abort NoVersion) = refl
+reason_right (vote_abort Overwritten) = refl
+reason_right (vote_abort Undercuts) = refl
+reason_right (vote_abort ReadMark) = refl
+reason_right (vote_abort Dependency) = refl
 
 pub settled_small : (x : Settled) → settled_number x ≤ 2
 settled_small unsettled = omega arith

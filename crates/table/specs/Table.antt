@@ -10,7 +10,7 @@ use Rattle.records.specs.Tx.{tx_len, r_count, w_count}
 use Rattle.rules.specs.declared.Reason.{Reason}
 use Rattle.rules.specs.declared.Reason.TheVariants.{Ahead, NoVersion, Overwritten, Undercuts, ReadMark, Dependency}
 use Rattle.rules.specs.declared.Vote.{Vote}
-use Rattle.rules.specs.declared.Vote.TheVariants.{None as unvoted, Commit as voteCommit, Abort as voteAbort, Waiting as waiting}
+use Rattle.rules.specs.declared.Vote.TheVariants.{None as unvoted, Commit as vote_commit, Abort as vote_abort, Waiting as waiting}
 use Rattle.rules.specs.declared.Settled.{Settled}
 use Rattle.rules.specs.declared.Settled.TheVariants.{None as unsettled, Is as settled}
 use Rattle.rules.specs.declared.Log.{Log}
@@ -99,7 +99,7 @@ reason_of x = pick (eqb x 1) Ahead (pick (eqb x 2) NoVersion (pick (eqb x 3) Ove
 
 -- "vote (waiting, commit, abort with reason, or none)": what its code and its reason's say
 abbrev pub vote_of : ℕ → ℕ → Vote
-vote_of x y = pick (eqb x 1) voteCommit (pick (eqb x 2) (voteAbort (reason_of y)) (pick (eqb x 3) waiting unvoted))
+vote_of x y = pick (eqb x 1) vote_commit (pick (eqb x 2) (vote_abort (reason_of y)) (pick (eqb x 3) waiting unvoted))
 
 -- "decision or none": what the code says
 abbrev pub settled_of : ℕ → Settled
