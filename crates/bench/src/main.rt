@@ -1,18 +1,40 @@
 // The bench: records from standard input, a line for each to standard output.
 #![tactic(auto)]
 
+ghost use Rattle.std.specs.Prelude.{◌≤◌, length, IfOk};
+
 use records::Written;
 use std::io;
 use std::io::{Read, Write};
 
 // One byte more than is taken.
-const MOST: u64 = 65_537;
+const MOST: usize = 65_537;
+
+// Input, until there is no more or the buffer is full: how many bytes of it are there.
+fn read_full(input: &mut impl Read, s: &mut [u8]) -> io::Result<usize>
+    ensures { IfOk result (λ n. n ≤ length s.new) }
+{
+    let mut n = 0;
+    while n < s.len() {
+        let k = input.read(&mut s[n..])?;
+        if k == 0 {
+            break;
+        }
+        n += k;
+    }
+    Ok(n)
+}
+
+// replay::ROOM, room for every text.
+fn room() -> [u8; 786_544] {
+    [0; 786_544]
+}
 
 fn main(rt: HostRuntime) -> io::Result<()> {
-    let mut input = Vec::new(rt.alloc());
-    rt.stdin().take(MOST).read_to_end(&mut input)?;
-    let mut out = Vec::from_elem(rt.alloc(), 0, replay::ROOM)?;
-    match replay::replay(&input, &mut out) {
+    let mut input = [0u8; MOST];
+    let mut out = room();
+    let n = read_full(&mut rt.stdin(), &mut input)?;
+    match replay::replay(&input[..n], &mut out) {
         Written::Wrote(k) => rt.stdout().write_all(&out[..k]),
         Written::Refused(_) => Ok(()),
     }

@@ -46,7 +46,7 @@ its_stamp : stamp_of body ≡ 50
 unfolding stamp_of tx_of num_at
 its_stamp = refl
 
--- so the premises of `stored-held` can be met
+-- so the premises of `stored_held` can be met
 pub met : (body_held table 2 (stamp_of body) ≡ body) × ((held_of table 2 (stamp_of body)).state ≡ state)
 met = stored_held 2 0 body state refl (omega arith, omega arith, omega arith) (omega arith) empty empty_taken (rw its_stamp first_place)
 

@@ -35,7 +35,7 @@ module _ {M : Type 1} (𝓤 : Ura M) (T : Ended) (c : Clauses 𝓤 T) where
   NoSecond = NoSecondSeen Outcome (λ k o. o)
 
 module _ {M : Type 1} {𝓤 : Ura M} (𝓛 : Logic 𝓤) (T : Ended) where
-  -- in any ghost state, memory and runs: no contract here speaks of them
+  -- in any memory and runs, and in the logic any ghost state: no contract here speaks of them
   abbrev pub Any : Type 2 → Type 2
   Any X = (Memory → SProp 𝓤) → (Routine → Fun 𝓤) → X
 
