@@ -1,5 +1,6 @@
 -- What a writer leaves.
 use Rattle.std.specs.Prelude.{ℕ, List, eqb}
+use Rattle.terms.specs.Checks.{Check}
 use Rattle.terms.specs.Choice.{pick}
 use Rattle.records.specs.declared.Mark.{Mark}
 use Rattle.records.specs.declared.Mark.TheVariants.{PR, LG, DC}
@@ -24,8 +25,8 @@ abbrev pub left : ℕ → ℕ → List ℕ → Left
 left n l b = record { number = n; length = l; buffer = b }
 
 -- by the writer's refusal and the record's bytes, on a buffer
-unfoldable pub left_by : ℕ → List ℕ → List ℕ → Left
-left_by wrong bytes out = left (written_number (wrote_by wrong bytes)) (written_length (wrote_by wrong bytes)) (buffer_by wrong bytes out)
+unfoldable pub left_by : Check → List ℕ → List ℕ → Left
+left_by check bytes out = left (written_number (wrote_by check bytes)) (written_length (wrote_by check bytes)) (buffer_by check bytes out)
 
 abbrev pub tx_left : Transaction → List ℕ → Left
 tx_left x out = left_by (tx_unwritten x out) (tx_bytes (tx_in x)) out

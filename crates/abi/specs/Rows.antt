@@ -1,5 +1,6 @@
 -- An answer as five numbers: which answer it is, then this paper's number and values for it, then zeros.
-use Rattle.std.specs.Prelude.{ℕ, zero, suc, ◌+◌, ◌*◌, ◌≡◌, List, [], ◌∷◌}
+use Rattle.std.specs.Prelude.{ℕ, ◌+◌, ◌*◌, ◌≡◌, List, [], ◌∷◌, Ok, Err}
+use Rattle.terms.specs.Checks.{Check}
 use Rattle.terms.specs.Group.{boxes, commit_list, abort_list, commit_proof, abort_proof, log_proof}
 use Rattle.rules.specs.Answers.{answer_values}
 use Rattle.rules.specs.declared.Answer.{Answer}
@@ -56,9 +57,9 @@ abbrev pub group_row : ℕ → List ℕ
 group_row f = boxes f ∷ commit_list f ∷ abort_list f ∷ commit_proof f ∷ abort_proof f ∷ log_proof f ∷ []
 
 -- the row lent for them afterwards: a refusal leaves it as it was
-unfoldable pub thresholds_by : ℕ → ℕ → List ℕ → List ℕ
-thresholds_by zero f out = group_row f
-thresholds_by (suc n) f out = out
+unfoldable pub thresholds_by : Check → ℕ → List ℕ → List ℕ
+thresholds_by (Ok _) f out = group_row f
+thresholds_by (Err r) f out = out
 
 -- a version as one number, which grows with it; and the library's
 abbrev pub version_number : ℕ → ℕ → ℕ → ℕ

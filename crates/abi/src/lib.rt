@@ -1,8 +1,10 @@
 // The engine for programs in C, or in any language that calls C, on numbers, arrays and slices: a box's calls with the answer as five
-// numbers, what a table holds, records read and written, the tally, the leader's sheet, the thresholds, the passage register.
+// numbers, what a table holds, records read and written, the tally, the leader's sheet, the thresholds, the passage register. Numbers stand for enums here,
+// and what is told is put down in what the caller lends: that is the C interface of include/stobbarel.h, which may not change.
 #![tactic(auto)]
 
-ghost use Rattle.std.specs.Prelude.{◌≡◌, [], ◌∷◌, length, get_or};
+ghost use Rattle.std.specs.Prelude.{◌≡◌, ◌∷◌, length};
+ghost use Rattle.std.specs.Result.{result_unwrap_or};
 ghost use Rattle.terms.specs.Group.{group_wrong};
 ghost use Rattle.records.specs.declared.ViewMark.TheVariants.{VS, EL};
 ghost use Rattle.records.specs.Messages.{read_tx, read_vl, read_views, read_message, handed_back};
@@ -10,21 +12,22 @@ ghost use Rattle.rules.specs.Act.{receive, due};
 ghost use Rattle.engine.specs.Outcome.{kept, called, lowered, table_by};
 ghost use Rattle.sheet.specs.Sheets.{reply_to, reply_values, sheet_after, reached_of};
 ghost use Rattle.sheet.specs.Listing.{listing_of};
-ghost use Rattle.arrays.specs.Arrays.{lent_tx, lent_list, lent_views, marked_by, found_number, mark_number, fields, fields_of, view_row, view_fields, view_fields_of, ballot_numbers, ballot_answers, ballot_views, tx_row, tx_fields, tx_fields_of, list_fields, list_fields_of};
+ghost use Rattle.arrays.specs.Arrays.{lent_tx, lent_list, lent_views, marked_by, refusal_number, tx_or_none, list_or_none, views_or_none, found_number, mark_number, views_in_reading, fields, fields_of, view_row, view_fields, view_fields_of, ballot_numbers, ballot_answers, ballot_views, tx_row, tx_fields, tx_fields_of, list_fields, list_fields_of};
 ghost use Rattle.election.specs.Elections.{heard_values, said, sheet_heard, gathered};
 ghost use Rattle.election.specs.Telling.{tell_wrong, taller, telling};
 ghost use Rattle.passage.specs.Passages.{report_of, asks_of};
 ghost use Rattle.passage.specs.Corrections.{direction_corrected, corrected, entered};
 ghost use Rattle.abi.specs.Register.{lent_seen, lent_values, asked_keys, report_number, report_row, made, made_of};
 ghost use Rattle.abi.specs.Rows.{answer_row, told_of, sheet_of, sheet_with, election_sheet, group_row, thresholds_by, version, LeavesRow};
-ghost use Rattle.held.specs.Held.{held_of, holding_row, entry_told, how_many_told};
+ghost use Rattle.held.specs.Held.{held_of, held_row, entry_told, how_many_told};
 ghost use Rattle.abi.specs.Left.{left, tx_left, vl_left, views_left, pr_left, listed_mark, listed_left, viewed_left, rd_left};
 
-use passage::{Made, Reported, Seen, Values};
-use records::{Mark, ViewMark};
+use held::Holding;
+use passage::{Asked, Report, Seen, Values};
+use records::{Mark, Message, NO_LIST, NO_TX, NO_VIEWS, Transaction, ViewList, ViewMark, VoteList};
 use rules::{Answer, Told, Version};
 use sheet::Sheet;
-use terms::{Group, Key, Stamp};
+use terms::{Group, Key, Refusal, Stamp};
 
 // The library's version, as a number.
 pub fn stobbarel_version() -> u32
@@ -42,8 +45,8 @@ pub fn values(a: Answer) -> [u64; 5]
             1,
             records::widened(v.number()),
             records::widened(v.reason()),
-            records::widened(visited.told()),
-            visited.number() as u64,
+            records::widened(rules::visited_told(visited)),
+            rules::visited_number(visited) as u64,
         ],
         Answer::Decided(d) => [2, records::widened(d.number()), 0, 0, 0],
         Answer::Logged(d, v) => [3, records::widened(d.number()), v.0 as u64, 0, 0],
@@ -67,11 +70,16 @@ pub fn values(a: Answer) -> [u64; 5]
     }
 }
 
-// The five numbers, put down.
-fn put(out: &mut [u64; 5], v: [u64; 5])
-    ensures { out.new ≡ v }
+// What a box is told, lent as four numbers.
+fn told_of(f: u64, capacity: u64, clock: u64, delta: u64) -> Told
+    ensures { result ≡ told_of f capacity clock delta }
 {
-    *out = v;
+    Told {
+        f,
+        capacity,
+        clock,
+        delta,
+    }
 }
 
 // Any of the six messages, by its mark.
@@ -87,14 +95,9 @@ pub fn stobbarel_receive(
 )
     ensures { LeavesRow (called receive (told_of f capacity clock delta) (kept table.old marks.old) message.now) (kept table.old marks.old) out.new (kept table.new marks.new) }
 {
-    let told = Told {
-        f,
-        capacity,
-        clock,
-        delta,
-    };
+    let told = told_of(f, capacity, clock, delta);
     let answer = engine::receive(table, marks, told, message);
-    put(out, values(answer));
+    *out = values(answer);
 }
 
 // A message where one with this mark is due: 1 PR, 2 LG, 3 DC, 4 RD, 5 IV, 6 LD.
@@ -111,85 +114,93 @@ pub fn stobbarel_due(
 )
     ensures { LeavesRow (called (due (marked_by mark)) (told_of f capacity clock delta) (kept table.old marks.old) message.now) (kept table.old marks.old) out.new (kept table.new marks.new) }
 {
-    let told = Told {
-        f,
-        capacity,
-        clock,
-        delta,
-    };
+    let told = told_of(f, capacity, clock, delta);
     let answer = engine::due(arrays::marked_of(mark), table, marks, told, message);
-    put(out, values(answer));
+    *out = values(answer);
 }
 
 // The low mark raised. It is told f and capacity only: no clock matters.
 pub fn stobbarel_raise(table: &mut [u8], f: u64, capacity: u64, low: u64, out: &mut [u64; 5])
     ensures { (out.new ≡ answer_row (lowered low (told_of f capacity 0 0) table.old).answer) × (table.new ≡ table_by table.old (lowered low (told_of f capacity 0 0) table.old).change) }
 {
-    let told = Told {
-        f,
-        capacity,
-        clock: 0,
-        delta: 0,
-    };
+    let told = told_of(f, capacity, 0, 0);
     let answer = engine::raise_low(table, told, Stamp(low));
-    put(out, values(answer));
+    *out = values(answer);
 }
 
-// The eight numbers of what is held, put down.
-fn put_eight(out: &mut [u64; 8], v: [u64; 8])
-    ensures { out.new ≡ v }
+// What is told of a table's entry: zeros where nothing is held, and where it is refused.
+fn held_row(told: Result<Option<Holding>, Refusal>) -> [u64; 8]
+    ensures { result ≡ held_row told }
 {
-    *out = v;
+    match told {
+        Ok(Some(holding)) => held::numbers(holding),
+        Ok(None) | Err(_) => [0; 8],
+    }
 }
 
 // What a table holds under a stamp.
 pub fn stobbarel_held(table: &[u8], capacity: u64, stamp: u64, out: &mut [u64; 8]) -> u8
-    ensures { (result ≡ (held_of table.now capacity stamp).wrong) × (out.new ≡ holding_row (held_of table.now capacity stamp)) }
+    ensures { (result ≡ refusal_number (held_of table.now capacity stamp)) × (out.new ≡ held_row (held_of table.now capacity stamp)) }
 {
     let holding = held::held(table, capacity, Stamp(stamp));
-    put_eight(out, held::numbers(holding));
-    holding.wrong
+    *out = held_row(holding);
+    arrays::refusal_number(&holding)
 }
 
 // How many entries a table has.
 pub fn stobbarel_entries(table: &[u8], capacity: u64, count: &mut usize) -> u8
-    ensures { (result ≡ (how_many_told table.now capacity).wrong) × (count.new ≡ (how_many_told table.now capacity).count) }
+    ensures { (result ≡ refusal_number (how_many_told table.now capacity)) × (count.new ≡ result_unwrap_or (how_many_told table.now capacity) 0) }
 {
     let entries = held::how_many(table, capacity);
-    *count = entries.count;
-    entries.wrong
+    *count = entries.unwrap_or(0);
+    arrays::refusal_number(&entries)
 }
 
 // One of them, the first being 0.
 pub fn stobbarel_entry(table: &[u8], capacity: u64, i: u64, out: &mut [u64; 8]) -> u8
-    ensures { (result ≡ (entry_told table.now capacity i).wrong) × (out.new ≡ holding_row (entry_told table.now capacity i)) }
+    ensures { (result ≡ refusal_number (entry_told table.now capacity i)) × (out.new ≡ held_row (entry_told table.now capacity i)) }
 {
     let entry = held::entry(table, capacity, i);
-    put_eight(out, held::numbers(entry));
-    entry.wrong
+    *out = held_row(entry);
+    arrays::refusal_number(&entry)
+}
+
+// What is put down of an answer: zeros where it is refused.
+#[tactic(auto, unfolding(records::specs::Tx::held_tx, records::specs::Tx::no_tx))]
+fn tx_or_none(answer: Result<Transaction, Refusal>) -> Transaction
+    ensures { result ≡ tx_or_none answer }
+{
+    answer.unwrap_or(NO_TX)
+}
+
+#[tactic(auto, unfolding(records::specs::Vl::held_list, records::specs::Vl::no_list))]
+fn list_or_none(answer: Result<VoteList, Refusal>) -> VoteList
+    ensures { result ≡ list_or_none answer }
+{
+    answer.unwrap_or(NO_LIST)
+}
+
+#[tactic(auto, unfolding(records::specs::Views::held_views, records::specs::Views::no_views))]
+fn views_or_none(answer: Result<ViewList, Refusal>) -> ViewList
+    ensures { result ≡ views_or_none answer }
+{
+    answer.unwrap_or(NO_VIEWS)
 }
 
 // Reading alone: the refusal's number, or 0.
 pub fn stobbarel_reading(f: u64, message: &[u8]) -> u8
-    ensures { result ≡ found_number (read_message f message.now).found }
+    ensures { result ≡ found_number (read_message f message.now) }
 {
     let reading = reading::read(f, message);
-    let found = reading.found;
-    arrays::found_number(found)
+    arrays::found_number(&reading)
 }
 
 // A TX by itself.
 pub fn stobbarel_reading_tx(bytes: &[u8]) -> u8
-    ensures { result ≡ (read_tx bytes.now).wrong }
+    ensures { result ≡ refusal_number (read_tx bytes.now) }
 {
     let tx = reading::read_tx(bytes);
-    tx.wrong
-}
-
-fn put_three(out: &mut [u64; 3], v: [u64; 3])
-    ensures { out.new ≡ v }
-{
-    *out = v;
+    arrays::refusal_number(&tx)
 }
 
 // Its values, put down in what is lent for them: all 0 where it is refused.
@@ -201,37 +212,37 @@ pub fn stobbarel_tx_of(
     writes: &mut [u16; 8],
     values: &mut [u64; 8],
 ) -> u8
-    ensures { (result ≡ (read_tx bytes.now).wrong) × (head.new ≡ tx_row (read_tx bytes.now).tx) × (tx_fields reads.new versions.new writes.new values.new ≡ tx_fields_of (read_tx bytes.now).tx) }
+    ensures { (result ≡ refusal_number (read_tx bytes.now)) × (head.new ≡ tx_row (tx_or_none (read_tx bytes.now))) × (tx_fields reads.new versions.new writes.new values.new ≡ tx_fields_of (tx_or_none (read_tx bytes.now))) }
 {
     let reading = reading::read_tx(bytes);
-    let x = reading.tx;
-    put_three(head, [x.stamp.0, x.r as u64, x.w as u64]);
+    let x = tx_or_none(reading);
+    *head = [x.stamp.0, x.r as u64, x.w as u64];
     arrays::put_tx(x, reads, versions, writes, values);
-    reading.wrong
+    arrays::refusal_number(&reading)
 }
 
 // A VL by itself.
 pub fn stobbarel_reading_vl(f: u64, bytes: &[u8]) -> u8
-    ensures { result ≡ (read_vl f bytes.now).wrong }
+    ensures { result ≡ refusal_number (read_vl f bytes.now) }
 {
     let list = reading::read_vl(f, bytes);
-    list.wrong
+    arrays::refusal_number(&list)
 }
 
 // A VS by itself.
 pub fn stobbarel_reading_vs(f: u64, bytes: &[u8]) -> u8
-    ensures { result ≡ (read_views VS f bytes.now).wrong }
+    ensures { result ≡ refusal_number (read_views VS f bytes.now) }
 {
     let told = reading::read_views(ViewMark::VS, f, bytes);
-    told.wrong
+    arrays::refusal_number(&told)
 }
 
 // An EL by itself.
 pub fn stobbarel_reading_el(f: u64, bytes: &[u8]) -> u8
-    ensures { result ≡ (read_views EL f bytes.now).wrong }
+    ensures { result ≡ refusal_number (read_views EL f bytes.now) }
 {
     let told = reading::read_views(ViewMark::EL, f, bytes);
-    told.wrong
+    arrays::refusal_number(&told)
 }
 
 // A message's values, put down in what is lent for them: all 0 where it is refused.
@@ -246,23 +257,28 @@ pub fn stobbarel_fields(
     numbers: &mut [u8; 26],
     answers: &mut [u8; 26],
 ) -> u8
-    ensures { (result ≡ found_number (read_message f message.now).found) × (fields head.new reads.new versions.new writes.new values.new numbers.new answers.new ≡ fields_of (read_message f message.now)) }
+    ensures { (result ≡ found_number (read_message f message.now)) × (fields head.new reads.new versions.new writes.new values.new numbers.new answers.new ≡ fields_of (read_message f message.now)) }
 {
     let reading = reading::read(f, message);
     arrays::put_fields(
-        reading, head, reads, versions, writes, values, numbers, answers,
+        &reading, head, reads, versions, writes, values, numbers, answers,
     );
-    let found = reading.found;
-    arrays::found_number(found)
+    arrays::found_number(&reading)
 }
 
-fn put_five(out: &mut [u64; 5], mark: u64, row: [u64; 4])
-    ensures { out.new ≡ mark ∷ get_or row 0 0 ∷ get_or row 1 0 ∷ get_or row 2 0 ∷ get_or row 3 0 ∷ [] }
+// The list of views of an IV or an LD; zeros in another message, and where it was refused.
+#[tactic(auto, unfolding(records::specs::Views::held_views, records::specs::Views::no_views))]
+fn views_in_reading(reading: &Result<Message, Refusal>) -> ViewList
+    ensures { result ≡ views_in_reading reading.now }
 {
-    *out = [mark, row[0], row[1], row[2], row[3]];
+    match *reading {
+        Ok(Message::IV(_, l) | Message::LD(_, l)) => l,
+        _ => NO_VIEWS,
+    }
 }
 
 // What an IV or an LD lists, put down in what is lent for it: all 0 in another message, and where it is refused.
+#[tactic(auto, unfolding(arrays::specs::Arrays::view_fields_of))]
 pub fn stobbarel_views(
     f: u64,
     message: &[u8],
@@ -271,15 +287,15 @@ pub fn stobbarel_views(
     answers: &mut [u8; 26],
     views: &mut [u16; 26],
 ) -> u8
-    ensures { (result ≡ found_number (read_message f message.now).found) × (head.new ≡ mark_number (read_message f message.now).found ∷ view_row (read_message f message.now).views) × (numbers.new ≡ ballot_numbers (read_message f message.now).views.ballots) × (answers.new ≡ ballot_answers (read_message f message.now).views.ballots) × (views.new ≡ ballot_views (read_message f message.now).views.ballots) }
+    ensures { (result ≡ found_number (read_message f message.now)) × (head.new ≡ mark_number (read_message f message.now) ∷ view_row (views_in_reading (read_message f message.now))) × (numbers.new ≡ ballot_numbers (views_in_reading (read_message f message.now)).ballots) × (answers.new ≡ ballot_answers (views_in_reading (read_message f message.now)).ballots) × (views.new ≡ ballot_views (views_in_reading (read_message f message.now)).ballots) }
 {
     let reading = reading::read(f, message);
-    let found = reading.found;
-    let told = reading.views;
+    let told = views_in_reading(&reading);
     let mut row = [0; 4];
     arrays::put_views(told, &mut row, numbers, answers, views);
-    put_five(head, arrays::found_mark(found), row);
-    arrays::found_number(found)
+    let [leader, decision, view, count] = row;
+    *head = [arrays::found_mark(&reading), leader, decision, view, count];
+    arrays::found_number(&reading)
 }
 
 // The length of the transaction's bytes inside a message, which stand behind its mark.
@@ -290,11 +306,23 @@ pub fn stobbarel_part(f: u64, message: &[u8]) -> usize
     part.len()
 }
 
-// The five numbers of a reply, put down.
-fn put_reply(out: &mut [u8; 5], v: [u8; 5])
-    ensures { out.new ≡ v }
+// A sheet, lent as its four numbers.
+fn sheet_with(kind: u8, view: u16, commits: u32, aborts: u32) -> Sheet
+    ensures { result ≡ sheet_with kind view commits aborts }
 {
-    *out = v;
+    Sheet {
+        kind,
+        view,
+        commits,
+        aborts,
+    }
+}
+
+// The gateway's sheet, lent as a kind and two masks: no answer looks at its view.
+fn sheet_of(kind: u8, commits: u32, aborts: u32) -> Sheet
+    ensures { result ≡ sheet_of kind commits aborts }
+{
+    sheet_with(kind, 0, commits, aborts)
 }
 
 // The gateway's tally: a sheet of one kind takes a box's answer.
@@ -309,31 +337,20 @@ pub fn stobbarel_take(
 )
     ensures { (out.new ≡ reply_values (reply_to (sheet_of kind commits.old aborts.old) f number answer)) × (commits.new ≡ (sheet_after (sheet_of kind commits.old aborts.old) f number answer).commits) × (aborts.new ≡ (sheet_after (sheet_of kind commits.old aborts.old) f number answer).aborts) }
 {
-    let s = Sheet {
-        kind,
-        view: 0,
-        commits: *commits,
-        aborts: *aborts,
-    };
+    let s = sheet_of(kind, *commits, *aborts);
     let reply = sheet::reply_to(s, f, number, answer);
     let after = sheet::added(s, f, number, answer);
     *commits = after.commits;
     *aborts = after.aborts;
-    put_reply(out, reply.values());
+    *out = reply.values();
 }
 
 // What a sheet has reached as it is, as a reply tells it.
 pub fn stobbarel_reached(kind: u8, commits: u32, aborts: u32, f: u64, out: &mut [u8; 5])
     ensures { out.new ≡ reply_values (reached_of (sheet_of kind commits aborts) f) }
 {
-    let s = Sheet {
-        kind,
-        view: 0,
-        commits,
-        aborts,
-    };
-    let reached = sheet::reached(s, f);
-    put_reply(out, reached.values());
+    let reached = sheet::reached(sheet_of(kind, commits, aborts), f);
+    *out = reached.values();
 }
 
 // The list of the boxes under a decision, put down; 14, 16, 8 or 0.
@@ -348,36 +365,19 @@ pub fn stobbarel_sheet_list(
     numbers: &mut [u8; 26],
     answers: &mut [u8; 26],
 ) -> u8
-    ensures { (result ≡ (listing_of (sheet_with kind view commits aborts) f decision).wrong) × (list_fields head.new numbers.new answers.new ≡ list_fields_of (listing_of (sheet_with kind view commits aborts) f decision).list) }
+    ensures { (result ≡ refusal_number (listing_of (sheet_with kind view commits aborts) f decision)) × (list_fields head.new numbers.new answers.new ≡ list_fields_of (list_or_none (listing_of (sheet_with kind view commits aborts) f decision))) }
 {
-    let s = Sheet {
-        kind,
-        view,
-        commits,
-        aborts,
-    };
+    let s = sheet_with(kind, view, commits, aborts);
     let listing = sheet::list_by(s, f, decision);
-    let list = listing.list;
-    arrays::put_list(list, head, numbers, answers);
-    listing.wrong
+    arrays::put_list(list_or_none(listing), head, numbers, answers);
+    arrays::refusal_number(&listing)
 }
 
 // The leader's sheet, lent as a view and two masks.
 fn election_sheet(view: u16, commits: u32, aborts: u32) -> Sheet
     ensures { result ≡ election_sheet view commits aborts }
 {
-    Sheet {
-        kind: 2,
-        view,
-        commits,
-        aborts,
-    }
-}
-
-fn put_pair(out: &mut [u8; 2], v: [u8; 2])
-    ensures { out.new ≡ v }
-{
-    *out = v;
+    sheet_with(2, view, commits, aborts)
 }
 
 // The leader's sheet takes a box's election answer, given with a view.
@@ -398,7 +398,7 @@ pub fn stobbarel_elect(
     let after = election::sheet_heard(s, f, number, answer, given);
     *commits = after.commits;
     *aborts = after.aborts;
-    put_pair(out, heard.values());
+    *out = heard.values();
 }
 
 // The EL of a leader's sheet, put down; 14, 16, 23 or 0.
@@ -413,32 +413,30 @@ pub fn stobbarel_election(
     answers: &mut [u8; 26],
     views: &mut [u16; 26],
 ) -> u8
-    ensures { (result ≡ (gathered (election_sheet view commits aborts) f stamp).wrong) × (view_fields head.new numbers.new answers.new views.new ≡ view_fields_of (gathered (election_sheet view commits aborts) f stamp).list) }
+    ensures { (result ≡ refusal_number (gathered (election_sheet view commits aborts) f stamp)) × (view_fields head.new numbers.new answers.new views.new ≡ view_fields_of (views_or_none (gathered (election_sheet view commits aborts) f stamp))) }
 {
     let g = election::gather(election_sheet(view, commits, aborts), f, Stamp(stamp));
-    let list = g.list;
-    arrays::put_views(list, head, numbers, answers, views);
-    g.wrong
-}
-
-fn put_views_told(out: &mut [u16; 26], v: [u16; 26])
-    ensures { out.new ≡ v }
-{
-    *out = v;
+    arrays::put_views(views_or_none(g), head, numbers, answers, views);
+    arrays::refusal_number(&g)
 }
 
 // The highest view that each box told: one more is told.
 pub fn stobbarel_tell(told: &mut u32, views: &mut [u16; 26], f: u64, number: u64, view: u64) -> u8
-    ensures { (result ≡ tell_wrong told.old f number view) × (told.new ≡ (taller told.old views.old f number view).told) × (views.new ≡ (taller told.old views.old f number view).views) }
+    ensures { (result ≡ refusal_number (tell_wrong told.old f number view)) × (told.new ≡ (taller told.old views.old f number view).told) × (views.new ≡ (taller told.old views.old f number view).views) }
 {
-    let highest = election::taller(*told, *views, f, number, view);
-    let now = highest.views;
-    *told = highest.told;
-    put_views_told(views, now);
-    highest.wrong
+    match election::taller(*told, *views, f, number, view) {
+        Ok(highest) => {
+            let heights = highest.views; // a variable of its own: a field that is an array, stored straight, gets no proof
+            *told = highest.told;
+            *views = heights;
+            0
+        }
+        Err(why) => why.number(),
+    }
 }
 
 // The boxes that told a view, and the view of each, as a VS lists them; 14, 16 or 0.
+#[tactic(auto, unfolding(arrays::specs::Arrays::view_fields_of))]
 pub fn stobbarel_told(
     told: u32,
     views: &[u16; 26],
@@ -447,58 +445,47 @@ pub fn stobbarel_told(
     numbers: &mut [u8; 26],
     listed: &mut [u16; 26],
 ) -> u8
-    ensures { (result ≡ (telling told views.now f).wrong) × (count.new ≡ (telling told views.now f).list.count) × (numbers.new ≡ ballot_numbers (telling told views.now f).list.ballots) × (listed.new ≡ ballot_views (telling told views.now f).list.ballots) }
+    ensures { (result ≡ refusal_number (telling told views.now f)) × (count.new ≡ (views_or_none (telling told views.now f)).count) × (numbers.new ≡ ballot_numbers (views_or_none (telling told views.now f)).ballots) × (listed.new ≡ ballot_views (views_or_none (telling told views.now f)).ballots) }
 {
     let telling = election::listed(told, *views, f);
-    let list = telling.list;
     let mut head = [0; 4];
     let mut answers = [0; 26];
+    let list = views_or_none(telling);
     arrays::put_views(list, &mut head, numbers, &mut answers, listed);
     *count = list.count;
-    telling.wrong
+    arrays::refusal_number(&telling)
 }
 
 // n and the five thresholds.
 fn group_row(g: Group) -> [u64; 6]
     ensures { result ≡ group_row g.f }
 {
-    let n = g.n() as u64;
-    let commit_list = g.commit_list() as u64;
-    let abort_list = g.abort_list() as u64;
-    let commit_proof = g.commit_proof() as u64;
-    let abort_proof = g.abort_proof() as u64;
-    let log_proof = g.log_proof() as u64;
     [
-        n,
-        commit_list,
-        abort_list,
-        commit_proof,
-        abort_proof,
-        log_proof,
+        g.n() as u64,
+        g.commit_list() as u64,
+        g.abort_list() as u64,
+        g.commit_proof() as u64,
+        g.abort_proof() as u64,
+        g.log_proof() as u64,
     ]
 }
 
-fn put_row(out: &mut [u64; 6], v: [u64; 6])
-    ensures { out.new ≡ v }
-{
-    *out = v;
-}
-
 // The number of boxes and the five thresholds of a group; 14 or 0.
+#[tactic(auto, using(terms::proofs::Groups::group_small), unfolding(crate::specs::Rows::thresholds_by))]
 pub fn stobbarel_thresholds(f: u64, out: &mut [u64; 6]) -> u8
-    ensures { (result ≡ group_wrong f) × (out.new ≡ thresholds_by (group_wrong f) f out.old) }
+    ensures { (result ≡ refusal_number (group_wrong f)) × (out.new ≡ thresholds_by (group_wrong f) f out.old) }
 {
-    let wrong = terms::group_wrong(f);
-    if wrong != 0 {
-        return wrong;
+    if let Err(why) = terms::group_wrong(f) {
+        return why.number();
     }
-    put_row(out, group_row(Group { f: f as u8 }));
+    *out = group_row(Group { f: f as u8 });
     0
 }
 
 // ---- writing
 
 // The mark of a message with a list, by its number; another number stands for a message without one.
+#[tactic(auto, unfolding(crate::specs::Left::listed_mark))]
 fn listed_mark(mark: u64) -> Mark
     ensures { result ≡ listed_mark mark }
 {
@@ -510,6 +497,7 @@ fn listed_mark(mark: u64) -> Mark
 }
 
 // A TX by itself.
+#[tactic(auto, unfolding(crate::specs::Left::left_by))]
 pub fn stobbarel_write_tx(
     stamp: u64,
     r: usize,
@@ -529,6 +517,7 @@ pub fn stobbarel_write_tx(
 }
 
 // A VL by itself.
+#[tactic(auto, unfolding(crate::specs::Left::left_by))]
 pub fn stobbarel_write_vl(
     f: u64,
     kind: u8,
@@ -548,6 +537,7 @@ pub fn stobbarel_write_vl(
 }
 
 // A VS by itself.
+#[tactic(auto, unfolding(crate::specs::Left::left_by))]
 pub fn stobbarel_write_vs(
     f: u64,
     count: usize,
@@ -564,6 +554,7 @@ pub fn stobbarel_write_vs(
 }
 
 // An EL by itself.
+#[tactic(auto, unfolding(crate::specs::Left::left_by))]
 pub fn stobbarel_write_el(
     f: u64,
     leader: u8,
@@ -584,6 +575,7 @@ pub fn stobbarel_write_el(
 }
 
 // PR: a transaction to vote on.
+#[tactic(auto, unfolding(crate::specs::Left::left_by))]
 pub fn stobbarel_write_pr(
     stamp: u64,
     r: usize,
@@ -603,6 +595,7 @@ pub fn stobbarel_write_pr(
 }
 
 // LG or DC: a transaction and a list.
+#[tactic(auto, unfolding(crate::specs::Left::left_by))]
 pub fn stobbarel_write_listed(
     mark: u64,
     f: u64,
@@ -631,6 +624,7 @@ pub fn stobbarel_write_listed(
 }
 
 // IV: a transaction and views.
+#[tactic(auto, unfolding(crate::specs::Left::left_by))]
 pub fn stobbarel_write_iv(
     f: u64,
     stamp: u64,
@@ -655,6 +649,7 @@ pub fn stobbarel_write_iv(
 }
 
 // LD: a transaction and election answers.
+#[tactic(auto, unfolding(crate::specs::Left::left_by))]
 pub fn stobbarel_write_ld(
     f: u64,
     stamp: u64,
@@ -683,6 +678,7 @@ pub fn stobbarel_write_ld(
 }
 
 // RD: what stands at a key.
+#[tactic(auto, unfolding(crate::specs::Left::left_by))]
 pub fn stobbarel_write_rd(key: u16, stamp: u64, out: &mut [u8], length: &mut usize) -> u8
     ensures { left result length.new out.new ≡ rd_left key stamp out.old }
 {
@@ -693,84 +689,61 @@ pub fn stobbarel_write_rd(key: u16, stamp: u64, out: &mut [u8], length: &mut usi
 // ---- the passage register
 
 // What was seen at a passage's keys: committed versions and values, in the keys' order.
+#[tactic(auto, unfolding(crate::specs::Register::lent_seen))]
 fn seen_of(versions: &[u64; 4], values: &[u64; 4]) -> Seen
     ensures { result ≡ lent_seen versions.now values.now }
 {
+    let at = |i: usize| Version {
+        stamp: Stamp(versions[i]),
+        value: values[i],
+    };
     Seen {
-        train: Version {
-            stamp: Stamp(versions[0]),
-            value: values[0],
-        },
-        direction: Version {
-            stamp: Stamp(versions[1]),
-            value: values[1],
-        },
-        axles: Version {
-            stamp: Stamp(versions[2]),
-            value: values[2],
-        },
-        hot: Version {
-            stamp: Stamp(versions[3]),
-            value: values[3],
-        },
+        train: at(0),
+        direction: at(1),
+        axles: at(2),
+        hot: at(3),
     }
 }
 
+#[tactic(auto, unfolding(crate::specs::Register::lent_values))]
 fn values_of(values: &[u64; 4]) -> Values
     ensures { result ≡ lent_values values.now }
 {
+    let [train, direction, axles, hot] = *values;
     Values {
-        train: values[0],
-        direction: values[1],
-        axles: values[2],
-        hot: values[3],
+        train,
+        direction,
+        axles,
+        hot,
     }
 }
 
-fn put_keys(out: &mut [u16; 4], v: [u16; 4])
-    ensures { out.new ≡ v }
+// The keys of four RDs; zeros where they are refused.
+fn asked_keys(asked: Result<Asked, Refusal>) -> [u16; 4]
+    ensures { result ≡ asked_keys asked }
 {
-    *out = v;
-}
-
-fn put_four(out: &mut [u64; 4], v: [u64; 4])
-    ensures { out.new ≡ v }
-{
-    *out = v;
+    match asked {
+        Ok(a) => [a.train.key.0, a.direction.key.0, a.axles.key.0, a.hot.key.0],
+        Err(_) => [0; 4],
+    }
 }
 
 // The keys of a passage's four RDs; 26, 5 or 0.
 pub fn stobbarel_asks(passage: u64, stamp: u64, keys: &mut [u16; 4]) -> u8
-    ensures { (result ≡ (asks_of passage stamp).wrong) × (keys.new ≡ asked_keys (asks_of passage stamp)) }
+    ensures { (result ≡ refusal_number (asks_of passage stamp)) × (keys.new ≡ asked_keys (asks_of passage stamp)) }
 {
     let asked = passage::asks(passage, Stamp(stamp));
-    put_keys(
-        keys,
-        [
-            asked.train.key.0,
-            asked.direction.key.0,
-            asked.axles.key.0,
-            asked.hot.key.0,
-        ],
-    );
-    asked.wrong
+    *keys = asked_keys(asked);
+    arrays::refusal_number(&asked)
 }
 
-fn report_number(reported: Reported) -> u8
-    ensures { result ≡ report_number reported }
-{
-    match reported {
-        Reported::Of(_) => 0,
-        Reported::Refused(r) => r.number(),
-    }
-}
-
-fn report_row(reported: Reported) -> [u64; 4]
+// A report's numbers; zeros where it is refused.
+fn report_row(reported: Result<Report, Refusal>) -> [u64; 4]
     ensures { result ≡ report_row reported }
 {
     match reported {
-        Reported::Of(r) => [r.train, r.direction, r.axles, r.hot],
-        Reported::Refused(_) => [0, 0, 0, 0],
+        Ok(r) => [r.train, r.direction, r.axles, r.hot],
+        Err(_) => [0; 4],
     }
 }
 
@@ -784,13 +757,14 @@ pub fn stobbarel_report(
     ensures { (result ≡ report_number (report_of passage (lent_seen versions.now values.now))) × (out.new ≡ report_row (report_of passage (lent_seen versions.now values.now))) }
 {
     let reported = passage::report_of(passage, seen_of(versions, values));
-    put_four(out, report_row(reported));
-    report_number(reported)
+    *out = report_row(reported);
+    arrays::refusal_number(&reported)
 }
 
 // A transaction that was made, put down; its refusal's number, or 0.
+#[tactic(auto, unfolding(crate::specs::Register::made_of))]
 fn put_made(
-    m: Made,
+    m: Result<Transaction, Refusal>,
     reads: &mut [u16; 8],
     versions: &mut [u64; 8],
     writes: &mut [u16; 8],
@@ -798,9 +772,8 @@ fn put_made(
 ) -> u8
     ensures { made result reads.new versions.new writes.new values.new ≡ made_of m }
 {
-    let tx = m.tx;
-    arrays::put_tx(tx, reads, versions, writes, values);
-    m.wrong
+    arrays::put_tx(tx_or_none(m), reads, versions, writes, values);
+    arrays::refusal_number(&m)
 }
 
 // The direction's correction: 26 to 30, 5, 7 or 0.

@@ -1,9 +1,10 @@
 // The engine for programs in C, or in any language that calls C: each public function of abi that names no type of Rattle's, under its own name, with its
-// own clauses. A crate is a library for Rattle or an archive for C, so this one stands above abi and only hands on. A slice is a pointer and then a
-// length, an array a pointer; what each function does stands there and in include/stobbarel.h.
+// own clauses. The two are twins on purpose: a crate is a library for Rattle or an archive for C, and not both, so this one stands above abi, and each
+// function is one call of abi's. A slice is a pointer and then a length, an array a pointer; what each function does stands there and in include/stobbarel.h.
 #![tactic(auto)]
 
 ghost use Rattle.std.specs.Prelude.{◌≡◌, ◌∷◌, length};
+ghost use Rattle.std.specs.Result.{result_unwrap_or};
 ghost use Rattle.terms.specs.Group.{group_wrong};
 ghost use Rattle.records.specs.declared.ViewMark.TheVariants.{VS, EL};
 ghost use Rattle.records.specs.Messages.{read_tx, read_vl, read_views, read_message, handed_back};
@@ -11,14 +12,14 @@ ghost use Rattle.rules.specs.Act.{receive, due};
 ghost use Rattle.engine.specs.Outcome.{kept, called, lowered, table_by};
 ghost use Rattle.sheet.specs.Sheets.{reply_to, reply_values, sheet_after, reached_of};
 ghost use Rattle.sheet.specs.Listing.{listing_of};
-ghost use Rattle.arrays.specs.Arrays.{lent_tx, lent_list, lent_views, marked_by, found_number, mark_number, fields, fields_of, view_row, view_fields, view_fields_of, ballot_numbers, ballot_answers, ballot_views, tx_row, tx_fields, tx_fields_of, list_fields, list_fields_of};
+ghost use Rattle.arrays.specs.Arrays.{lent_tx, lent_list, lent_views, marked_by, refusal_number, tx_or_none, list_or_none, views_or_none, found_number, mark_number, views_in_reading, fields, fields_of, view_row, view_fields, view_fields_of, ballot_numbers, ballot_answers, ballot_views, tx_row, tx_fields, tx_fields_of, list_fields, list_fields_of};
 ghost use Rattle.election.specs.Elections.{heard_values, said, sheet_heard, gathered};
 ghost use Rattle.election.specs.Telling.{tell_wrong, taller, telling};
 ghost use Rattle.passage.specs.Passages.{report_of, asks_of};
 ghost use Rattle.passage.specs.Corrections.{direction_corrected, corrected, entered};
 ghost use Rattle.abi.specs.Register.{lent_seen, lent_values, asked_keys, report_number, report_row, made, made_of};
 ghost use Rattle.abi.specs.Rows.{answer_row, told_of, sheet_of, sheet_with, election_sheet, thresholds_by, version, LeavesRow};
-ghost use Rattle.held.specs.Held.{held_of, holding_row, entry_told, how_many_told};
+ghost use Rattle.held.specs.Held.{held_of, held_row, entry_told, how_many_told};
 ghost use Rattle.abi.specs.Left.{left, tx_left, vl_left, views_left, pr_left, listed_mark, listed_left, viewed_left, rd_left};
 
 #[unsafe(no_mangle)]
@@ -76,35 +77,35 @@ pub extern "C" fn stobbarel_raise(
 
 #[unsafe(no_mangle)]
 pub extern "C" fn stobbarel_held(table: &[u8], capacity: u64, stamp: u64, out: &mut [u64; 8]) -> u8
-    ensures { (result ≡ (held_of table.now capacity stamp).wrong) × (out.new ≡ holding_row (held_of table.now capacity stamp)) }
+    ensures { (result ≡ refusal_number (held_of table.now capacity stamp)) × (out.new ≡ held_row (held_of table.now capacity stamp)) }
 {
     abi::stobbarel_held(table, capacity, stamp, out)
 }
 
 #[unsafe(no_mangle)]
 pub extern "C" fn stobbarel_entries(table: &[u8], capacity: u64, count: &mut usize) -> u8
-    ensures { (result ≡ (how_many_told table.now capacity).wrong) × (count.new ≡ (how_many_told table.now capacity).count) }
+    ensures { (result ≡ refusal_number (how_many_told table.now capacity)) × (count.new ≡ result_unwrap_or (how_many_told table.now capacity) 0) }
 {
     abi::stobbarel_entries(table, capacity, count)
 }
 
 #[unsafe(no_mangle)]
 pub extern "C" fn stobbarel_entry(table: &[u8], capacity: u64, i: u64, out: &mut [u64; 8]) -> u8
-    ensures { (result ≡ (entry_told table.now capacity i).wrong) × (out.new ≡ holding_row (entry_told table.now capacity i)) }
+    ensures { (result ≡ refusal_number (entry_told table.now capacity i)) × (out.new ≡ held_row (entry_told table.now capacity i)) }
 {
     abi::stobbarel_entry(table, capacity, i, out)
 }
 
 #[unsafe(no_mangle)]
 pub extern "C" fn stobbarel_reading(f: u64, message: &[u8]) -> u8
-    ensures { result ≡ found_number (read_message f message.now).found }
+    ensures { result ≡ found_number (read_message f message.now) }
 {
     abi::stobbarel_reading(f, message)
 }
 
 #[unsafe(no_mangle)]
 pub extern "C" fn stobbarel_reading_tx(bytes: &[u8]) -> u8
-    ensures { result ≡ (read_tx bytes.now).wrong }
+    ensures { result ≡ refusal_number (read_tx bytes.now) }
 {
     abi::stobbarel_reading_tx(bytes)
 }
@@ -118,28 +119,28 @@ pub extern "C" fn stobbarel_tx_of(
     writes: &mut [u16; 8],
     values: &mut [u64; 8],
 ) -> u8
-    ensures { (result ≡ (read_tx bytes.now).wrong) × (head.new ≡ tx_row (read_tx bytes.now).tx) × (tx_fields reads.new versions.new writes.new values.new ≡ tx_fields_of (read_tx bytes.now).tx) }
+    ensures { (result ≡ refusal_number (read_tx bytes.now)) × (head.new ≡ tx_row (tx_or_none (read_tx bytes.now))) × (tx_fields reads.new versions.new writes.new values.new ≡ tx_fields_of (tx_or_none (read_tx bytes.now))) }
 {
     abi::stobbarel_tx_of(bytes, head, reads, versions, writes, values)
 }
 
 #[unsafe(no_mangle)]
 pub extern "C" fn stobbarel_reading_vl(f: u64, bytes: &[u8]) -> u8
-    ensures { result ≡ (read_vl f bytes.now).wrong }
+    ensures { result ≡ refusal_number (read_vl f bytes.now) }
 {
     abi::stobbarel_reading_vl(f, bytes)
 }
 
 #[unsafe(no_mangle)]
 pub extern "C" fn stobbarel_reading_vs(f: u64, bytes: &[u8]) -> u8
-    ensures { result ≡ (read_views VS f bytes.now).wrong }
+    ensures { result ≡ refusal_number (read_views VS f bytes.now) }
 {
     abi::stobbarel_reading_vs(f, bytes)
 }
 
 #[unsafe(no_mangle)]
 pub extern "C" fn stobbarel_reading_el(f: u64, bytes: &[u8]) -> u8
-    ensures { result ≡ (read_views EL f bytes.now).wrong }
+    ensures { result ≡ refusal_number (read_views EL f bytes.now) }
 {
     abi::stobbarel_reading_el(f, bytes)
 }
@@ -156,7 +157,7 @@ pub extern "C" fn stobbarel_fields(
     numbers: &mut [u8; 26],
     answers: &mut [u8; 26],
 ) -> u8
-    ensures { (result ≡ found_number (read_message f message.now).found) × (fields head.new reads.new versions.new writes.new values.new numbers.new answers.new ≡ fields_of (read_message f message.now)) }
+    ensures { (result ≡ found_number (read_message f message.now)) × (fields head.new reads.new versions.new writes.new values.new numbers.new answers.new ≡ fields_of (read_message f message.now)) }
 {
     abi::stobbarel_fields(
         f, message, head, reads, versions, writes, values, numbers, answers,
@@ -172,7 +173,7 @@ pub extern "C" fn stobbarel_views(
     answers: &mut [u8; 26],
     views: &mut [u16; 26],
 ) -> u8
-    ensures { (result ≡ found_number (read_message f message.now).found) × (head.new ≡ mark_number (read_message f message.now).found ∷ view_row (read_message f message.now).views) × (numbers.new ≡ ballot_numbers (read_message f message.now).views.ballots) × (answers.new ≡ ballot_answers (read_message f message.now).views.ballots) × (views.new ≡ ballot_views (read_message f message.now).views.ballots) }
+    ensures { (result ≡ found_number (read_message f message.now)) × (head.new ≡ mark_number (read_message f message.now) ∷ view_row (views_in_reading (read_message f message.now))) × (numbers.new ≡ ballot_numbers (views_in_reading (read_message f message.now)).ballots) × (answers.new ≡ ballot_answers (views_in_reading (read_message f message.now)).ballots) × (views.new ≡ ballot_views (views_in_reading (read_message f message.now)).ballots) }
 {
     abi::stobbarel_views(f, message, head, numbers, answers, views)
 }
@@ -218,7 +219,7 @@ pub extern "C" fn stobbarel_sheet_list(
     numbers: &mut [u8; 26],
     answers: &mut [u8; 26],
 ) -> u8
-    ensures { (result ≡ (listing_of (sheet_with kind view commits aborts) f decision).wrong) × (list_fields head.new numbers.new answers.new ≡ list_fields_of (listing_of (sheet_with kind view commits aborts) f decision).list) }
+    ensures { (result ≡ refusal_number (listing_of (sheet_with kind view commits aborts) f decision)) × (list_fields head.new numbers.new answers.new ≡ list_fields_of (list_or_none (listing_of (sheet_with kind view commits aborts) f decision))) }
 {
     abi::stobbarel_sheet_list(
         kind, view, commits, aborts, f, decision, head, numbers, answers,
@@ -253,7 +254,7 @@ pub extern "C" fn stobbarel_election(
     answers: &mut [u8; 26],
     views: &mut [u16; 26],
 ) -> u8
-    ensures { (result ≡ (gathered (election_sheet view commits aborts) f stamp).wrong) × (view_fields head.new numbers.new answers.new views.new ≡ view_fields_of (gathered (election_sheet view commits aborts) f stamp).list) }
+    ensures { (result ≡ refusal_number (gathered (election_sheet view commits aborts) f stamp)) × (view_fields head.new numbers.new answers.new views.new ≡ view_fields_of (views_or_none (gathered (election_sheet view commits aborts) f stamp))) }
 {
     abi::stobbarel_election(
         view, commits, aborts, f, stamp, head, numbers, answers, views,
@@ -268,7 +269,7 @@ pub extern "C" fn stobbarel_tell(
     number: u64,
     view: u64,
 ) -> u8
-    ensures { (result ≡ tell_wrong told.old f number view) × (told.new ≡ (taller told.old views.old f number view).told) × (views.new ≡ (taller told.old views.old f number view).views) }
+    ensures { (result ≡ refusal_number (tell_wrong told.old f number view)) × (told.new ≡ (taller told.old views.old f number view).told) × (views.new ≡ (taller told.old views.old f number view).views) }
 {
     abi::stobbarel_tell(told, views, f, number, view)
 }
@@ -282,14 +283,14 @@ pub extern "C" fn stobbarel_told(
     numbers: &mut [u8; 26],
     listed: &mut [u16; 26],
 ) -> u8
-    ensures { (result ≡ (telling told views.now f).wrong) × (count.new ≡ (telling told views.now f).list.count) × (numbers.new ≡ ballot_numbers (telling told views.now f).list.ballots) × (listed.new ≡ ballot_views (telling told views.now f).list.ballots) }
+    ensures { (result ≡ refusal_number (telling told views.now f)) × (count.new ≡ (views_or_none (telling told views.now f)).count) × (numbers.new ≡ ballot_numbers (views_or_none (telling told views.now f)).ballots) × (listed.new ≡ ballot_views (views_or_none (telling told views.now f)).ballots) }
 {
     abi::stobbarel_told(told, views, f, count, numbers, listed)
 }
 
 #[unsafe(no_mangle)]
 pub extern "C" fn stobbarel_thresholds(f: u64, out: &mut [u64; 6]) -> u8
-    ensures { (result ≡ group_wrong f) × (out.new ≡ thresholds_by (group_wrong f) f out.old) }
+    ensures { (result ≡ refusal_number (group_wrong f)) × (out.new ≡ thresholds_by (group_wrong f) f out.old) }
 {
     abi::stobbarel_thresholds(f, out)
 }
@@ -473,7 +474,7 @@ pub extern "C" fn stobbarel_write_rd(key: u16, stamp: u64, out: &mut [u8], lengt
 
 #[unsafe(no_mangle)]
 pub extern "C" fn stobbarel_asks(passage: u64, stamp: u64, keys: &mut [u16; 4]) -> u8
-    ensures { (result ≡ (asks_of passage stamp).wrong) × (keys.new ≡ asked_keys (asks_of passage stamp)) }
+    ensures { (result ≡ refusal_number (asks_of passage stamp)) × (keys.new ≡ asked_keys (asks_of passage stamp)) }
 {
     abi::stobbarel_asks(passage, stamp, keys)
 }

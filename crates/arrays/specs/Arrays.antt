@@ -1,12 +1,15 @@
 -- A transaction, a list and a list of views lent as numbers and arrays, and a reading and a writer's answer said in them.
-use Rattle.std.specs.Prelude.{ℕ, List, [], ◌∷◌, eqb, get_or}
+use Rattle.std.specs.Prelude.{ℕ, List, [], ◌∷◌, eqb, get_or, Result, Ok, Err}
+use Rattle.std.specs.Result.{result_unwrap_or}
 use Rattle.terms.specs.Choice.{pick, tab}
 use Rattle.terms.specs.Checks.{mark}
 use Rattle.terms.specs.Refusals.{number_of}
+use Rattle.terms.specs.declared.Key.{Key}
+use Rattle.terms.specs.declared.Refusal.{Refusal}
 use Rattle.terms.specs.declared.Stamp.{Stamp}
-use Rattle.records.specs.Tx.{read_key, read_version, write_key, write_value, reads_in, writes_in}
-use Rattle.records.specs.Vl.{pairs_in}
-use Rattle.records.specs.Views.{ballots_in}
+use Rattle.records.specs.Tx.{read_key, read_version, write_key, write_value, reads_in, writes_in, held_tx, no_tx}
+use Rattle.records.specs.Vl.{pairs_in, held_list, no_list}
+use Rattle.records.specs.Views.{ballots_in, held_views, no_views}
 use Rattle.records.specs.declared.Read.{Read}
 use Rattle.records.specs.declared.Write.{Write}
 use Rattle.records.specs.declared.Pair.{Pair}
@@ -14,12 +17,10 @@ use Rattle.records.specs.declared.Ballot.{Ballot}
 use Rattle.records.specs.declared.Transaction.{Transaction}
 use Rattle.records.specs.declared.VoteList.{VoteList}
 use Rattle.records.specs.declared.ViewList.{ViewList}
-use Rattle.records.specs.declared.Written.{Written}
-use Rattle.records.specs.declared.Written.TheVariants.{Wrote, Refused}
-use Rattle.records.specs.declared.Reading.{Reading}
+use Rattle.records.specs.declared.Mark.{Mark}
 use Rattle.records.specs.declared.Mark.TheVariants.{PR, LG, DC, RD, IV, LD}
-use Rattle.records.specs.declared.Marked.{Marked}
-use Rattle.records.specs.declared.Marked.TheVariants.{Is, Refused as Unmarked}
+use Rattle.records.specs.declared.Message.{Message}
+use Rattle.records.specs.declared.Message.TheVariants.{PR as pr, LG as lg, DC as dc, RD as rd, IV as iv, LD as ld}
 
 -- ---- put together
 abbrev pub lent_read : List ℕ → List ℕ → ℕ → Read
@@ -62,16 +63,29 @@ lent_views leader decision view count numbers answers views =
       ballots = tab (lent_ballot numbers answers views) 0 26;
     }
 
+-- ---- an answer: the refusal's number; 0 where something is answered
+abbrev pub refusal_number : {A : Type 0} → Result A Refusal → ℕ
+refusal_number (Ok a) = 0
+refusal_number (Err r) = number_of r
+
+-- what is put down of it; zeros where it was refused
+abbrev pub tx_or_none : Result Transaction Refusal → Transaction
+tx_or_none x = result_unwrap_or x (held_tx no_tx)
+
+abbrev pub list_or_none : Result VoteList Refusal → VoteList
+list_or_none x = result_unwrap_or x (held_list no_list)
+
+abbrev pub views_or_none : Result ViewList Refusal → ViewList
+views_or_none x = result_unwrap_or x (held_views no_views)
+
 -- ---- a writer's answer
 -- 0 where the record was written, else the refusal's number
-abbrev pub written_number : Written → ℕ
-written_number (Wrote n) = 0
-written_number (Refused r) = number_of r
+abbrev pub written_number : Result ℕ Refusal → ℕ
+written_number w = refusal_number w
 
 -- the record's length; 0 where it was refused
-abbrev pub written_length : Written → ℕ
-written_length (Wrote n) = n
-written_length (Refused r) = 0
+abbrev pub written_length : Result ℕ Refusal → ℕ
+written_length w = result_unwrap_or w 0
 
 -- ---- taken apart: all places of an array
 abbrev pub read_keys : List Read → List ℕ
@@ -102,52 +116,88 @@ abbrev pub ballot_views : List Ballot → List ℕ
 ballot_views a = tab (λ j. (ballots_in a j).view.0) 0 26
 
 -- ---- a reading: the refusal's number, or 0
-abbrev pub found_number : Marked → ℕ
-found_number (Is k) = 0
-found_number (Unmarked n) = n
+abbrev pub found_number : Result Message Refusal → ℕ
+found_number x = refusal_number x
 
 -- which message was read; 0 where it was refused
-abbrev pub mark_number : Marked → ℕ
-mark_number (Is PR) = 1
-mark_number (Is LG) = 2
-mark_number (Is DC) = 3
-mark_number (Is RD) = 4
-mark_number (Is IV) = 5
-mark_number (Is LD) = 6
-mark_number (Unmarked n) = 0
+abbrev pub mark_number : Result Message Refusal → ℕ
+mark_number (Ok (pr x)) = 1
+mark_number (Ok (lg x l)) = 2
+mark_number (Ok (dc x l)) = 3
+mark_number (Ok (rd k s)) = 4
+mark_number (Ok (iv x l)) = 5
+mark_number (Ok (ld x l)) = 6
+mark_number (Err r) = 0
 
 -- the mark that a number names; "mark is not the one due" where it names none
-unfoldable pub marked_by : ℕ → Marked
+unfoldable pub marked_by : ℕ → Result Mark Refusal
 marked_by n =
-    pick (eqb n 1) (Is PR)
-    (pick (eqb n 2) (Is LG)
-    (pick (eqb n 3) (Is DC)
-    (pick (eqb n 4) (Is RD)
-    (pick (eqb n 5) (Is IV)
-    (pick (eqb n 6) (Is LD) (Unmarked mark))))))
+    pick (eqb n 1) (Ok PR)
+    (pick (eqb n 2) (Ok LG)
+    (pick (eqb n 3) (Ok DC)
+    (pick (eqb n 4) (Ok RD)
+    (pick (eqb n 5) (Ok IV)
+    (pick (eqb n 6) (Ok LD) (Err mark))))))
+
+-- what was read: the transaction, the list, the list of views and the key; zeros where the message carries none, and where it was refused
+abbrev pub tx_in_reading : Result Message Refusal → Transaction
+tx_in_reading (Ok (pr x)) = x
+tx_in_reading (Ok (lg x l)) = x
+tx_in_reading (Ok (dc x l)) = x
+tx_in_reading (Ok (rd k s)) = held_tx no_tx
+tx_in_reading (Ok (iv x l)) = x
+tx_in_reading (Ok (ld x l)) = x
+tx_in_reading (Err r) = held_tx no_tx
+
+abbrev pub list_in_reading : Result Message Refusal → VoteList
+list_in_reading (Ok (pr x)) = held_list no_list
+list_in_reading (Ok (lg x l)) = l
+list_in_reading (Ok (dc x l)) = l
+list_in_reading (Ok (rd k s)) = held_list no_list
+list_in_reading (Ok (iv x l)) = held_list no_list
+list_in_reading (Ok (ld x l)) = held_list no_list
+list_in_reading (Err r) = held_list no_list
+
+abbrev pub views_in_reading : Result Message Refusal → ViewList
+views_in_reading (Ok (pr x)) = held_views no_views
+views_in_reading (Ok (lg x l)) = held_views no_views
+views_in_reading (Ok (dc x l)) = held_views no_views
+views_in_reading (Ok (rd k s)) = held_views no_views
+views_in_reading (Ok (iv x l)) = l
+views_in_reading (Ok (ld x l)) = l
+views_in_reading (Err r) = held_views no_views
+
+abbrev pub key_in_reading : Result Message Refusal → Key
+key_in_reading (Ok (pr x)) = record { 0 = 0 }
+key_in_reading (Ok (lg x l)) = record { 0 = 0 }
+key_in_reading (Ok (dc x l)) = record { 0 = 0 }
+key_in_reading (Ok (rd k s)) = k
+key_in_reading (Ok (iv x l)) = record { 0 = 0 }
+key_in_reading (Ok (ld x l)) = record { 0 = 0 }
+key_in_reading (Err r) = record { 0 = 0 }
 
 -- an RD's own stamp, else the transaction's
-abbrev pub found_stamp : Marked → Stamp → Stamp → Stamp
-found_stamp (Is PR) own tx = tx
-found_stamp (Is LG) own tx = tx
-found_stamp (Is DC) own tx = tx
-found_stamp (Is RD) own tx = own
-found_stamp (Is IV) own tx = tx
-found_stamp (Is LD) own tx = tx
-found_stamp (Unmarked n) own tx = tx
+abbrev pub found_stamp : Result Message Refusal → Stamp
+found_stamp (Ok (pr x)) = x.stamp
+found_stamp (Ok (lg x l)) = x.stamp
+found_stamp (Ok (dc x l)) = x.stamp
+found_stamp (Ok (rd k s)) = s
+found_stamp (Ok (iv x l)) = x.stamp
+found_stamp (Ok (ld x l)) = x.stamp
+found_stamp (Err r) = (held_tx no_tx).stamp
 
 -- a reading's numbers: mark, stamp, r, w, key, kind, decision, view, count
-abbrev pub head_row : Reading → List ℕ
+abbrev pub head_row : Result Message Refusal → List ℕ
 head_row x =
-    mark_number x.found
-    ∷ (found_stamp x.found x.stamp x.tx.stamp).0
-    ∷ x.tx.r
-    ∷ x.tx.w
-    ∷ x.key.0
-    ∷ x.list.kind
-    ∷ x.list.decision
-    ∷ x.list.view.0
-    ∷ x.list.count
+    mark_number x
+    ∷ (found_stamp x).0
+    ∷ (tx_in_reading x).r
+    ∷ (tx_in_reading x).w
+    ∷ (key_in_reading x).0
+    ∷ (list_in_reading x).kind
+    ∷ (list_in_reading x).decision
+    ∷ (list_in_reading x).view.0
+    ∷ (list_in_reading x).count
     ∷ []
 
 -- a transaction in the arrays lent for it
@@ -181,16 +231,16 @@ abbrev pub fields : List ℕ → List ℕ → List ℕ → List ℕ → List ℕ
 fields head reads versions writes values numbers answers =
     record { head = head; reads = reads; versions = versions; writes = writes; values = values; numbers = numbers; answers = answers }
 
-unfoldable pub fields_of : Reading → Fields
+unfoldable pub fields_of : Result Message Refusal → Fields
 fields_of x =
     fields
     (head_row x)
-    (read_keys x.tx.reads)
-    (read_versions x.tx.reads)
-    (write_keys x.tx.writes)
-    (write_values x.tx.writes)
-    (pair_numbers x.list.pairs)
-    (pair_answers x.list.pairs)
+    (read_keys (tx_in_reading x).reads)
+    (read_versions (tx_in_reading x).reads)
+    (write_keys (tx_in_reading x).writes)
+    (write_values (tx_in_reading x).writes)
+    (pair_numbers (list_in_reading x).pairs)
+    (pair_answers (list_in_reading x).pairs)
 
 -- a list of views in the arrays lent for it: leader, decision, view, count; the boxes, their answers, their views
 pub record ViewFields : Type 0 where

@@ -3,24 +3,23 @@
 
 ghost use Rattle.std.specs.Prelude.{◌≤◌, length, IfOk};
 
-use records::Written;
 use std::io;
 use std::io::{Read, Write};
 
 // One byte more than is taken.
 const MOST: usize = 65_537;
 
-// Input, until there is no more or the buffer is full: how many bytes of it are there.
+// Input, until there is no more or the buffer is full: how many bytes of it are there. A loop of its own, since `read_to_end` needs a heap, and `read_exact`
+// refuses an input that is shorter than the buffer.
 fn read_full(input: &mut impl Read, s: &mut [u8]) -> io::Result<usize>
     ensures { IfOk result (λ n. n ≤ length s.new) }
 {
     let mut n = 0;
     while n < s.len() {
-        let k = input.read(&mut s[n..])?;
-        if k == 0 {
-            break;
+        match input.read(&mut s[n..])? {
+            0 => break,
+            k => n += k,
         }
-        n += k;
     }
     Ok(n)
 }
@@ -35,7 +34,7 @@ fn main(rt: HostRuntime) -> io::Result<()> {
     let mut out = room();
     let n = read_full(&mut rt.stdin(), &mut input)?;
     match replay::replay(&input[..n], &mut out) {
-        Written::Wrote(k) => rt.stdout().write_all(&out[..k]),
-        Written::Refused(_) => Ok(()),
+        Ok(k) => rt.stdout().write_all(&out[..k]),
+        Err(_) => Ok(()),
     }
 }

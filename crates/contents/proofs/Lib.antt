@@ -1,4 +1,2 @@
-pub mod Chains
-pub mod Taken
-pub mod Keys
+pub mod Neither
 pub mod Ballots

@@ -8,7 +8,7 @@ use lib.Dec.{eqb, ltb}
 use lib.ListN.{length, length-map}
 use borrow.Author.Tests.{eq-eqb, lt-leb, lt-ltb, ltb-false, ltb-true}
 use Rattle.terms.specs.Choice.{any, falls, pick}
-use Rattle.terms.specs.Checks.{if_less, if_same, or_else, count as few}
+use Rattle.terms.specs.Checks.{passed, if_less, if_same, or_else, count as few}
 use Rattle.terms.specs.Group.{boxes, log_proof}
 use Rattle.terms.proofs.Checks.{less_no, pass, same_no, when_no}
 use Rattle.records.specs.declared.Ballot.{Ballot}
@@ -63,11 +63,11 @@ more_than_half_lem f ps e n =
     by true h t = ltb-true (length ps) (2 * tally 1 (map ballot_pair ps)) h
     by false h t = let l : 2 * tally 1 (map ballot_pair ps) ≤ length ps = ltb-false (length ps) (2 * tally 1 (map ballot_pair ps)) h in omega arith
 
-majority_code : (ps : List Ballot) → code_wrong (majority ps) ≡ 0
+majority_code : (ps : List Ballot) → code_wrong (majority ps) ≡ passed
 unfolding majority code_wrong or_else if_same if_less
 majority_code ps = by (ltb (length ps) (2 * tally 1 (map ballot_pair ps)))
   where
-    by : (t : Bool) → code_wrong (pick t 1 2) ≡ 0
+    by : (t : Bool) → code_wrong (pick t 1 2) ≡ passed
     by true = refl
     by false = refl
 
@@ -92,7 +92,7 @@ module _ (s : Sheet) where
   unfolding ballot_on
   one_view_lem b = rw (eq-eqb s.view s.view refl)
 
-module _ (s : Sheet) (f : ℕ) (sound : election_wrong f s ≡ 0) (enough : log_proof f ≤ present f s) where
+module _ (s : Sheet) (f : ℕ) (sound : election_wrong f s ≡ passed) (enough : log_proof f ≤ present f s) where
   -- those that are chosen are all those below some box
   chosen_are : (k : ℕ) × (k ≤ boxes f) × (length (chosen f s) ≡ log_proof f) × (chosen f s ≡ below (on s) (ballot_on s) k)
   unfolding chosen

@@ -1,36 +1,28 @@
 -- Laws of the leader's sheet: one for each outcome of its definitions.
-use Prim.Native.Nat.{ℕ, zero, suc, ◌-◌, ◌<◌, ◌≤◌}
-use mathlib.Core.Path.{◌≡◌, refl, sym}
-use mathlib.Core.Bool.{true, false}
+use Rattle.std.proofs.Common.{ℕ, ◌-◌, ◌<◌, ◌≤◌, ◌≡◌, refl, sym, true, false, true≢false, Ok, Err, is_err}
 use borrow.Author.Tests.{eq-eqb, ne_eqb}
-use Rattle.terms.specs.Checks.{or_else}
-use Rattle.terms.specs.Refusals.{refusal_of}
+use Rattle.terms.specs.Checks.{Check, passed}
 use Rattle.terms.specs.Group.{log_proof}
 use Rattle.terms.proofs.Checks.{first_none, pass, rest_none}
 use Rattle.sheet.specs.declared.Sheet.{Sheet}
 use Rattle.sheet.specs.Sheets.{answer_wrong, joined, on, sheet_wrong}
 use Rattle.sheet.proofs.Sheets.{small_box}
-use Rattle.election.specs.declared.Heard.TheVariants.{Lacking, OtherView, Repeat, Refused}
+use Rattle.election.specs.declared.Heard.TheVariants.{Lacking, OtherView, Repeat}
 use Rattle.election.specs.Elections.{election_wrong, heard_by, heard_wrong, present, said, said_by, sheet_heard}
 
-pub sheet_right : (f : ℕ) (s : Sheet) → election_wrong f s ≡ 0 → sheet_wrong f s ≡ 0
+pub sheet_right : (f : ℕ) (s : Sheet) → election_wrong f s ≡ passed → sheet_wrong f s ≡ passed
 unfolding election_wrong
 sheet_right f s z = first_none _ _ z
 
 module _ (s : Sheet) (f number answer : ℕ) where
-  -- where the sheet is right, an answer is judged as on any sheet
-  pub answer_judged : (x : ℕ) → election_wrong f s ≡ 0 → x ≡ answer_wrong s f number answer → x ≡ heard_wrong s f number answer
-  unfolding heard_wrong answer_wrong or_else
-  answer_judged x z e = let y = sheet_right f s z in pass z (rw y at e)
-
-  module _ (z : heard_wrong s f number answer ≡ 0) where
-    answer_right : answer_wrong s f number answer ≡ 0
+  module _ (z : heard_wrong s f number answer ≡ passed) where
+    answer_right : answer_wrong s f number answer ≡ passed
     unfolding heard_wrong answer_wrong
     answer_right = sym (pass (sheet_right f s (first_none _ _ z)) (sym (rest_none _ _ z)))
 
     -- a box and a group that are small
     pub box_small : (number < 26) × (f ≤ 5)
-    box_small = small_box s f number answer _ refl answer_right
+    box_small = small_box s f number answer answer_right
 
     -- "an answer of another view is told and changes nothing"
     module _ (view : ℕ) where
@@ -60,19 +52,10 @@ module _ (s : Sheet) (f number answer : ℕ) where
         unfolding said said_by
         said_lacking k h e = rw (z, eq-eqb view s.view same, h, e)
 
-  module _ (view : ℕ) (wrong : heard_wrong s f number answer ≡ 0 → ⊥) where
-    pub heard_refused : s ≡ sheet_heard s f number answer view
-    unfolding sheet_heard heard_by
-    heard_refused = by (heard_wrong s f number answer) wrong
-      where
-        by : (y : ℕ) → (y ≡ 0 → ⊥) → s ≡ heard_by y s number answer view
-        by zero n = absurd (n refl)
-        by (suc y) n = refl
-
-    pub said_refused : Refused (refusal_of (heard_wrong s f number answer)) ≡ said s f number answer view
-    unfolding said said_by
-    said_refused = by (heard_wrong s f number answer) wrong
-      where
-        by : (y : ℕ) → (y ≡ 0 → ⊥) → Refused (refusal_of y) ≡ said_by y s f number answer view
-        by zero n = absurd (n refl)
-        by (suc y) n = refl
+  pub heard_refused : (view : ℕ) → is_err (heard_wrong s f number answer) ≡ true → s ≡ sheet_heard s f number answer view
+  unfolding sheet_heard heard_by
+  heard_refused view = by (heard_wrong s f number answer)
+    where
+      by : (w : Check) → is_err w ≡ true → s ≡ heard_by w s number answer view
+      by (Ok _) e = absurd (true≢false (sym e))
+      by (Err r) e = refl

@@ -7,41 +7,24 @@ use mathlib.Core.Bool.{true, false}
 use lib.ListN.{get_or, set}
 use borrow.Author.Tests.{leb-false}
 use Rattle.terms.specs.Choice.{any, falls, pick}
-use Rattle.terms.specs.Group.{boxes, group_wrong}
+use Rattle.terms.specs.Checks.{passed}
+use Rattle.terms.specs.Group.{boxes}
 use Rattle.terms.proofs.Checks.{first_none, not_less, pass, rest_none, when_no, when_none}
 use Rattle.terms.proofs.Groups.{group_small}
 use Rattle.records.specs.declared.Ballot.{Ballot}
-use Rattle.records.specs.declared.ViewList.{ViewList}
-use Rattle.records.specs.Views.{ballot_pair, held_views, no_views, zero_ballot}
+use Rattle.records.specs.Views.{ballot_pair, held_views, zero_ballot}
 use Rattle.records.specs.Contents.{box_wide, pair_box, views_wrong}
 use Rattle.sheet.specs.Masks.{has, with_box}
 use Rattle.sheet.proofs.Below.{Noted, below, below_map, below_no, below_rises, below_wide, below_yes}
-use Rattle.election.specs.Telling.{ListedIsRight, heights_wrong, taller, taller_by, tell_wrong, telling, telling_by, told_below, views_for}
+use Rattle.election.specs.Telling.{ListedIsRight, heights_wrong, taller, taller_by, tell_wrong, told_below, views_for}
 
 -- ---- a box tells a view
-module _ (told b held view : ℕ) where
-  pub height_kept : has told b ≡ true → view < held → held ≡ pick (has told b) (max held view) view
-  height_kept h l = rw h (omega arith)
-
-  pub height_higher : has told b ≡ true → (view < held → ⊥) → view ≡ pick (has told b) (max held view) view
-  height_higher h l = rw h (omega arith)
-
-  pub height_first : has told b ≡ false → view ≡ pick (has told b) (max held view) view
-  height_first h = rw h
-
-module _ (told b m : ℕ) where
-  pub told_already : has told b ≡ true → told ≡ pick (has told b) told (with_box told b)
-  told_already h = rw h
-
-  pub told_now : has told b ≡ false → m ≡ with_box told b → m ≡ pick (has told b) told (with_box told b)
-  told_now h e = rw h e
-
-pub heights_group : (f told : ℕ) → heights_wrong f told ≡ 0 → (1 ≤ f) × (f ≤ 5)
+pub heights_group : (f told : ℕ) → heights_wrong f told ≡ passed → (1 ≤ f) × (f ≤ 5)
 unfolding heights_wrong
-heights_group f told z = group_small f (group_wrong f) refl (first_none _ _ z)
+heights_group f told z = group_small f (first_none _ _ z)
 
 module _ (told f number view : ℕ) where
-  pub tell_small : tell_wrong told f number view ≡ 0 → (number < 26) × (view ≤ 65535)
+  pub tell_small : tell_wrong told f number view ≡ passed → (number < 26) × (view ≤ 65535)
   unfolding tell_wrong
   tell_small z =
       let r = rest_none _ _ z in
@@ -50,16 +33,7 @@ module _ (told f number view : ℕ) where
       (omega (arith, g.1), not_less _ _ _ (rest_none _ _ r))
 
   module _ (views : List ℕ) where
-    -- a refusal changes nothing
-    pub tell_refused : (tell_wrong told f number view ≡ 0 → ⊥) → (told ≡ (taller told views f number view).told) × (views ≡ (taller told views f number view).views)
-    unfolding taller taller_by
-    tell_refused = by (tell_wrong told f number view)
-      where
-        by : (y : ℕ) → (y ≡ 0 → ⊥) → (told ≡ (taller_by y told views number view).told) × (views ≡ (taller_by y told views number view).views)
-        by zero n = absurd (n refl)
-        by (suc y) n = (refl, refl)
-
-    pub tell_taken : (m v : ℕ) → tell_wrong told f number view ≡ 0 → m ≡ pick (has told number) told (with_box told number) → v ≡ pick (has told number) (max (get_or views number 0) view) view
+    pub tell_taken : (m v : ℕ) → tell_wrong told f number view ≡ passed → m ≡ pick (has told number) told (with_box told number) → v ≡ pick (has told number) (max (get_or views number 0) view) view
         → (m ≡ (taller told views f number view).told) × (set views number v ≡ (taller told views f number view).views)
     unfolding taller taller_by
     tell_taken m v z e d = rw z (e, rw d)
@@ -89,19 +63,6 @@ module _ (told : ℕ) (views : List ℕ) where
       → record { leader = 0; decision = 0; view = record { 0 = 0 }; count = j; ballots = a } ≡ held_views (views_for told views f)
   unfolding held_views views_for
   told_held f j a g = rw (g.counts, ← g.is)
-
-  module _ (f : ℕ) where
-    pub telling_refused : (heights_wrong f told ≡ 0 → ⊥) → record { wrong = heights_wrong f told; list = held_views no_views } ≡ telling told views f
-    unfolding telling telling_by
-    telling_refused = by (heights_wrong f told)
-      where
-        by : (y : ℕ) → (y ≡ 0 → ⊥) → record { wrong = y; list = held_views no_views } ≡ telling_by y told views f
-        by zero n = absurd (n refl)
-        by (suc y) n = refl
-
-    pub telling_is : (w : ℕ) (l : ViewList) → heights_wrong f told ≡ 0 → w ≡ 0 → l ≡ held_views (views_for told views f) → record { wrong = w; list = l } ≡ telling told views f
-    unfolding telling telling_by
-    telling_is w l z e d = rw (z, e, d)
 
   paired : (n : ℕ) → map ballot_pair (told_below told views n) ≡ below (has told) (λ b. ballot_pair (told_by views b)) n
   paired n = ap (map ballot_pair) (told_are n) ∙ below_map (has told) (told_by views) ballot_pair n

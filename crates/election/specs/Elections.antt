@@ -1,15 +1,17 @@
 -- A5, the leader's sheet: the election answers for one transaction in one view, taken one at a time, and the EL that is made of them.
-use Rattle.std.specs.Prelude.{ℕ, zero, suc, ◌+◌, ◌-◌, ◌*◌, ◌≤◌, true, ◌≡◌, List, [], ◌∷◌, ◌++◌, map, eqb, leb, ltb, length, take}
+use Rattle.std.specs.Prelude.{ℕ, zero, suc, ◌+◌, ◌-◌, ◌*◌, ◌≤◌, true, ◌≡◌, List, [], ◌∷◌, ◌++◌, map, eqb, leb, ltb, length, take, Result, Ok, Err}
 use Rattle.std.proofs.Math.Option.{Option}
-use Rattle.terms.specs.Choice.{pick, tab}
-use Rattle.terms.specs.Checks.{or_else, if_same, table}
-use Rattle.terms.specs.Refusals.{number_of, refusal_of}
+use Rattle.terms.specs.Choice.{pick}
+use Rattle.terms.specs.Checks.{Check, passed, or_else, if_same, table}
+use Rattle.terms.specs.Refusals.{number_of}
 use Rattle.terms.specs.Group.{boxes, log_proof}
 use Rattle.terms.specs.declared.Decision.TheVariants.{Commit as commit, Abort as abort}
+use Rattle.terms.specs.declared.Refusal.{Refusal}
 use Rattle.terms.specs.declared.Refusal.TheVariants.{Election as election, Passed}
 use Rattle.records.specs.declared.Ballot.{Ballot}
+use Rattle.records.specs.declared.ViewList.{ViewList}
 use Rattle.records.specs.declared.ViewMark.TheVariants.{EL}
-use Rattle.records.specs.Views.{Views, ballot_pair, ballots_in, held_views, no_views}
+use Rattle.records.specs.Views.{Views, ballot_pair, held_views}
 use Rattle.records.specs.Contents.{count_wrong, views_wrong}
 use Rattle.rules.specs.Bodies.{Body, stamp_of}
 use Rattle.rules.specs.Lists.{tally}
@@ -22,7 +24,6 @@ use Rattle.sheet.specs.Masks.{has}
 use Rattle.sheet.specs.Sheets.{counted, given_wrong, joined, on, sheet_wrong}
 use Rattle.election.specs.declared.Heard.{Heard}
 use Rattle.election.specs.declared.Heard.TheVariants.{Lacking, OtherView, Repeat, Refused}
-use Rattle.election.specs.declared.Gathered.{Gathered}
 
 -- the reply as numbers
 abbrev pub heard_values : Heard → List ℕ
@@ -32,11 +33,11 @@ heard_values Repeat = 3 ∷ 0 ∷ []
 heard_values (Refused r) = 4 ∷ number_of r ∷ []
 
 -- it is a sheet of logs of that view: "14, 16"; one of votes is 16 too
-unfoldable pub election_wrong : ℕ → Sheet → ℕ
+unfoldable pub election_wrong : ℕ → Sheet → Check
 election_wrong f s = or_else (sheet_wrong f s) (if_same s.kind 1 table)
 
 -- "then 5, 8"
-unfoldable pub heard_wrong : Sheet → ℕ → ℕ → ℕ → ℕ
+unfoldable pub heard_wrong : Sheet → ℕ → ℕ → ℕ → Check
 heard_wrong s f number answer = or_else (election_wrong f s) (given_wrong f number answer)
 
 -- how many answers are on it
@@ -44,18 +45,18 @@ unfoldable pub present : ℕ → Sheet → ℕ
 present f s = counted f commit s + counted f abort s
 
 -- "an answer of another view is told and changes nothing; Repeat"
-unfoldable pub heard_by : ℕ → Sheet → ℕ → ℕ → ℕ → Sheet
-heard_by zero s number answer view = pick (eqb view s.view) (pick (on s number) s (joined s number answer)) s
-heard_by (suc wrong) s number answer view = s
+unfoldable pub heard_by : Check → Sheet → ℕ → ℕ → ℕ → Sheet
+heard_by (Ok _) s number answer view = pick (eqb view s.view) (pick (on s number) s (joined s number answer)) s
+heard_by (Err r) s number answer view = s
 
 unfoldable pub sheet_heard : Sheet → ℕ → ℕ → ℕ → ℕ → Sheet
 sheet_heard s f number answer view = heard_by (heard_wrong s f number answer) s number answer view
 
 -- "it tells how many are lacking of 4f + 1"
-unfoldable pub said_by : ℕ → Sheet → ℕ → ℕ → ℕ → ℕ → Heard
-said_by zero s f number answer view =
+unfoldable pub said_by : Check → Sheet → ℕ → ℕ → ℕ → ℕ → Heard
+said_by (Ok _) s f number answer view =
     pick (eqb view s.view) (pick (on s number) Repeat (Lacking (log_proof f - present f (joined s number answer)))) OtherView
-said_by (suc wrong) s f number answer view = Refused (refusal_of (suc wrong))
+said_by (Err r) s f number answer view = Refused r
 
 unfoldable pub said : Sheet → ℕ → ℕ → ℕ → ℕ → Heard
 said s f number answer view = said_by (heard_wrong s f number answer) s f number answer view
@@ -86,36 +87,25 @@ election_for s f stamp =
 unfoldable pub unled : ℕ → Sheet → Views
 unled f s = record { leader = 0; decision = 0; view = s.view; ballots = chosen f s }
 
--- how many of the first n in an array say commit
-unfoldable pub commits_among : List Ballot → ℕ → ℕ
-commits_among a n = tally 1 (map ballot_pair (tab (ballots_in a) 0 n))
-
 -- 14, 16, then 23 where there are too few
-abbrev pub ungathered : ℕ → Gathered
-ungathered n = record { wrong = n; list = held_views no_views }
-
-unfoldable pub gathered_by : ℕ → Sheet → ℕ → ℕ → Gathered
-gathered_by zero s f stamp =
-    pick (leb (log_proof f) (present f s)) (record { wrong = 0; list = held_views (election_for s f stamp) }) (ungathered (number_of election))
-gathered_by (suc wrong) s f stamp = ungathered (suc wrong)
-
-unfoldable pub gathered : Sheet → ℕ → ℕ → Gathered
-gathered s f stamp = gathered_by (election_wrong f s) s f stamp
+unfoldable pub gathered : Sheet → ℕ → ℕ → Result ViewList Refusal
+gathered s f stamp =
+    or_else (election_wrong f s) (pick (leb (log_proof f) (present f s)) (Ok (held_views (election_for s f stamp))) (Err election))
 
 -- an EL that is given has its count and its contents in order, and is one that a box does not refuse with 23
 pub record Right (f : ℕ) (b : Body) (l : Views) : Type 0 where
-  pub count : count_wrong (length l.ballots) ≡ 0
-  pub contents : views_wrong EL f l ≡ 0
+  pub count : count_wrong (length l.ballots) ≡ passed
+  pub contents : views_wrong EL f l ≡ passed
   pub leading : leads f b l ≡ true
 
 abbrev pub GivenIsRight : Type 0
 GivenIsRight =
-    (s : Sheet) (f : ℕ) (b : Body) → election_wrong f s ≡ 0 → log_proof f ≤ present f s → Right f b (election_for s f (stamp_of b))
+    (s : Sheet) (f : ℕ) (b : Body) → election_wrong f s ≡ passed → log_proof f ≤ present f s → Right f b (election_for s f (stamp_of b))
 
 -- the same from the box's side: with that EL in an LD a box does not refuse with 23; it goes on to a, or refuses with 21 by its own views
 abbrev pub NotRefusedWith23 : Type 0
 NotRefusedWith23 =
     (told : Told) (s : Sheet) (b : Body) (o : Option Entry) (a : Act)
-    → election_wrong told.f s ≡ 0
+    → election_wrong told.f s ≡ passed
     → log_proof told.f ≤ present told.f s
     → take_act told b (election_for s told.f (stamp_of b)) o a ≡ pick (may_take s.view o) a (refuse Passed)

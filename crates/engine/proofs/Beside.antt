@@ -1,11 +1,14 @@
 -- A trace of calls beside one of the rules: what is refused with 14 or 16 is left out, and all else is what the rules' trace has.
-use Prim.Native.Nat.{ℕ, suc}
+use Prim.Native.Nat.{ℕ}
 use mathlib.Core.Bool.{Bool, true, false, ◌&&◌}
 use mathlib.Core.Option.{none}
 use mathlib.Core.Path.{◌≡◌, refl, ap, sym, ◌∙◌}
 use mathlib.Core.List.{List, [], ◌∷◌}
 use lib.Dec.{T, eqb, eqb→eq}
 use borrow.Author.Tests.{eqb-true}
+use Rattle.terms.specs.declared.Refusal.{Refusal}
+use Rattle.std.specs.Prelude.{Err}
+use Rattle.terms.specs.Checks.{passed}
 use Rattle.records.specs.Cutting.{tx_part}
 use Rattle.terms.specs.Choice.{pick}
 use Rattle.rules.specs.Bodies.{Body, same_body}
@@ -28,11 +31,11 @@ use Rattle.engine.proofs.Starts.{empty_box, starts_empty, starts_taken}
 pub data Runs (capacity : ℕ) (start : ℕ → Kept) : List Event → List Event → Type 0 where
   done : Runs capacity start [] []
   takes : {es rs : List Event} (e : Event) → e.capacity ≡ capacity → Runs capacity start es rs → Runs capacity start (e ∷ es) (e ∷ rs)
-  drops : {es rs : List Event} (e : Event) (n : ℕ) → lent_wrong (told_at 1 e) (kept_at 1 start e.box es).table ≡ suc n
+  drops : {es rs : List Event} (e : Event) (r : Refusal) → lent_wrong (told_at 1 e) (kept_at 1 start e.box es).table ≡ Err r
       → ((g : Given) → HonestBy 1 liar g e.entry e.message) → Runs capacity start es rs → Runs capacity start (e ∷ es) rs
 
 pub record Held (capacity : ℕ) (x : Kept) (y : Box) : Type 0 where
-  pub taken : table_wrong capacity x.table ≡ 0
+  pub taken : table_wrong capacity x.table ≡ passed
   pub same : box_in x ≡ y
 
 -- a table of zeros holds the empty box
@@ -69,7 +72,7 @@ module _ {capacity : ℕ} {start : ℕ → Kept} (begun : (i : ℕ) → Held cap
       (called_act e.entry (told_at 1 e) (kept_at 1 start e.box es) e.message (rw c h.taken)
       ∙ ap (λ (y : Box). act e.entry (told_at 1 e) y e.message) h.same)
 
-  silent : (e : Event) (es : List Event) (n : ℕ) → lent_wrong (told_at 1 e) (kept_at 1 start e.box es).table ≡ suc n → word_in (answered 1 start e es) ≡ none
+  silent : (e : Event) (es : List Event) (r : Refusal) → lent_wrong (told_at 1 e) (kept_at 1 start e.box es).table ≡ Err r → word_in (answered 1 start e es) ≡ none
   unfolding answered
   silent e es n q = no_word e.entry (told_at 1 e) (kept_at 1 start e.box es) e.message n q
 

@@ -4,9 +4,11 @@ use native.Mathlib.Omega.{arith}
 use mathlib.Core.Path.{◌≡◌, refl, ap, sym, ◌∙◌}
 use mathlib.Core.List.{List}
 use lib.ListN.{length, drop}
+use Rattle.terms.specs.Checks.{passed}
 use Rattle.records.specs.Tx.{tx_len, TxThere}
-use Rattle.records.specs.declared.Marked.{Marked}
-use Rattle.records.specs.declared.Marked.TheVariants.{Is, Refused as Unmarked}
+use Rattle.std.specs.Prelude.{Result, Ok, Err}
+use Rattle.terms.specs.declared.Refusal.{Refusal}
+use Rattle.records.specs.declared.Mark.{Mark}
 use Rattle.records.specs.Cutting.{tx_part}
 use Rattle.rules.specs.declared.Told.{Told}
 use Rattle.rules.specs.Bodies.{stamp_of}
@@ -28,17 +30,17 @@ use Rattle.engine.proofs.Raised.{body_there, body_long}
 use Rattle.engine.proofs.Steps.{Bodied, guarded_bodied, rule_bodied}
 
 -- 16 passes, and the rest is the rules'
-pub called_act : (way : EntryPoint) (told : Told) (x : Kept) (m : List ℕ) → table_wrong told.capacity x.table ≡ 0
+pub called_act : (way : EntryPoint) (told : Told) (x : Kept) (m : List ℕ) → table_wrong told.capacity x.table ≡ passed
     → called way told x m ≡ act way told (box_in x) m
 unfolding called act lent_wrong
 called_act way told x m fine =
     guarded_or _ _ _ ∙ (ap (guarded (told_wrong told)) (sym (through _ _ fine)))
 
 -- what the rules put they put for a message with a body
-marked_bodied : (k : Marked) (told : Told) (x : Box) (m : List ℕ) → Bodied m (marked_act k told x m).change
+marked_bodied : (k : Result Mark Refusal) (told : Told) (x : Box) (m : List ℕ) → Bodied m (marked_act k told x m).change
 unfolding marked_act due_act Bodied
-marked_bodied (Is k) told x m = guarded_bodied m _ _ (rule_bodied k told x m)
-marked_bodied (Unmarked n) told x m = tt
+marked_bodied (Ok k) told x m = guarded_bodied m _ _ (rule_bodied k told x m)
+marked_bodied (Err r) told x m = tt
 
 way_bodied : (way : EntryPoint) (told : Told) (x : Box) (m : List ℕ) → Bodied m (act_by way told x m).change
 unfolding act_by low_rule Bodied
@@ -56,9 +58,9 @@ Bridged capacity t c =
     (entries_of (table_by t c) ≡ table_after (entries_of t) c)
     × (low_of (table_by t c) ≡ low_after (low_of t) c)
     × (folds_of (table_by t c) ≡ folds_after (entries_of t) (folds_of t) c)
-    × (table_wrong capacity (table_by t c) ≡ 0)
+    × (table_wrong capacity (table_by t c) ≡ passed)
 
-bridged : (told : Told) (x : Kept) (m : List ℕ) → table_wrong told.capacity x.table ≡ 0 → (c : Change) → FitsIn told (box_in x) (tx_part m) c
+bridged : (told : Told) (x : Kept) (m : List ℕ) → table_wrong told.capacity x.table ≡ passed → (c : Change) → FitsIn told (box_in x) (tx_part m) c
     → Bodied m c → Bridged told.capacity x.table c
 unfolding table_by table_after low_after folds_after FitsBy Bodied box_in entries_of
 bridged told x m fine nothing h d = (refl, refl, refl, fine)
@@ -95,8 +97,8 @@ bridged told x m fine (puts e) h d = (
     free = rw h.0 (below (drop head_len t) (count_of t) (stamp_of (tx_part m)) told.capacity (table_count told.capacity t fine) h.1)
 
 -- so what is kept afterwards holds what the rules hold afterwards
-pub bridge : (way : EntryPoint) (told : Told) (x : Kept) (m : List ℕ) → table_wrong told.capacity x.table ≡ 0
-    → (box_in (leaves way told x m) ≡ after way told (box_in x) m) × (table_wrong told.capacity (leaves way told x m).table ≡ 0)
+pub bridge : (way : EntryPoint) (told : Told) (x : Kept) (m : List ℕ) → table_wrong told.capacity x.table ≡ passed
+    → (box_in (leaves way told x m) ≡ after way told (box_in x) m) × (table_wrong told.capacity (leaves way told x m).table ≡ passed)
 unfolding leaves after box_after box_in Fit
 bridge way told x m fine =
     let a = called_act way told x m fine in

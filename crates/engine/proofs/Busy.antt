@@ -1,4 +1,5 @@
 -- The busy trace as calls on tables of zeros: what is refused with 16 is left out, and all else is what the rules' trace has.
+use Rattle.std.specs.Prelude.{Err}
 use Prim.Native.Nat.{ℕ, zero, suc, ◌≤◌}
 use native.Mathlib.Omega.{arith}
 use mathlib.Core.Path.{◌≡◌, refl, ap}
@@ -6,8 +7,7 @@ use mathlib.Core.List.{List}
 use Rattle.records.specs.declared.Mark.TheVariants.{PR, LG, DC, RD, IV, LD}
 use Rattle.rules.specs.declared.Answer.TheVariants.{Refused}
 use Rattle.terms.specs.declared.Refusal.TheVariants.{Table}
-use Rattle.terms.specs.Checks.{or_else, if_less}
-use Rattle.terms.specs.Refusals.{refusal_of}
+use Rattle.terms.specs.Checks.{table, or_else, if_less}
 use Rattle.rules.proofs.Running.{running}
 use Rattle.terms.specs.Group.{boxes, capacity_wrong, group_wrong}
 use Rattle.terms.specs.declared.Decision.TheVariants.{Commit as commit, Abort as abort}
@@ -54,7 +54,7 @@ untouched : kept_at 1 eight 4 busy_first ≡ zeros 8
 unfolding kept_at busy_first each at eight
 untouched = refl
 
-short_told : lent_wrong (told_at 1 too_large) (kept_at 1 eight 4 busy_first).table ≡ 16
+short_told : lent_wrong (told_at 1 too_large) (kept_at 1 eight 4 busy_first).table ≡ Err table
 unfolding lent_wrong told_wrong too_large or_else if_less group_wrong capacity_wrong
 short_told = rw (untouched, too_short 8 9 (omega arith))
 
@@ -69,16 +69,16 @@ no_list_lem g LD q z = let z : ◌≡◌ {A = ℕ} 0 1 = cc in absurd (omega ari
 
 runs : Runs 8 eight busy_calls busy
 unfolding busy_calls busy too_large
-runs = then_runs (drops too_large 15 short_told no_list_lem first_runs)
+runs = then_runs (drops too_large table short_told no_list_lem first_runs)
 
 pub few : how_many liar (boxes 1) ≤ 1
 unfolding how_many liar bit
 few = omega arith
 
 was_refused : answered 1 eight too_large busy_first ≡ Refused Table
-unfolding answered refusal_of too_large
+unfolding answered too_large
 was_refused =
-    ap (λ (a : Act). a.answer) (is_refused too_large.entry (told_at 1 too_large) (kept_at 1 eight 4 busy_first) too_large.message 15 short_told)
+    ap (λ (a : Act). a.answer) (is_refused too_large.entry (told_at 1 too_large) (kept_at 1 eight 4 busy_first) too_large.message table short_told)
 
 pub busy_calls_lem : BusyCalls
 busy_calls_lem = record {

@@ -1,11 +1,12 @@
 -- Two decisions in either order on a table of zeros: each call is the rules' call, and those are computed.
+use Rattle.std.specs.Prelude.{Err}
 use Prim.Native.Nat.{ℕ, ◌≤◌}
 use native.Mathlib.Omega.{arith}
 use mathlib.Core.Bool.{false}
 use mathlib.Core.Path.{◌≡◌, refl, ap, sym, ◌∙◌}
 use mathlib.Core.List.{List, [], ◌∷◌}
 use lib.ListN.{length, length-replicate}
-use Rattle.terms.specs.Checks.{or_else, if_less, table}
+use Rattle.terms.specs.Checks.{passed, or_else, if_less, table}
 use Rattle.terms.specs.Group.{capacity_wrong, group_wrong}
 use Rattle.terms.proofs.Checks.{halt, less_no, less_yes, pass}
 use Rattle.rules.specs.Bodies.{stamp_of}
@@ -43,8 +44,8 @@ begun = record {
 
 -- a call that is told no more than eight, and no less than the box holds, is the rules' call
 module _ {x : Kept} {y : Box} (h : Holds x y) (c : Call)
-    (told : told_wrong c.told ≡ 0) (small : c.told.capacity ≤ 8) (room : length y.table ≤ c.told.capacity) where
-  lent : lent_wrong c.told x.table ≡ 0
+    (told : told_wrong c.told ≡ passed) (small : c.told.capacity ≤ 8) (room : length y.table ≤ c.told.capacity) where
+  lent : lent_wrong c.told x.table ≡ passed
   unfolding lent_wrong
   lent =
       let n : count_of x.table ≡ length y.table = sym (count_is x) ∙ ap (λ (b : Box). length b.table) h.box in
@@ -122,13 +123,13 @@ differ e =
     omega (arith, a, b, c)
 
 -- two entries are more than a capacity of one
-crowded : lent_wrong (committing 1).told this_way.table ≡ table
+crowded : lent_wrong (committing 1).told this_way.table ≡ Err table
 unfolding running next committing aborting lent_wrong table_wrong
 crowded =
     let n : count_of this_way.table ≡ 2 = sym (count_is this_way) ∙ ap (λ (b : Box). length b.table) this.box in
     let l = this.long in
     sym (pass (less_no (length this_way.table) (table_len 1) table (omega arith))
-    (halt _ _ table (less_yes 1 (count_of this_way.table) table (omega arith)) (omega arith)))
+    (halt _ (less_yes 1 (count_of this_way.table) table (omega arith))))
 
 answers_this : replies of_calls this_way later_calls ≡ later_answered
 unfolding running reply next replies apart_from_number calls committing aborting later_messages later_calls later_answered
@@ -155,5 +156,5 @@ crossed_calls =
       other_second = one_call_refused (zeros 8) (committing 1) (aborting 1) refl refl (λ q. omega arith) one_new_lem other_new_lem (omega (arith, n));
       one_second = one_call_refused (zeros 8) (aborting 1) (committing 1) refl refl (λ q. omega arith) other_new_lem one_new_lem (omega (arith, n));
       held_first = replied one (committing 1) refl (omega arith) (omega arith);
-      held_second = ap (λ (a : Act). a.answer) (is_refused (committing 1).entry (committing 1).told this_way (committing 1).message 15 crowded);
+      held_second = ap (λ (a : Act). a.answer) (is_refused (committing 1).entry (committing 1).told this_way (committing 1).message table crowded);
     }

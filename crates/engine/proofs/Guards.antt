@@ -1,20 +1,19 @@
 -- Checks in front of an act.
-use Prim.Native.Nat.{ℕ, zero, suc}
 use mathlib.Core.Path.{◌≡◌, refl}
-use Rattle.terms.specs.Checks.{or_else}
-use Rattle.terms.specs.Refusals.{refusal_of}
+use Rattle.std.specs.Prelude.{Ok, Err}
+use Rattle.terms.specs.Checks.{Check, passed, or_else}
+use Rattle.terms.specs.declared.Refusal.{Refusal}
 use Rattle.rules.specs.Calls.{Act, guarded, refuse}
 
-pub through : (n : ℕ) (x : Act) → n ≡ 0 → x ≡ guarded n x
+pub through : (c : Check) (x : Act) → c ≡ passed → x ≡ guarded c x
 unfolding guarded
-through n x p = rw p
+through c x p = rw p
 
-pub halted : (n N : ℕ) (x : Act) → n ≡ N → (n ≡ 0 → ⊥) → refuse (refusal_of n) ≡ guarded N x
+pub halted : {c : Check} (r : Refusal) (x : Act) → c ≡ Err r → refuse r ≡ guarded c x
 unfolding guarded
-halted n zero x p h = absurd (h p)
-halted n (suc N) x p h = rw p
+halted r x p = rw p
 
-pub guarded_or : (a b : ℕ) (x : Act) → guarded (or_else a b) x ≡ guarded a (guarded b x)
+pub guarded_or : (a b : Check) (x : Act) → guarded (or_else a b) x ≡ guarded a (guarded b x)
 unfolding guarded or_else
-guarded_or zero b x = refl
-guarded_or (suc a) b x = refl
+guarded_or (Ok _) b x = refl
+guarded_or (Err r) b x = refl

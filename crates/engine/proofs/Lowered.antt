@@ -1,9 +1,11 @@
 -- Raising the low mark looks at no read mark and at no message; and what each way through it answers and leaves.
 use Prim.Native.Nat.{ℕ}
 use native.Mathlib.Omega.{arith}
-use mathlib.Core.Path.{◌≡◌, refl, sym, ◌∙◌, subst}
+use mathlib.Core.Path.{◌≡◌, refl, ◌∙◌, subst}
 use mathlib.Core.List.{List, []}
-use Rattle.terms.specs.Refusals.{refusal_of}
+use Rattle.terms.specs.Checks.{passed}
+use Rattle.std.specs.Prelude.{Err}
+use Rattle.terms.specs.declared.Refusal.{Refusal}
 use Rattle.rules.specs.declared.Answer.{Answer}
 use Rattle.rules.specs.declared.Answer.TheVariants.{Raised, Refused}
 use Rattle.rules.specs.declared.Told.{Told}
@@ -20,7 +22,7 @@ pub low_alike : (l : ℕ) (told : Told) (x : Kept) (m : List ℕ) → lowered l 
 unfolding called act_by low_rule low_wrong box_in
 low_alike l told x m = refl
 
-pub low_there : (told : Told) (t : List ℕ) → lent_wrong told t ≡ 0 → TableThere t
+pub low_there : (told : Told) (t : List ℕ) → lent_wrong told t ≡ passed → TableThere t
 low_there told t lent = let h = long told t lent in (omega arith, wf told t lent _ _ refl refl)
 
 module _ (l : ℕ) (told : Told) (t : List ℕ) where
@@ -31,28 +33,27 @@ module _ (l : ℕ) (told : Told) (t : List ℕ) where
   abbrev raises : Act
   raises = record { answer = Raised; change = raises_low l }
 
-  refused : (n : ℕ) {a : Act} → refuse (refusal_of n) ≡ a → LowLeaves a (Refused (refusal_of n)) t
+  refused : (r : Refusal) {a : Act} → refuse r ≡ a → LowLeaves a (Refused r) t
   unfolding table_by
-  refused n p = subst (λ (y : Act). LowLeaves y (Refused (refusal_of n)) t) p (refl, refl)
+  refused r p = subst (λ (y : Act). LowLeaves y (Refused r) t) p (refl, refl)
 
   -- 14, 16
-  pub low_lent : (n : ℕ) → n ≡ lent_wrong told t → (n ≡ 0 → ⊥) → LowLeaves (lowered l told t) (Refused (refusal_of n)) t
+  pub low_lent : (r : Refusal) → lent_wrong told t ≡ Err r → LowLeaves (lowered l told t) (Refused r) t
   unfolding called
-  low_lent n e h = refused n (halted n _ _ e h)
+  low_lent r e = refused r (halted r _ e)
 
-  module _ (lent : lent_wrong told t ≡ 0) where
+  module _ (lent : lent_wrong told t ≡ passed) where
     taken : low_rule (box_in (kept t [])) l ≡ lowered l told t
     unfolding called act_by
     taken = through _ _ lent
 
     -- 18, 19
-    pub low_stops : (n : ℕ) → ((marks : List ℕ) → n ≡ low_wrong (box_from t (entries_of t) marks) l) → (n ≡ 0 → ⊥)
-        → LowLeaves (lowered l told t) (Refused (refusal_of n)) t
+    pub low_stops : (r : Refusal) → ((marks : List ℕ) → low_wrong (box_from t (entries_of t) marks) l ≡ Err r) → LowLeaves (lowered l told t) (Refused r) t
     unfolding low_rule box_in
-    low_stops n e h = refused n (halted n _ raises (e []) h ∙ taken)
+    low_stops r e = refused r (halted r raises (e []) ∙ taken)
 
-    pub low_raised : (n : ℕ) → ((marks : List ℕ) → n ≡ low_wrong (box_from t (entries_of t) marks) l) → n ≡ 0 → (s : List ℕ) → s ≡ raised l t
+    pub low_raised : ((marks : List ℕ) → low_wrong (box_from t (entries_of t) marks) l ≡ passed) → (s : List ℕ) → s ≡ raised l t
         → LowLeaves (lowered l told t) Raised s
     unfolding low_rule box_in table_by
-    low_raised n e z s q =
-        subst (λ (y : Act). LowLeaves y Raised s) (through _ raises (sym (e []) ∙ z) ∙ taken) (refl, q)
+    low_raised e s q =
+        subst (λ (y : Act). LowLeaves y Raised s) (through _ raises (e []) ∙ taken) (refl, q)

@@ -1,5 +1,5 @@
 -- The claims of specs/Order: the check for 16 sees no order, and behind it the calls are the rules'.
-use Prim.Native.Nat.{ℕ, zero, suc, ◌+◌, ◌*◌, ◌≤◌, ◌<◌}
+use Prim.Native.Nat.{ℕ, suc, ◌+◌, ◌*◌, ◌≤◌, ◌<◌}
 use native.Mathlib.Omega.{arith}
 use mathlib.Core.Bool.{Bool, true, false}
 use mathlib.Core.Path.{◌≡◌, refl, ap, sym, ◌∙◌}
@@ -8,9 +8,10 @@ use mathlib.Core.List.{List, [], ◌∷◌}
 use borrow.Author.Tests.{lt-ltb, le-ltb, ltb-false, ltb-true}
 use lib.Dec.{ltb}
 use lib.ListN.{length, drop, length-set, length-append, length-take, length-drop}
+use Rattle.terms.specs.declared.Refusal.{Refusal}
+use Rattle.std.specs.Prelude.{Ok, Err}
 use Rattle.terms.specs.Choice.{pick, tab, any}
-use Rattle.terms.specs.Checks.{or_else, when, if_less, table}
-use Rattle.terms.specs.Refusals.{refusal_of}
+use Rattle.terms.specs.Checks.{passed, Check, or_else, when, if_less, table}
 use Rattle.terms.specs.declared.Refusal.TheVariants.{Full}
 use Rattle.terms.proofs.Checks.{less_no, pass, rest_none, when_none, when_no}
 use Rattle.records.specs.Cutting.{tx_part}
@@ -46,7 +47,7 @@ stored_long : (t : List ℕ) (i : ℕ) (b : List ℕ) (x : State) → head_len +
 unfolding stored new_row
 stored_long t i b x room small = simp (length-set, length-append, length-take, length-drop) (omega arith)
 
-long_by : (told : Told) (x : Kept) (m : List ℕ) → table_wrong told.capacity x.table ≡ 0 → (c : Change) → FitsIn told (box_in x) (tx_part m) c
+long_by : (told : Told) (x : Kept) (m : List ℕ) → table_wrong told.capacity x.table ≡ passed → (c : Change) → FitsIn told (box_in x) (tx_part m) c
     → Bodied m c → length (table_by x.table c) ≡ length x.table
 unfolding table_by FitsBy Bodied box_in entries_of
 long_by told x m fine nothing h d = refl
@@ -59,7 +60,7 @@ long_by told x m fine (puts e) h d =
     let r = table_room told.capacity x.table fine in
     stored_long x.table _ e.body (state_in e) (omega arith) (rw h.0 (body_small m d.1))
 
-left_long : (x : Kept) (c : Call) → table_wrong c.told.capacity x.table ≡ 0 → length (next_by x c).table ≡ length x.table
+left_long : (x : Kept) (c : Call) → table_wrong c.told.capacity x.table ≡ passed → length (next_by x c).table ≡ length x.table
 unfolding next_by leaves Fit
 left_long x c fine =
     rw (called_act c.entry c.told x c.message fine)
@@ -70,11 +71,11 @@ left_long x c fine =
 abbrev pub bad_in : List ℕ → Bool
 bad_in t = any row_bad (tab (row_at (drop head_len t)) 0 (count_of t))
 
-pub none_bad : (capacity : ℕ) (t : List ℕ) → table_wrong capacity t ≡ 0 → bad_in t ≡ false
+pub none_bad : (capacity : ℕ) (t : List ℕ) → table_wrong capacity t ≡ passed → bad_in t ≡ false
 unfolding table_wrong
 none_bad capacity t e = when_none _ _ (rest_none _ _ (rest_none _ _ e))
 
-pub taken_by : (capacity : ℕ) (t : List ℕ) → table_len capacity ≤ length t → count_of t ≤ capacity → bad_in t ≡ false → table_wrong capacity t ≡ 0
+pub taken_by : (capacity : ℕ) (t : List ℕ) → table_len capacity ≤ length t → count_of t ≤ capacity → bad_in t ≡ false → table_wrong capacity t ≡ passed
 unfolding table_wrong
 taken_by capacity t l n b = sym (pass (less_no _ _ _ l) (pass (less_no _ _ _ n) (sym (when_no _ _ b))))
 
@@ -90,26 +91,26 @@ within n m capacity h k = go (ltb capacity n) refl
     go true e = lt-ltb capacity m (let z = ltb-true capacity n e in omega arith) ∙ sym e
     go false e = le-ltb capacity m (k (ltb-false capacity n e)) ∙ sym e
 
-or_same : (a b c : ℕ) → (a ≡ 0 → b ≡ c) → or_else a b ≡ or_else a c
+or_same : (a b c : Check) → (a ≡ passed → b ≡ c) → or_else a b ≡ or_else a c
 unfolding or_else
-or_same zero b c h = h refl
-or_same (suc a) b c h = refl
+or_same (Ok _) b c h = h refl
+or_same (Err r) b c h = refl
 
 grown : (capacity : ℕ) (t u : List ℕ) → length u ≡ length t → bad_in t ≡ false → bad_in u ≡ false → count_of t ≤ count_of u
-    → (table_wrong capacity t ≡ 0 → count_of u ≤ capacity) → table_wrong capacity u ≡ table_wrong capacity t
+    → (table_wrong capacity t ≡ passed → count_of u ≤ capacity) → table_wrong capacity u ≡ table_wrong capacity t
 unfolding table_wrong if_less
 grown capacity t u l bt bu h k =
-    (λ i. or_else (pick (ltb (l i) (table_len capacity)) table 0) (or_else (pick (ltb capacity (count_of u)) table 0) (when ((bu ∙ sym bt) i) table)))
+    (λ i. or_else (pick (ltb (l i) (table_len capacity)) (Err table) passed) (or_else (pick (ltb capacity (count_of u)) (Err table) passed) (when ((bu ∙ sym bt) i) table)))
     ∙ or_same _ _ _ (λ z.
-    ap (λ (b : Bool). or_else (pick b table 0) (when (bad_in t) table))
+    ap (λ (b : Bool). or_else (pick b (Err table) passed) (when (bad_in t) table))
     (within (count_of t) (count_of u) capacity h (λ n. k (sym (pass z (pass (less_no _ _ _ n) (sym (when_no _ _ bt))))))))
 
 -- ---- a call behind the check is the rules' call
 abbrev act_by : Kept → Call → Act
 act_by x c = called c.entry c.told x c.message
 
-module _ (x : Kept) (c : Call) (lent : lent_wrong c.told x.table ≡ 0) where
-  fine : table_wrong c.told.capacity x.table ≡ 0
+module _ (x : Kept) (c : Call) (lent : lent_wrong c.told x.table ≡ passed) where
+  fine : table_wrong c.told.capacity x.table ≡ passed
   fine = taken c.told x.table lent
 
   as_rules : act_by x c ≡ act c.entry c.told (box_in x) c.message
@@ -123,7 +124,7 @@ module _ (x : Kept) (c : Call) (lent : lent_wrong c.told x.table ≡ 0) where
   unfolding next_by next
   same_next = (bridge c.entry c.told x c.message fine).0
 
-  pub next_fine : table_wrong c.told.capacity (next_by x c).table ≡ 0
+  pub next_fine : table_wrong c.told.capacity (next_by x c).table ≡ passed
   unfolding next_by
   next_fine = (bridge c.entry c.told x c.message fine).1
 
@@ -143,32 +144,32 @@ unfolding box_in
 count_is x = entries_count x.table
 
 -- one that is refused with 14 or 16 leaves all as it was
-stays : (x : Kept) (c : Call) (n : ℕ) → lent_wrong c.told x.table ≡ suc n → next_by x c ≡ x
+stays : (x : Kept) (c : Call) (r : Refusal) → lent_wrong c.told x.table ≡ Err r → next_by x c ≡ x
 unfolding next_by
 stays x c n q = all_left c.entry c.told x c.message n q
 
 -- and what is taken was not refused
-is_lent : (x : Kept) (c : Call) → reply_by x c ≡ Done → lent_wrong c.told x.table ≡ 0
+is_lent : (x : Kept) (c : Call) → reply_by x c ≡ Done → lent_wrong c.told x.table ≡ passed
 unfolding reply_by
 is_lent x c h = by (lent_wrong c.told x.table) refl
   where
-    by : (n : ℕ) → lent_wrong c.told x.table ≡ n → lent_wrong c.told x.table ≡ 0
-    by zero e = e
-    by (suc n) e =
-        let q : Refused (refusal_of (suc n)) ≡ Done = sym (ap (λ (a : Act). a.answer) (is_refused c.entry c.told x c.message n e)) ∙ h in
+    by : (k : Check) → lent_wrong c.told x.table ≡ k → lent_wrong c.told x.table ≡ passed
+    by (Ok _) e = e
+    by (Err r) e =
+        let q : Refused r ≡ Done = sym (ap (λ (a : Act). a.answer) (is_refused c.entry c.told x c.message r e)) ∙ h in
         let z : ◌≡◌ {A = ℕ} 0 1 = cc in
         absurd (omega arith)
 
 -- ---- one DC call, and another with a different stamp
 module _ (x : Kept) (p q : Call) (dp : IsDC p) (dq : IsDC q) (apart : stamp_in p ≡ stamp_in q → ⊥) where
-  rooms : lent_wrong p.told x.table ≡ 0 → lent_wrong q.told x.table ≡ 0 → RoomBy x p q → RoomBy x q p → Room (box_in x) p q
+  rooms : lent_wrong p.told x.table ≡ passed → lent_wrong q.told x.table ≡ passed → RoomBy x p q → RoomBy x q p → Room (box_in x) p q
   rooms a b r u h g =
       let i = needs_by x p a h in
       let j = needs_by x q b g in
       (rw (count_is x) (r.for_both i j), rw (count_is x) (u.for_both j i))
 
   -- p leaves as many entries as there were, or it needs a new one and adds that
-  counted : lent_wrong p.told x.table ≡ 0
+  counted : lent_wrong p.told x.table ≡ passed
       → (count_of (next_by x p).table ≡ count_of x.table) ⊎ (NeedsNew of_calls x p × (count_of (next_by x p).table ≡ suc (count_of x.table)))
   counted a = go (grows (box_in x) p q dp dq apart)
     where
@@ -182,7 +183,7 @@ module _ (x : Kept) (p q : Call) (dp : IsDC p) (dq : IsDC q) (apart : stamp_in p
       go (inr h) = inr (needs_by x p a h.0, count_next ∙ h.1 ∙ ap suc (count_is x))
 
   -- the check in front of q sees no difference, where p's entry leaves it within its capacity
-  lent_by : lent_wrong p.told x.table ≡ 0 → (lent_wrong q.told x.table ≡ 0 → count_of (next_by x p).table ≤ q.told.capacity)
+  lent_by : lent_wrong p.told x.table ≡ passed → (lent_wrong q.told x.table ≡ passed → count_of (next_by x p).table ≤ q.told.capacity)
       → lent_wrong q.told (next_by x p).table ≡ lent_wrong q.told x.table
   unfolding lent_wrong
   lent_by e k = or_same _ _ _ (λ z.
@@ -197,26 +198,26 @@ module _ (x : Kept) (p q : Call) (dp : IsDC p) (dq : IsDC q) (apart : stamp_in p
   lent_after : RoomBy x q p → lent_wrong q.told (next_by x p).table ≡ lent_wrong q.told x.table
   lent_after u = by (lent_wrong p.told x.table) refl
     where
-      fits : lent_wrong q.told x.table ≡ 0
+      fits : lent_wrong q.told x.table ≡ passed
           → (count_of (next_by x p).table ≡ count_of x.table) ⊎ (NeedsNew of_calls x p × (count_of (next_by x p).table ≡ suc (count_of x.table)))
           → count_of (next_by x p).table ≤ q.told.capacity
       fits b (inl h) = omega (arith, few q.told x.table b)
       fits b (inr h) = omega (arith, h.1, u.for_other b h.0)
 
-      by : (n : ℕ) → lent_wrong p.told x.table ≡ n → lent_wrong q.told (next_by x p).table ≡ lent_wrong q.told x.table
-      by (suc n) e = ap (λ (y : Kept). lent_wrong q.told y.table) (stays x p n e)
-      by zero e = lent_by e (λ b. fits b (counted e))
+      by : (n : Check) → lent_wrong p.told x.table ≡ n → lent_wrong q.told (next_by x p).table ≡ lent_wrong q.told x.table
+      by (Err r) e = ap (λ (y : Kept). lent_wrong q.told y.table) (stays x p r e)
+      by (Ok _) e = lent_by e (λ b. fits b (counted e))
 
   -- and q does what it did
   called_after : RoomBy x p q → RoomBy x q p → act_by (next_by x p) q ≡ act_by x q
   called_after r u = by (lent_wrong p.told x.table) (lent_wrong q.told x.table) refl refl
     where
-      by : (n m : ℕ) → lent_wrong p.told x.table ≡ n → lent_wrong q.told x.table ≡ m → act_by (next_by x p) q ≡ act_by x q
-      by (suc n) m e f = ap (λ (y : Kept). act_by y q) (stays x p n e)
-      by zero (suc m) e f =
-          is_refused q.entry q.told (next_by x p) q.message m (lent_after u ∙ f)
-          ∙ sym (is_refused q.entry q.told x q.message m f)
-      by zero zero e f =
+      by : (n m : Check) → lent_wrong p.told x.table ≡ n → lent_wrong q.told x.table ≡ m → act_by (next_by x p) q ≡ act_by x q
+      by (Err s) m e f = ap (λ (y : Kept). act_by y q) (stays x p s e)
+      by (Ok _) (Err r) e f =
+          is_refused q.entry q.told (next_by x p) q.message r (lent_after u ∙ f)
+          ∙ sym (is_refused q.entry q.told x q.message r f)
+      by (Ok _) (Ok _) e f =
           as_rules (next_by x p) q (lent_after u ∙ f)
           ∙ ap (λ (y : Box). act q.entry q.told y q.message) (same_next x p e)
           ∙ act_after (box_in x) p q dp dq apart (rooms e f r u)
@@ -264,28 +265,28 @@ module _ {x y : Kept} (k : Kin x y) (c : Call) where
   unfolding reply_by
   kin_reply = by (lent_wrong c.told x.table) refl
     where
-      by : (n : ℕ) → lent_wrong c.told x.table ≡ n → apart_from_number (act_by x c).answer ≡ apart_from_number (act_by y c).answer
-      by zero e =
+      by : (k : Check) → lent_wrong c.told x.table ≡ k → apart_from_number (act_by x c).answer ≡ apart_from_number (act_by y c).answer
+      by (Ok _) e =
           ap (λ (a : Act). apart_from_number a.answer) (as_rules x c e)
           ∙ answer_twins k.twins c.entry c.told c.message
           ∙ ap (λ (a : Act). apart_from_number a.answer) (sym (as_rules y c (sym kin_lent ∙ e)))
-      by (suc n) e =
+      by (Err r) e =
           ap (λ (a : Act). apart_from_number a.answer)
-          (is_refused c.entry c.told x c.message n e ∙ sym (is_refused c.entry c.told y c.message n (sym kin_lent ∙ e)))
+          (is_refused c.entry c.told x c.message r e ∙ sym (is_refused c.entry c.told y c.message r (sym kin_lent ∙ e)))
 
   kin_next : Kin (next_by x c) (next_by y c)
   unfolding next
   kin_next = by (lent_wrong c.told x.table) refl
     where
-      by : (n : ℕ) → lent_wrong c.told x.table ≡ n → Kin (next_by x c) (next_by y c)
-      by zero e =
+      by : (k : Check) → lent_wrong c.told x.table ≡ k → Kin (next_by x c) (next_by y c)
+      by (Ok _) e =
           let f = sym kin_lent ∙ e in
           record {
             twins = rw (same_next x c e, same_next y c f) (after_twins k.twins c.entry c.told c.message);
             long = next_long x c e ∙ k.long ∙ sym (next_long y c f);
             bad = none_bad _ _ (next_fine x c e) ∙ sym (none_bad _ _ (next_fine y c f));
           }
-      by (suc n) e = rw (stays x c n e, stays y c n (sym kin_lent ∙ e)) k
+      by (Err r) e = rw (stays x c r e, stays y c r (sym kin_lent ∙ e)) k
 
 kin_replies : (x y : Kept) → Kin x y → (cs : List Call) → replies of_calls x cs ≡ replies of_calls y cs
 unfolding replies
@@ -300,12 +301,12 @@ crossed x p q dp dq apart r u = by (lent_wrong p.told x.table) (lent_wrong q.tol
     swap : stamp_in q ≡ stamp_in p → ⊥
     swap e = apart (sym e)
 
-    by : (n m : ℕ) → lent_wrong p.told x.table ≡ n → lent_wrong q.told x.table ≡ m → Kin (next_by (next_by x p) q) (next_by (next_by x q) p)
-    by (suc n) m e f =
-        rw (stays x p n e, stays (next_by x q) p n (lent_after x q p dq dp swap r ∙ e)) (itself (next_by x q))
-    by zero (suc m) e f =
-        rw (stays x q m f, stays (next_by x p) q m (lent_after x p q dp dq apart u ∙ f)) (itself (next_by x p))
-    by zero zero e f =
+    by : (n m : Check) → lent_wrong p.told x.table ≡ n → lent_wrong q.told x.table ≡ m → Kin (next_by (next_by x p) q) (next_by (next_by x q) p)
+    by (Err s) m e f =
+        rw (stays x p s e, stays (next_by x q) p s (lent_after x q p dq dp swap r ∙ e)) (itself (next_by x q))
+    by (Ok _) (Err s) e f =
+        rw (stays x q s f, stays (next_by x p) q s (lent_after x p q dp dq apart u ∙ f)) (itself (next_by x p))
+    by (Ok _) (Ok _) e f =
         let g = lent_after x p q dp dq apart u ∙ f in
         let h = lent_after x q p dq dp swap r ∙ e in
         record {

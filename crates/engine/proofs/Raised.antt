@@ -5,6 +5,7 @@ use mathlib.Core.Path.{◌≡◌, refl}
 use mathlib.Core.List.{List}
 use lib.ListN.{length, get_or, set, take, length-take}
 use lib.Seq.{set-get_or, get_or-take}
+use Rattle.terms.specs.Checks.{passed}
 use Rattle.records.specs.Tx.{tx_len, r_count, w_count, TxThere}
 use Rattle.records.specs.Cutting.{tx_cut, behind_mark, tx_part}
 use Rattle.reading.proofs.Cuts.{tx_there, part_is}
@@ -19,7 +20,7 @@ unfolding raise
 new_mark ms k s h = let e : max (get_or ms k 0) s ≡ s = omega arith in rw e
 
 -- the body of a message that is cut: all of it is there, its length is what its counts give, and it fits a row
-module _ (m : List ℕ) (cut : tx_cut (behind_mark m) ≡ 0) where
+module _ (m : List ℕ) (cut : tx_cut (behind_mark m) ≡ passed) where
   pub body_there : TxThere (tx_part m)
   unfolding tx_part
   body_there = (part_is m cut _ _ refl refl).1
@@ -28,7 +29,7 @@ module _ (m : List ℕ) (cut : tx_cut (behind_mark m) ≡ 0) where
   unfolding tx_part
   body_long =
       let s = behind_mark m in
-      let h : TxThere s = tx_there _ _ refl cut in
+      let h : TxThere s = tx_there _ cut in
       let a : r_count (take (tx_len s) s) ≡ r_count s = get_or-take (tx_len s) s 2 0 (omega arith) in
       let b : w_count (take (tx_len s) s) ≡ w_count s = get_or-take (tx_len s) s 3 0 (omega arith) in
       rw (a, b) (simp length-take (omega arith))

@@ -1,5 +1,5 @@
 -- Demand 3 of the entry points: to every trace of calls there is a trace of the rules in which sound boxes hold and give the same.
-use Prim.Native.Nat.{ℕ, zero, suc}
+use Prim.Native.Nat.{ℕ}
 use mathlib.Core.Bool.{Bool, true, false, not, ◌&&◌, ◌||◌}
 use mathlib.Core.Option.{none}
 use mathlib.Core.Path.{◌≡◌, refl, ap, sym, ◌∙◌}
@@ -7,13 +7,15 @@ use mathlib.Core.Logic.{◌⊎◌, inl, inr}
 use mathlib.Core.List.{List, [], ◌∷◌}
 use lib.Dec.{T, eqb, eqb→eq, ltb, ltb→lt, lt→ltb}
 use borrow.Author.Tests.{eqb-true}
+use Rattle.terms.specs.declared.Refusal.{Refusal}
+use Rattle.std.specs.Prelude.{Ok, Err}
+use Rattle.terms.specs.Checks.{Check, passed}
 use Rattle.terms.specs.Choice.{pick}
 use Rattle.terms.specs.Group.{boxes}
 use Rattle.records.specs.Cutting.{tx_part}
 use Rattle.rules.specs.declared.Told.{Told}
 use Rattle.rules.specs.Bodies.{Body, same_body}
 use Rattle.rules.specs.Table.{Box, empty}
-use Rattle.terms.specs.Refusals.{refusal_of}
 use Rattle.rules.specs.Calls.{Act, guarded, refuse}
 use Rattle.rules.specs.Act.{EntryPoint, act, after, marks_after}
 use Rattle.rules.specs.System.{Event, told_at, box_at, answer_to, Word, word_in, is_word, gives_now, gave, given_in, Sound, HonestBy, Fair}
@@ -35,8 +37,8 @@ and_none true = refl
 and_none false = refl
 
 -- ---- a call that is refused with 14 or 16 changes nothing and gives no word
-module _ (way : EntryPoint) (told : Told) (x : Kept) (m : List ℕ) (n : ℕ) (q : lent_wrong told x.table ≡ suc n) where
-  pub is_refused : called way told x m ≡ refuse (refusal_of (suc n))
+module _ (way : EntryPoint) (told : Told) (x : Kept) (m : List ℕ) (r : Refusal) (q : lent_wrong told x.table ≡ Err r) where
+  pub is_refused : called way told x m ≡ refuse r
   unfolding called guarded
   is_refused = rw q
 
@@ -113,8 +115,8 @@ module _ (f : ℕ) (faulty : ℕ → Bool) where
               rw ((n (rw p s)).1, and_none (same_body (tx_part e.message) b)) (S.said i s b w)
 
       -- one that a sound box takes is a message of the rules
-      module _ (s : Sound f faulty e.box) (lent : lent_wrong (told_at f e) (now e.box).table ≡ 0) where
-        fine : table_wrong e.capacity (now e.box).table ≡ 0
+      module _ (s : Sound f faulty e.box) (lent : lent_wrong (told_at f e) (now e.box).table ≡ passed) where
+        fine : table_wrong e.capacity (now e.box).table ≡ passed
         fine = taken (told_at f e) _ lent
 
         alike : answered f start e es ≡ answer_to f e S.rules
@@ -129,7 +131,7 @@ module _ (f : ℕ) (faulty : ℕ → Bool) where
         held_by i z false q = S.held i z
         held_by i z true q =
             let p : e.box ≡ i = eqb-true e.box i q in
-            let g : table_wrong e.capacity (now i).table ≡ 0 = rw p at fine in
+            let g : table_wrong e.capacity (now i).table ≡ passed = rw p at fine in
             (bridge e.entry (told_at f e) (now i) e.message g).0
             ∙ ap (λ (y : Box). after e.entry (told_at f e) y e.message) (S.held i z)
 
@@ -197,14 +199,14 @@ module _ (f : ℕ) (faulty : ℕ → Bool) where
       unfolding answered
       step = go (sound_or_not e.box)
         where
-          by : Sound f faulty e.box → (n : ℕ) → lent_wrong (told_at f e) (now e.box).table ≡ n → Shadow (e ∷ es)
-          by s zero q = adds s q
-          by s (suc n) q =
+          by : Sound f faulty e.box → (k : Check) → lent_wrong (told_at f e) (now e.box).table ≡ k → Shadow (e ∷ es)
+          by s (Ok _) q = adds s q
+          by s (Err r) q =
               skips
               (λ _. (
-                all_left e.entry (told_at f e) (now e.box) e.message n q,
-                no_word e.entry (told_at f e) (now e.box) e.message n q,
-                not_found e.entry (told_at f e) (now e.box) e.message n q,
+                all_left e.entry (told_at f e) (now e.box) e.message r q,
+                no_word e.entry (told_at f e) (now e.box) e.message r q,
+                not_found e.entry (told_at f e) (now e.box) e.message r q,
               ))
 
           go : Sound f faulty e.box ⊎ (Sound f faulty e.box → ⊥) → Shadow (e ∷ es)

@@ -3,7 +3,8 @@ use Prim.Native.Nat.{ℕ, zero, suc, ◌+◌, ◌*◌, ◌≤◌, ◌<◌}
 use native.Mathlib.Omega.{arith}
 use mathlib.Core.Path.{◌≡◌, refl, sym, ◌∙◌}
 use lib.ListN.{replicate, length-replicate, take, drop}
-use Rattle.terms.specs.Checks.{table}
+use Rattle.std.specs.Prelude.{Err}
+use Rattle.terms.specs.Checks.{passed, table}
 use Rattle.terms.proofs.Checks.{pass, halt, less_no, less_yes, when_no}
 use Rattle.terms.proofs.Scans.{tab_same}
 use Rattle.records.specs.Numbers.{le_val, num_at}
@@ -43,7 +44,7 @@ unfolding folds_of
 folds_none m = tab_same (λ _. no_version) (fold_in (replicate m 0)) 0 512 (λ k p q. fold_none m k) ∙ refl
 
 -- also where the slice is longer than its capacity needs
-pub zeros_taken : (capacity n : ℕ) → table_len capacity ≤ suc n → table_wrong capacity (replicate (suc n) 0) ≡ 0
+pub zeros_taken : (capacity n : ℕ) → table_len capacity ≤ suc n → table_wrong capacity (replicate (suc n) 0) ≡ passed
 unfolding table_wrong
 zeros_taken capacity n h =
     sym (pass (less_no _ _ _ (omega (arith, length-replicate {A = ℕ} n 0))) (pass (less_no _ _ _ (omega arith)) (sym (when_no _ _ refl))))
@@ -54,13 +55,13 @@ starts_empty capacity =
     let e : table_len capacity ≡ suc (8200 + capacity * row_len) = omega arith in
     record { none = rw e; unread = refl; low = low_none (table_len capacity); folds = folds_none (table_len capacity) }
 
-pub starts_taken : (capacity : ℕ) → table_wrong capacity (zeros capacity).table ≡ 0
+pub starts_taken : (capacity : ℕ) → table_wrong capacity (zeros capacity).table ≡ passed
 unfolding zeros
 starts_taken capacity =
     let e : table_len capacity ≡ suc (8200 + capacity * row_len) = omega arith in
     rw e (zeros_taken capacity (8200 + capacity * row_len) (omega arith))
 
 -- one whose table has no room for what it is told
-pub too_short : (capacity more : ℕ) → capacity < more → table_wrong more (zeros capacity).table ≡ table
+pub too_short : (capacity more : ℕ) → capacity < more → table_wrong more (zeros capacity).table ≡ Err table
 unfolding zeros table_wrong
-too_short capacity more h = sym (halt _ _ _ (less_yes _ _ _ (omega (arith, length-replicate {A = ℕ} (table_len capacity) 0))) (omega arith))
+too_short capacity more h = sym (halt _ (less_yes _ _ _ (omega (arith, length-replicate {A = ℕ} (table_len capacity) 0))))

@@ -6,7 +6,8 @@ use mathlib.Core.Bool.{false}
 use mathlib.Core.List.{List}
 use lib.Dec.{leb}
 use lib.ListN.{length, drop}
-use Rattle.terms.specs.Refusals.{refusal_of}
+use Rattle.std.specs.Prelude.{Err}
+use Rattle.terms.specs.Checks.{passed, Check}
 use Rattle.terms.proofs.Checks.{when_no}
 use Rattle.terms.specs.declared.Refusal.{Refusal}
 use Rattle.terms.specs.declared.Key.{Key}
@@ -54,31 +55,31 @@ module _ {t m : List ℕ} where
   refuses q = record { ready = tt; answer = refl; table = refl; marks = λ _. refl }
 
   -- a check in front: it refuses, or it passes
-  pub stops : (n N : ℕ) (a : Act) → n ≡ N → (n ≡ 0 → ⊥) → Does (guarded N a) t m (kept_step (refused_answer (refusal_of n)))
-  stops n N a p h = does_as (halted n N a p h) (refuses (refusal_of n))
+  pub stops : {c : Check} (r : Refusal) (a : Act) → c ≡ Err r → Does (guarded c a) t m (kept_step (refused_answer r))
+  stops r a p = does_as (halted r a p) (refuses r)
 
-  pub passes : (N : ℕ) {a : Act} {s : Step} → N ≡ 0 → Does a t m s → Does (guarded N a) t m s
-  passes N z d = does_as (through N _ z) d
+  pub passes : (c : Check) {a : Act} {s : Step} → c ≡ passed → Does a t m s → Does (guarded c a) t m s
+  passes c z d = does_as (through c _ z) d
 
 -- ---- what is put is put for a message with a body
 unfoldable pub Bodied : List ℕ → Change → Type 0
 Bodied m nothing = Unit {0}
 Bodied m (raises k s) = Unit {0}
 Bodied m (raises_low l) = Unit {0}
-Bodied m (puts e) = (2 ≤ length m) × (tx_cut (behind_mark m) ≡ 0)
+Bodied m (puts e) = (2 ≤ length m) × (tx_cut (behind_mark m) ≡ passed)
 
-any_bodied : (m : List ℕ) (c : Change) → (2 ≤ length m) × (tx_cut (behind_mark m) ≡ 0) → Bodied m c
+any_bodied : (m : List ℕ) (c : Change) → (2 ≤ length m) × (tx_cut (behind_mark m) ≡ passed) → Bodied m c
 unfolding Bodied
 any_bodied m nothing h = tt
 any_bodied m (raises k s) h = tt
 any_bodied m (raises_low l) h = tt
 any_bodied m (puts e) h = h
 
-pub guarded_bodied : (m : List ℕ) (n : ℕ) (a : Act) → (n ≡ 0 → Bodied m a.change) → Bodied m (guarded n a).change
+pub guarded_bodied : (m : List ℕ) (c : Check) (a : Act) → (c ≡ passed → Bodied m a.change) → Bodied m (guarded c a).change
 unfolding Bodied
-guarded_bodied m n a h = guarded_elim (λ (y : Act). Bodied m y.change) n a h (λ _. tt)
+guarded_bodied m c a h = guarded_elim (λ (y : Act). Bodied m y.change) c a h (λ _. tt)
 
-pub rule_bodied : (k : Mark) (told : Told) (x : Box) (m : List ℕ) → due_refusal k told.f m ≡ 0 → Bodied m (rule k told x m).change
+pub rule_bodied : (k : Mark) (told : Told) (x : Box) (m : List ℕ) → due_refusal k told.f m ≡ passed → Bodied m (rule k told x m).change
 unfolding rule rd_rule look_act Bodied
 rule_bodied PR told x m z = any_bodied m (rule PR told x m).change (tx_due told.f m PR refl z)
 rule_bodied LG told x m z = any_bodied m (rule LG told x m).change (tx_due told.f m LG refl z)
@@ -92,7 +93,7 @@ abbrev FitsNow : Told → Box → Body → Change → Type 0
 FitsNow told x b c = FitsBy (λ k. k ≤ largest_key) (λ _. ⊥) told x b c
 
 -- ---- what fits the lent box can be made, at the place of the message's stamp
-module _ (told : Told) (t marks m : List ℕ) (lent : lent_wrong told t ≡ 0) where
+module _ (told : Told) (t marks m : List ℕ) (lent : lent_wrong told t ≡ passed) where
   abbrev at : ℕ
   at = place (stamp_of (tx_part m)) (entries_of t)
 
@@ -122,7 +123,7 @@ module _ (told : Told) (t marks m : List ℕ) (lent : lent_wrong told t ≡ 0) w
   makes_marks (puts e) ms = refl
 
   -- the step of a message's rule does what the rule says
-  pub does : (k : Mark) → due_refusal k told.f m ≡ 0 → (r : Step) → r ≡ step_by at (rule k told (box_in (kept t marks)) m)
+  pub does : (k : Mark) → due_refusal k told.f m ≡ passed → (r : Step) → r ≡ step_by at (rule k told (box_in (kept t marks)) m)
       → Does (rule k told (box_in (kept t marks)) m) t m r
   unfolding Fit step_by
   does k z r q =

@@ -1,4 +1,5 @@
 -- A9 of the entry points: two decisions in either order on what is kept for a box, whatever bytes it is, and whatever capacity each call is told.
+use Rattle.terms.specs.Checks.{passed}
 use Rattle.std.specs.Prelude.{◌+◌, ◌≤◌, ◌≡◌}
 use Rattle.terms.specs.declared.Refusal.TheVariants.{Full}
 use Rattle.rules.specs.declared.Answer.{Answer}
@@ -30,7 +31,7 @@ of_calls =
 -- than the capacity" is 16. It is asked only where the table is taken: what is refused with 14 or 16 is refused so in either order
 pub record RoomBy (x : Kept) (p q : Call) : Type 0 where
   pub for_both : NeedsNew of_calls x p → NeedsNew of_calls x q → count_of x.table + 2 ≤ p.told.capacity
-  pub for_other : lent_wrong p.told x.table ≡ 0 → NeedsNew of_calls x q → count_of x.table + 1 ≤ p.told.capacity
+  pub for_other : lent_wrong p.told x.table ≡ passed → NeedsNew of_calls x q → count_of x.table + 1 ≤ p.told.capacity
 
 -- "two DC calls with different stamps, made in either order on one table with room for both"
 abbrev pub CallsCommute : Type 0

@@ -1,10 +1,10 @@
 -- What each entry point answers and leaves, for any bytes and any numbers: 14, 16, the reading, then the rules on the lent table.
 use Rattle.std.specs.Prelude.{ℕ, ◌+◌, ◌*◌, ◌≤◌, ◌<◌, Bool, false, List, [], ◌≡◌, leb, length}
-use Rattle.terms.specs.Checks.{or_else}
+use Rattle.terms.specs.Checks.{Check, passed, or_else}
 use Rattle.records.specs.declared.Mark.{Mark}
 use Rattle.records.specs.declared.Mark.TheVariants.{PR, LG, DC, RD, IV, LD}
-use Rattle.records.specs.declared.Marked.{Marked}
-use Rattle.records.specs.declared.Marked.TheVariants.{Is}
+use Rattle.std.specs.Prelude.{Result, Ok}
+use Rattle.terms.specs.declared.Refusal.{Refusal}
 use Rattle.records.specs.Contents.{largest_key}
 use Rattle.records.specs.Cutting.{tx_cut, behind_mark, tx_part}
 use Rattle.rules.specs.declared.Answer.{Answer}
@@ -32,7 +32,7 @@ unfoldable pub box_in : Kept → Box
 box_in x = box_from x.table (entries_of x.table) x.marks
 
 -- "Order: 14, 16; then .."
-unfoldable pub lent_wrong : Told → List ℕ → ℕ
+unfoldable pub lent_wrong : Told → List ℕ → Check
 lent_wrong told t = or_else (told_wrong told) (table_wrong told.capacity t)
 
 -- what an entry point does: 14, 16, then the message by its own mark or by the one that is due, or A11's low mark
@@ -65,11 +65,11 @@ leaves_alone IV x c = marks_after x.marks c ≡ x.marks
 leaves_alone LD x c = marks_after x.marks c ≡ x.marks
 
 abbrev pub LeavesAlone : Type 0
-LeavesAlone = (k : Mark) (told : Told) (x : Kept) (m : List ℕ) → leaves_alone k x (called (due (Is k)) told x m).change
+LeavesAlone = (k : Mark) (told : Told) (x : Kept) (m : List ℕ) → leaves_alone k x (called (due (Ok k)) told x m).change
 
 -- ---- inside
 -- a message by the mark that it is said to have
-unfoldable pub called_by : Marked → Told → Kept → List ℕ → Act
+unfoldable pub called_by : Result Mark Refusal → Told → Kept → List ℕ → Act
 called_by k told x m = guarded (lent_wrong told x.table) (marked_act k told (box_in x) m)
 
 -- 18 of the messages with a transaction; RD has it behind 15
@@ -95,7 +95,7 @@ marks_of marks (Raise k s) = raise marks k.0 s.0
 -- a change that can be made: the row is there, and the message has a body; the key has a mark
 abbrev pub Ready : List ℕ → List ℕ → Changed → Type 0
 Ready t m Nothing = Unit {0}
-Ready t m (Put i e) = (head_len + i * row_len + row_len ≤ length t) × (i < 255) × (2 ≤ length m) × (tx_cut (behind_mark m) ≡ 0)
+Ready t m (Put i e) = (head_len + i * row_len + row_len ≤ length t) × (i < 255) × (2 ≤ length m) × (tx_cut (behind_mark m) ≡ passed)
 Ready t m (Raise k s) = k.0 ≤ largest_key
 
 -- a step that can be applied, and then leaves what the act leaves

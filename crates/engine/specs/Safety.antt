@@ -1,4 +1,5 @@
 -- DEMAND 3 of the entry points: any calls of any of them, in any order, on tables that start empty. A trace lists the calls, the newest first.
+use Rattle.terms.specs.Checks.{passed}
 use Rattle.std.specs.Prelude.{ℕ, ◌≤◌, Bool, false, ◌&&◌, ◌||◌, ◌≡◌, List, [], ◌∷◌, eqb, replicate}
 use Rattle.terms.specs.Choice.{pick}
 use Rattle.terms.specs.Group.{boxes}
@@ -61,7 +62,7 @@ pub record Tracks (f : ℕ) (faulty : ℕ → Bool) (start : ℕ → Kept) (es :
   pub rules : List Event
   pub held : (i : ℕ) → Sound f faulty i → box_in (kept_at f start i es) ≡ box_at f i rules
   pub said : (i : ℕ) → Sound f faulty i → (b : Body) (w : Word) → gave_by f start es i b w ≡ given_in f rules i b w
-  pub answers : (e : Event) → Sound f faulty e.box → lent_wrong (told_at f e) (kept_at f start e.box es).table ≡ 0
+  pub answers : (e : Event) → Sound f faulty e.box → lent_wrong (told_at f e) (kept_at f start e.box es).table ≡ passed
       → answered f start e es ≡ answer_to f e rules
 
 abbrev pub EngineTracks : Type 0

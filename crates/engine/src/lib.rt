@@ -3,41 +3,39 @@
 #![tactic(auto)]
 
 ghost use Rattle.std.specs.Prelude.{◌≡◌, ℕ, ◌≤◌, false, length};
+ghost use Rattle.terms.specs.Checks.{passed};
 ghost use Rattle.records.specs.Cutting.{tx_part};
 ghost use Rattle.records.specs.Messages.{due_refusal};
 ghost use Rattle.rules.specs.Act.{receive, due, due_act, due_mark, told_wrong, rule, raise};
 ghost use Rattle.table.specs.Table.{head_len, low_of};
 ghost use Rattle.engine.specs.Outcome.{kept, box_in, lent_wrong, called_by, called, lowered, old_now, table_by, table_of, marks_of, Leaves, Ready, Does};
 
-use records::{Mark, Marked, ViewMark};
+use records::{Mark, ViewMark};
 use rules::{Answer, Told};
 use steps::{Change, Step};
-use terms::{Key, Refusal, Stamp};
+use terms::{Check, Key, Refusal, Stamp};
 
 // 14 for f or the capacity.
-pub fn told_wrong(told: Told) -> u8
+#[tactic(auto, unfolding(terms::proofs::Checks::chain, rules::specs::Act::told_wrong))]
+pub fn told_wrong(told: Told) -> Check
     ensures { result ≡ told_wrong told }
 {
-    terms::first(
-        terms::group_wrong(told.f),
-        terms::capacity_wrong(told.capacity),
-    )
+    terms::group_wrong(told.f)?;
+    terms::capacity_wrong(told.capacity)
 }
 
 // 14, then 16.
-fn lent_wrong(t: &[u8], told: Told) -> u8
+#[tactic(auto, using(crate::proofs::Lent::told_small), unfolding(terms::proofs::Checks::chain, crate::specs::Outcome::lent_wrong))]
+fn lent_wrong(t: &[u8], told: Told) -> Check
     ensures { result ≡ lent_wrong told t.now }
 {
-    let wrong = told_wrong(told);
-    if wrong != 0 {
-        return wrong;
-    }
+    told_wrong(told)?;
     table::table_wrong(t, told.capacity as usize)
 }
 
 // Whether a message that is in order is old: its transaction's stamp is at or below the low mark. RD asks for itself.
 fn is_old(mark: Mark, t: &[u8], m: &[u8]) -> bool
-    requires { (head_len ≤ length t.now) × ((f : ℕ) × (due_refusal mark f m.now ≡ 0)) }
+    requires { (head_len ≤ length t.now) × ((f : ℕ) × (due_refusal mark f m.now ≡ passed)) }
     ensures { result ≡ old_now mark (low_of t.now) m.now }
 {
     match mark {
@@ -47,8 +45,9 @@ fn is_old(mark: Mark, t: &[u8], m: &[u8]) -> bool
 }
 
 // A message that is in order and not old, on a table that is taken: by its mark, one step of the rules.
+// A match, and no table of closures, which would be no plainer: each step takes arguments of its own.
 fn step_of(mark: Mark, t: &[u8], marks: &[u64], told: Told, m: &[u8]) -> Step
-    requires { (lent_wrong told t.now ≡ 0) × (due_refusal mark told.f m.now ≡ 0) × (old_now mark (low_of t.now) m.now ≡ false) }
+    requires { (lent_wrong told t.now ≡ passed) × (due_refusal mark told.f m.now ≡ passed) × (old_now mark (low_of t.now) m.now ≡ false) }
     ensures { Does (rule mark told (box_in (kept t.now marks.now)) m.now) t.now m.now result }
 {
     let n = table::count_of(t);
@@ -77,12 +76,11 @@ fn step_of(mark: Mark, t: &[u8], marks: &[u64], told: Told, m: &[u8]) -> Step
 
 // A message where one with this mark is due, on a table that is taken: its refusal, or its step.
 fn due_step(mark: Mark, t: &[u8], marks: &[u64], told: Told, m: &[u8]) -> Step
-    requires { lent_wrong told t.now ≡ 0 }
+    requires { lent_wrong told t.now ≡ passed }
     ensures { Does (due_act mark told (box_in (kept t.now marks.now)) m.now) t.now m.now result }
 {
-    let wrong = reading::due_wrong(mark, told.f, m);
-    if wrong != 0 {
-        return Step::refuse(Refusal::of(wrong));
+    if let Err(why) = reading::due_wrong(mark, told.f, m) {
+        return Step::refuse(why);
     }
     if is_old(mark, t, m) {
         return Step::refuse(Refusal::Old);
@@ -91,16 +89,15 @@ fn due_step(mark: Mark, t: &[u8], marks: &[u64], told: Told, m: &[u8]) -> Step
 }
 
 // 14, 16, then the message by the mark that is due, or by its own.
-fn called(marked: Marked, t: &[u8], marks: &[u64], told: Told, m: &[u8]) -> Step
+fn called(marked: Result<Mark, Refusal>, t: &[u8], marks: &[u64], told: Told, m: &[u8]) -> Step
     ensures { Does (called_by marked told (kept t.now marks.now) m.now) t.now m.now result }
 {
-    let wrong = lent_wrong(t, told);
-    if wrong != 0 {
-        return Step::refuse(Refusal::of(wrong));
+    if let Err(why) = lent_wrong(t, told) {
+        return Step::refuse(why);
     }
     match marked {
-        Marked::Is(mark) => due_step(mark, t, marks, told, m),
-        Marked::Refused(n) => Step::refuse(Refusal::of(n)),
+        Ok(mark) => due_step(mark, t, marks, told, m),
+        Err(why) => Step::refuse(why),
     }
 }
 
@@ -137,7 +134,7 @@ fn apply(t: &mut [u8], marks: &mut [u64; 512], step: Step, m: &[u8]) -> Answer
 
 // A message by the mark that it is said to have.
 fn run(
-    marked: Marked,
+    marked: Result<Mark, Refusal>,
     table: &mut [u8],
     marks: &mut [u64; 512],
     told: Told,
@@ -150,19 +147,17 @@ fn run(
 }
 
 // The mark that is due; none of the six is 2.
-fn due_mark(marked: Marked) -> Marked
+#[tactic(auto, unfolding(rules::specs::Act::due_mark))]
+fn due_mark(marked: Result<Mark, Refusal>) -> Result<Mark, Refusal>
     ensures { result ≡ due_mark marked }
 {
-    match marked {
-        Marked::Is(mark) => Marked::Is(mark),
-        Marked::Refused(_) => Marked::Refused(terms::MARK),
-    }
+    marked.or(Err(Refusal::Mark))
 }
 
 // A message where one with a certain mark is due: PR to vote on a transaction, LG to log a decision, DC to take one, RD to read a key,
 // IV to move on to a higher view, LD to log a leader's decision.
 pub fn due(
-    marked: Marked,
+    marked: Result<Mark, Refusal>,
     table: &mut [u8],
     marks: &mut [u64; 512],
     told: Told,
@@ -184,13 +179,11 @@ pub fn receive(table: &mut [u8], marks: &mut [u64; 512], told: Told, message: &[
 pub fn raise_low(table: &mut [u8], told: Told, low: Stamp) -> Answer
     ensures { (result ≡ (lowered low.0 told table.old).answer) × (table.new ≡ table_by table.old (lowered low.0 told table.old).change) }
 {
-    let wrong = lent_wrong(table, told);
-    if wrong != 0 {
-        return Answer::Refused(Refusal::of(wrong));
+    if let Err(why) = lent_wrong(table, told) {
+        return Answer::Refused(why);
     }
-    let wrong = low::low_wrong(table, low);
-    if wrong != 0 {
-        return Answer::Refused(Refusal::of(wrong));
+    if let Err(why) = low::low_wrong(table, low) {
+        return Answer::Refused(why);
     }
     low::raise(table, low);
     Answer::Raised

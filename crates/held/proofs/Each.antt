@@ -15,11 +15,19 @@ use Rattle.rules.specs.Table.{Entry, find}
 use Rattle.table.specs.Table.{head_len, row_len, body_at, row_at, entry_of, entry_at, entries_of, count_of, place, Wf}
 use Rattle.table.proofs.Bodies.{row_fits}
 use Rattle.table.proofs.Looking.{entries_are, entries_count}
-use Rattle.held.specs.declared.HowMany.{HowMany}
-use Rattle.held.specs.Held.{held_wrong, nothing, holding_of, body_place, found_in, held_by, held_of, body_in, There, shortest}
-use Rattle.held.specs.Held.{nth, entry_in, entry_by, entry_told, entry_body_by, entry_body, how_many_by, how_many_told, EntryThere, EachTold, HeldIsEntry}
+use Rattle.std.specs.Prelude.{Ok, Err, None, Option as Maybe, Result}
+use Rattle.std.specs.Result.{result_unwrap_or}
+use Rattle.terms.specs.declared.Refusal.{Refusal}
+use Rattle.terms.specs.Checks.{Check, passed, or_else}
+use Rattle.terms.proofs.Checks.{first_passed}
+use Rattle.held.specs.declared.Holding.{Holding}
+use Rattle.held.specs.Held.{held_wrong, holding_of, body_place, found_in, held_of, body_in, There, Told, shortest}
+use Rattle.held.specs.Held.{nth, entry_in, entry_told, entry_body_by, entry_body, how_many_told, EntryThere, EachTold, HeldIsEntry}
 use Rattle.held.proofs.Found.{right}
 use Rattle.held.proofs.There.{lt_cases, long, inside, stands}
+
+ok_eq : {a b : ℕ} → ◌≡◌ {A = Result ℕ Refusal} (Ok a) (Ok b) → a ≡ b
+ok_eq e = ap (λ (x : Result ℕ Refusal). result_unwrap_or x 0) e
 
 -- an entry of a list that is read off by an index
 nth_tab : (f : ℕ → Entry) (j n i : ℕ) → i < n → nth (tab f j n) i ≡ some (f (j + i))
@@ -48,7 +56,7 @@ module _ (t : List ℕ) (i : ℕ) where
   unfolding entry_in
   tells_row h = rw (nth_some h)
 
-  tells_behind : count_of t ≤ i → nothing 0 ≡ entry_in t i
+  tells_behind : count_of t ≤ i → None ≡ entry_in t i
   unfolding entry_in holding_of
   tells_behind h = rw (nth_none h)
 
@@ -57,63 +65,49 @@ module _ (t : List ℕ) (i : ℕ) where
     pub row_told : i < n → (r : List ℕ) → r ≡ row_at rs i → holding_of (head_len + i * row_len + body_at) (some (entry_of r)) ≡ entry_in t i
     row_told h r q = rw (q, a) (tells_row (omega arith))
 
-    pub row_behind : n ≤ i → nothing 0 ≡ entry_in t i
+    pub row_behind : n ≤ i → None ≡ entry_in t i
     row_behind h = tells_behind (omega arith)
 
   module _ (w : Wf (drop head_len t) (count_of t)) where
-    entry_there : There t (entry_in t i) (body_in (nth (entries_of t) i))
-    unfolding holding_of nothing
+    entry_there : There t (Ok (entry_in t i)) (body_in (nth (entries_of t) i))
+    unfolding holding_of
     entry_there = by (lt_cases i (count_of t))
       where
-        by : (i < count_of t) ⊎ (count_of t ≤ i) → There t (entry_in t i) (body_in (nth (entries_of t) i))
+        by : (i < count_of t) ⊎ (count_of t ≤ i) → There t (Ok (entry_in t i)) (body_in (nth (entries_of t) i))
         by (inl h) = let f = row_fits w i h in rw (← tells_row h, nth_some h) (inside t i f.0 f.1, stands t i f.0 f.1)
-        by (inr h) = rw (← tells_behind h, nth_none h) (omega arith, refl)
+        by (inr h) = rw (← tells_behind h, nth_none h)
 
-    entry_long : i < count_of t → shortest ≤ (entry_in t i).len
+    entry_long : i < count_of t → Told (λ h. shortest ≤ h.len) (Ok (entry_in t i))
     unfolding holding_of
     entry_long h = let r = row_fits w i h in rw (← tells_row h, long t i r.0 r.1) (omega arith)
 
--- refused, or not
+-- past the checks
 module _ (t : List ℕ) (capacity : ℕ) where
-  pub entry_stopped : (i n : ℕ) → n ≡ held_wrong capacity t → (n ≡ 0 → ⊥) → nothing n ≡ entry_told t capacity i
-  unfolding entry_told entry_by
-  entry_stopped i n e h = by (held_wrong capacity t) e
-    where
-      by : (m : ℕ) → n ≡ m → nothing n ≡ entry_by m t i
-      by zero p = absurd (h p)
-      by (suc m) p = ap nothing p
-
-  pub entry_passed : (i : ℕ) → held_wrong capacity t ≡ 0 → entry_in t i ≡ entry_told t capacity i
-  unfolding entry_told entry_by
+  pub entry_passed : (i : ℕ) → held_wrong capacity t ≡ passed → Ok (entry_in t i) ≡ entry_told t capacity i
+  unfolding entry_told or_else
   entry_passed i e = rw e
 
-  pub count_stopped : (n : ℕ) → n ≡ held_wrong capacity t → (n ≡ 0 → ⊥) → ◌≡◌ {A = HowMany} (record { wrong = n; count = 0 }) (how_many_told t capacity)
-  unfolding how_many_told how_many_by
-  count_stopped n e h = by (held_wrong capacity t) e
-    where
-      by : (m : ℕ) → n ≡ m → ◌≡◌ {A = HowMany} (record { wrong = n; count = 0 }) (how_many_by m t)
-      by zero p = absurd (h p)
-      by (suc m) p = rw p
-
-  pub count_passed : (n : ℕ) → n ≡ count_of t → held_wrong capacity t ≡ 0 → ◌≡◌ {A = HowMany} (record { wrong = 0; count = n }) (how_many_told t capacity)
-  unfolding how_many_told how_many_by
+  pub count_passed : (n : ℕ) → n ≡ count_of t → held_wrong capacity t ≡ passed → Ok n ≡ how_many_told t capacity
+  unfolding how_many_told or_else
   count_passed n p e = rw (e, entries_count t, p)
 
 -- The place and the length that are told mean the entry's body.
 pub entries_there : EntryThere
-unfolding entry_told entry_by entry_body entry_body_by nothing
+unfolding entry_told entry_body entry_body_by or_else
 entries_there t capacity i = by (held_wrong capacity t) refl
   where
-    by : (n : ℕ) → held_wrong capacity t ≡ n → There t (entry_by n t i) (entry_body_by n t i)
-    by zero e = entry_there t i (right t capacity e).0
-    by (suc n) e = (omega arith, refl)
+    by : (c : Check) → held_wrong capacity t ≡ c → There t (or_else c (Ok (entry_in t i))) (entry_body_by c t i)
+    by (Ok _) e = entry_there t i (right t capacity e).0
+    by (Err r) e = refl
 
 -- Each entry that is counted is told with bytes, and nothing is told behind them.
 pub each_told : EachTold
-each_told t capacity i e =
-    let c : (how_many_told t capacity).count ≡ count_of t = ap (λ (x : HowMany). x.count) (sym (count_passed t capacity _ refl e)) in (
-      λ h. rw (← entry_passed t capacity i e) (entry_long t i (right t capacity e).0 (rw c at h)),
-      λ h. rw (← entry_passed t capacity i e) (sym (tells_behind t i (rw c at h))),
+unfolding how_many_told
+each_told t capacity i n q =
+    let e : held_wrong capacity t ≡ passed = first_passed _ _ _ q in
+    let c : n ≡ count_of t = ok_eq (sym q ∙ sym (count_passed t capacity _ refl e)) in (
+      λ h. rw (← entry_passed t capacity i e) (entry_long t i (right t capacity e).0 (omega arith)),
+      λ h. rw (← entry_passed t capacity i e, ← tells_behind t i (omega arith)),
     )
 
 -- What is held under a stamp is the entry at that stamp's place.
@@ -127,9 +121,5 @@ find_nth s (e ∷ es) = by (eqb (stamp_of e.body) s) (find_nth s es)
     by false h = let q : 1 + place s es ≡ suc (place s es) = omega arith in rw q h
 
 pub held_is_entry : HeldIsEntry
-unfolding held_of held_by found_in entry_told entry_by entry_in
-held_is_entry t capacity s = by (held_wrong capacity t)
-  where
-    by : (n : ℕ) → held_by n t s ≡ entry_by n t (place s (entries_of t))
-    by zero = ap (holding_of (body_place t s)) (find_nth s (entries_of t))
-    by (suc n) = refl
+unfolding held_of found_in entry_told entry_in
+held_is_entry t capacity s = ap (λ (o : Maybe Holding). or_else (held_wrong capacity t) (Ok o)) (ap (holding_of (body_place t s)) (find_nth s (entries_of t)))

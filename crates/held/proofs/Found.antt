@@ -1,7 +1,7 @@
 -- Where the body that is held stands, and what is told of it.
-use Prim.Native.Nat.{ℕ, zero, suc, ◌+◌, ◌*◌, ◌<◌, ◌≤◌}
+use Prim.Native.Nat.{ℕ, ◌+◌, ◌*◌, ◌<◌, ◌≤◌}
 use native.Mathlib.Omega.{arith}
-use mathlib.Core.Path.{◌≡◌, ap}
+use mathlib.Core.Path.{◌≡◌}
 use mathlib.Core.List.{List}
 use mathlib.Core.Option.{some, none}
 use lib.ListN.{length, drop}
@@ -13,15 +13,17 @@ use Rattle.table.specs.Table.{head_len, row_len, body_at, row_at, entry_with, en
 use Rattle.table.proofs.Checked.{table_room, table_count, table_wf}
 use Rattle.table.proofs.Looking.{find_none, find_some, entries_are}
 use Rattle.held.specs.declared.Holding.{Holding}
-use Rattle.held.specs.Held.{held_wrong, nothing, holding_of, body_place, found_in, held_by, held_of}
+use Rattle.std.specs.Prelude.{Ok, Some, None, Option as Maybe}
+use Rattle.terms.specs.Checks.{passed, or_else}
+use Rattle.held.specs.Held.{held_wrong, holding_of, body_place, found_in, held_of}
 
 -- what 14 and 16 leave of a table
-module _ (t : List ℕ) (capacity : ℕ) (e : held_wrong capacity t ≡ 0) where
+module _ (t : List ℕ) (capacity : ℕ) (e : held_wrong capacity t ≡ passed) where
   small : capacity ≤ 255
   unfolding held_wrong
   small = capacity_small capacity (first_none _ _ e)
 
-  taken : table_wrong capacity t ≡ 0
+  taken : table_wrong capacity t ≡ passed
   unfolding held_wrong
   taken = rest_none _ _ e
 
@@ -32,22 +34,13 @@ module _ (t : List ℕ) (capacity : ℕ) (e : held_wrong capacity t ≡ 0) where
       let c = table_count capacity t taken in
       (table_wf capacity t taken, omega arith, omega arith)
 
--- refused, or not
-pub stopped : (t : List ℕ) (capacity s n : ℕ) → n ≡ held_wrong capacity t → (n ≡ 0 → ⊥) → nothing n ≡ held_of t capacity s
-unfolding held_of held_by
-stopped t capacity s n e h = by (held_wrong capacity t) e
-  where
-    by : (m : ℕ) → n ≡ m → nothing n ≡ held_by m t s
-    by zero p = absurd (h p)
-    by (suc m) p = ap nothing p
-
-pub passed : (t : List ℕ) (capacity s : ℕ) → held_wrong capacity t ≡ 0 → found_in t s ≡ held_of t capacity s
-unfolding held_of held_by
-passed t capacity s e = rw e
+pub passed_on : (t : List ℕ) (capacity s : ℕ) → held_wrong capacity t ≡ passed → Ok (found_in t s) ≡ held_of t capacity s
+unfolding held_of or_else
+passed_on t capacity s e = rw e
 
 -- the entry of a row, told
 pub told_of : (r : List ℕ) (at : ℕ) (n : ℕ) (x : State) → n ≡ length (entry_of r).body → x ≡ state_at r
-    → ◌≡◌ {A = Holding} (record { wrong = 0; at = at; len = n; state = x }) (holding_of at (some (entry_of r)))
+    → ◌≡◌ {A = Maybe Holding} (Some (record { at = at; len = n; state = x })) (holding_of at (some (entry_of r)))
 unfolding holding_of state_in entry_of entry_with state_at
 told_of r at n x p q = rw (p, q)
 
@@ -66,7 +59,7 @@ module _ (t : List ℕ) (s i : ℕ) (p : i ≡ place s (entries (drop head_len t
   pub not_found : count_of t ≤ i → i ≤ count_of t → find s (entries_of t) ≡ none
   not_found h k = rw (entries_are t) (find_none s (drop head_len t) (count_of t) i p h k)
 
-  pub tells_none : count_of t ≤ i → i ≤ count_of t → nothing 0 ≡ found_in t s
+  pub tells_none : count_of t ≤ i → i ≤ count_of t → None ≡ found_in t s
   unfolding found_in holding_of
   tells_none h k = rw (not_found h k)
 
@@ -82,5 +75,5 @@ module _ (t rs : List ℕ) (n : ℕ) (a : rs ≡ drop head_len t) (b : n ≡ cou
     pub row_found : i < n → (r : List ℕ) → r ≡ row_at rs i → holding_of (head_len + i * row_len + body_at) (some (entry_of r)) ≡ found_in t s
     row_found h r q = rw (q, a) (tells_found t s i place_of (omega arith))
 
-    pub row_none : n ≤ i → i ≤ n → nothing 0 ≡ found_in t s
+    pub row_none : n ≤ i → i ≤ n → None ≡ found_in t s
     row_none h k = tells_none t s i place_of (omega arith) (omega arith)

@@ -12,11 +12,12 @@ use Rattle.rules.proofs.Laws.{find_put_same}
 use Rattle.table.specs.declared.State.{State}
 use Rattle.table.specs.Table.{entries_of, entry_with, place, state_in, stored}
 use Rattle.table.proofs.Storing.{stored_put, stored_right}
-use Rattle.held.specs.Held.{held_wrong, holding_of, found_in, held_by, held_of, body_by, body_held, StoredHeld}
+use Rattle.terms.specs.Checks.{passed, or_else}
+use Rattle.held.specs.Held.{held_wrong, holding_of, found_in, held_of, body_by, body_held, Told, StoredHeld}
 
 module _ (capacity i : ℕ) (b : Body) (x : State) (whole : length b ≡ tx_len b) (there : TxThere b) (free : i < capacity) (t : List ℕ)
-    (e : held_wrong capacity t ≡ 0) (p : i ≡ place (stamp_of b) (entries_of t)) where
-  right_still : held_wrong capacity (stored t i b x) ≡ 0
+    (e : held_wrong capacity t ≡ passed) (p : i ≡ place (stamp_of b) (entries_of t)) where
+  right_still : held_wrong capacity (stored t i b x) ≡ passed
   unfolding held_wrong
   right_still = sym (pass (first_none _ _ e) (sym (stored_right capacity i b x whole there free t (rest_none _ _ e) p)))
 
@@ -28,8 +29,8 @@ module _ (capacity i : ℕ) (b : Body) (x : State) (whole : length b ≡ tx_len 
   unfolding body_held body_by entry_with
   body_again = rw (right_still, found_again)
 
-  state_again : (held_of (stored t i b x) capacity (stamp_of b)).state ≡ x
-  unfolding held_of held_by found_in holding_of state_in entry_with
+  state_again : Told (λ h. h.state ≡ x) (held_of (stored t i b x) capacity (stamp_of b))
+  unfolding held_of found_in holding_of state_in entry_with or_else
   state_again = rw (right_still, found_again)
 
 pub stored_held : StoredHeld

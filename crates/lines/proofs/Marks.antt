@@ -1,5 +1,5 @@
 -- The marks by their cases.
-use Prim.Native.Nat.{ℕ, ◌≤◌, ◌<◌}
+use Prim.Native.Nat.{ℕ, ◌≤◌}
 use native.Mathlib.Omega.{arith}
 use native.Mathlib.Nat.{le_of_eq}
 use mathlib.Core.Path.{◌≡◌, refl}
@@ -8,34 +8,12 @@ use mathlib.Core.List.{List}
 use lib.ListN.{length, take}
 use lib.Seq.{length-take-le}
 use lib.Dec.{ltb}
-use borrow.Author.Tests.{lt-ltb, le-ltb, ltb-false}
+use borrow.Author.Tests.{ltb-false}
 use Rattle.terms.specs.Choice.{pick}
 use Rattle.records.specs.Messages.{is_mark, mark_of}
 use Rattle.lines.specs.Lines.{mark_gp, mark_ck, mark_lm, no_mark, is_message, known, mark_text}
 
--- ---- the marks, each where those before it are not
 module _ (s : List ℕ) where
-  pub known_cut : length s < 2 → false ≡ known s
-  unfolding known
-  known_cut h = rw (lt-ltb (length s) 2 h)
-
-  pub known_gp : 2 ≤ length s → is_mark mark_gp s ≡ true → true ≡ known s
-  unfolding known
-  known_gp h a = rw (le-ltb (length s) 2 h, a)
-
-  pub known_ck : 2 ≤ length s → is_mark mark_gp s ≡ false → is_mark mark_ck s ≡ true → true ≡ known s
-  unfolding known
-  known_ck h a b = rw (le-ltb (length s) 2 h, a, b)
-
-  pub known_lm : 2 ≤ length s → is_mark mark_gp s ≡ false → is_mark mark_ck s ≡ false → is_mark mark_lm s ≡ true → true ≡ known s
-  unfolding known
-  known_lm h a b c = rw (le-ltb (length s) 2 h, a, b, c)
-
-  pub known_rest : (x : Bool) → 2 ≤ length s → is_mark mark_gp s ≡ false → is_mark mark_ck s ≡ false → is_mark mark_lm s ≡ false → x ≡ is_message (mark_of s)
-      → x ≡ known s
-  unfolding known
-  known_rest x h a b c d = rw (le-ltb (length s) 2 h, a, b, c) d
-
   -- a mark that is known is not cut
   pub known_long : known s ≡ true → 2 ≤ length s
   unfolding known

@@ -1,11 +1,11 @@
 -- Text put down at a place, and more text put down behind it.
-use Prim.Native.Nat.{ℕ, suc, ◌+◌, ◌-◌, ◌≤◌, ◌<◌}
+use Prim.Native.Nat.{ℕ, ◌+◌, ◌-◌, ◌≤◌}
 use native.Mathlib.Omega.{arith}
-use native.Mathlib.Nat.{le_refl, add-zero}
-use mathlib.Core.Path.{◌≡◌, refl, ap, sym, ◌∙◌}
+use native.Mathlib.Nat.{le_refl, add-zero, add-sub_cancel_left}
+use mathlib.Core.Path.{◌≡◌, ap, sym, ◌∙◌}
 use mathlib.Core.List.{List, [], ◌++◌, append_assoc}
-use lib.ListN.{length, take, drop, set, get_or, length-append, length-drop, take-append-drop}
-use lib.Seq.{length-take-le, take_at, drop_at, drop-drop, take_all, paste, paste-zero, paste-suc, length-paste}
+use lib.ListN.{length, take, drop, length-append, length-drop, take-append-drop}
+use lib.Seq.{length-take-le, take_at, drop_at, drop-drop}
 use Rattle.lines.specs.Lines.{blank, put_at, Puts}
 
 module _ (o : List ℕ) (at : ℕ) (p : List ℕ) (h : at + length p ≤ length o) where
@@ -81,27 +81,7 @@ puts_text x h = record { place = x.0; written = x.1; short = h }
 pub line_put : {o t e : List ℕ} {at b : ℕ} → (b ≡ at + length t) × (e ≡ put_at o at t) × (length t ≤ 112) → Puts o at t 112 e b
 line_put x = record { place = x.0; written = x.1; short = x.2 }
 
--- ---- put_text's loop: the first i bytes are put down
-pub record Copied (o : List ℕ) (at : ℕ) (t e : List ℕ) (i : ℕ) : Type 0 where
-  pub within : i ≤ length t
-  pub room : at + length t ≤ length o
-  pub same : length e ≡ length o
-  pub is : e ≡ paste o at t i
-
-module _ {o : List ℕ} {at : ℕ} {t : List ℕ} where
-  pub copied_none : at + length t ≤ length o → Copied o at t o 0
-  copied_none h = record { within = omega arith; room = h; same = refl; is = paste-zero o at t }
-
-  module _ {e : List ℕ} {i : ℕ} (x : Copied o at t e i) where
-    pub copied_more : i < length t → Copied o at t (set e (at + i) (get_or t i 0)) (i + 1)
-    copied_more h =
-        let r : at + length t ≤ length o = x.room in
-        let n : suc i ≡ i + 1 = omega arith in
-        let p : set e (at + i) (get_or t i 0) ≡ paste o at t (i + 1) = rw (x.is, ← n) (paste-suc o at t i 0 (omega arith) h) in
-        record { within = omega arith; room = r; same = ap length p ∙ length-paste o at t (i + 1) (omega arith) (omega arith); is = p }
-
-    pub copied_all : length t ≤ i → (at + i ≡ at + length t) × (e ≡ put_at o at t)
-    unfolding put_at
-    copied_all h =
-        let n : i ≡ length t = let w = x.within in omega arith in
-        (ap (λ (k : ℕ). at + k) n, x.is ∙ (rw (n, take_all (length t) t (le_refl (length t)), append_assoc)))
+-- ---- text that was copied to its place
+pub copied : (o : List ℕ) (at : ℕ) (p q : List ℕ) → q ≡ p → take at o ++ (q ++ drop (at + length p - at) (drop at o)) ≡ put_at o at p
+unfolding put_at
+copied o at p q h = rw (h, add-sub_cancel_left, drop-drop)

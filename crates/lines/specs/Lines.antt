@@ -1,11 +1,10 @@
 -- 01, 'Bench program': "Each record prints number from 0, its mark (`??` if the mark is cut or not GP, CK, PR, LG, DC, RD), the answer."
 -- A5 adds IV and LD, A11 LM.
-use Rattle.std.specs.Prelude.{ℕ, zero, suc, ◌+◌, ◌-◌, ◌*◌, ◌/◌, ◌%◌, ◌≤◌, ◌≡◌, Bool, true, false, ◌||◌, List, [], ◌∷◌, ◌++◌, length, take, drop, eqb, ltb}
+use Rattle.std.specs.Prelude.{ℕ, zero, suc, ◌+◌, ◌-◌, ◌*◌, ◌/◌, ◌%◌, ◌≤◌, ◌≡◌, Bool, false, ◌||◌, List, [], ◌∷◌, ◌++◌, length, take, drop, eqb, ltb, Result, is_ok}
 use Rattle.terms.specs.Choice.{pick}
 use Rattle.terms.specs.Refusals.{number_of, lacking_of}
 use Rattle.terms.specs.declared.Refusal.{Refusal}
-use Rattle.records.specs.declared.Marked.{Marked}
-use Rattle.records.specs.declared.Marked.TheVariants.{Is, Refused as Unmarked}
+use Rattle.records.specs.declared.Mark.{Mark}
 use Rattle.records.specs.Messages.{is_mark, mark_of}
 use Rattle.rules.specs.Answers.{reason_number}
 use Rattle.terms.specs.declared.Decision.{Decision}
@@ -148,9 +147,8 @@ abbrev pub no_mark : List ℕ
 no_mark = 63 ∷ 63 ∷ []
 
 -- "PR, LG, DC, RD", IV, LD
-abbrev pub is_message : Marked → Bool
-is_message (Is k) = true
-is_message (Unmarked n) = false
+abbrev pub is_message : Result Mark Refusal → Bool
+is_message found = is_ok found
 
 -- "its mark (`??` if the mark is cut or not GP, CK, PR, LG, DC, RD)"
 unfoldable pub known : List ℕ → Bool

@@ -1,14 +1,16 @@
 // The bench's lines: a record's number, its mark, and what was said of it, as text put down in a lent buffer.
+// No `Display`: over a writer to the lent buffer `write!` promises the text only where it answers Ok, and no contract says when it does; a scratch crate was left
+// with the Err that a line's promise has no place for. So each part is put down by a function that promises its bytes and the place behind them.
 #![tactic(auto)]
 
 ghost use Rattle.std.specs.Prelude.{◌≡◌, ◌+◌, ◌≤◌, length};
-ghost use Rattle.lines.specs.Lines.{decimal, decision_text, vote_text, version_text, found_text, lacking_text, refusal_text, logged_text, elected_text, answer_text, said_text, is_message, known, mark_text, line_of, put_at, Puts};
+ghost use Rattle.lines.specs.Lines.{decimal, decision_text, vote_text, version_text, found_text, lacking_text, refusal_text, logged_text, elected_text, answer_text, said_text, known, mark_text, line_of, put_at, Puts};
 
-use records::Marked;
 use rules::{Answer, Version, Vote};
 use terms::{Decision, Refusal, View};
 
-// What a record is told: that it was taken (a GP or a CK), or a box's answer.
+// What a record is told: that it was taken (a GP or a CK), or a box's answer. No `Option<Answer>`: to be taken is an answer too, `ok`, and `None` would not
+// say it.
 #[derive(Clone, Copy)]
 pub enum Said {
     Taken,
@@ -20,58 +22,30 @@ pub fn put_text(out: &mut [u8], at: usize, text: &[u8]) -> usize
     requires { at + length text.now ≤ length out.old }
     ensures { (result ≡ at + length text.now) × (out.new ≡ put_at out.old at text.now) }
 {
-    let mut i = 0;
-    while i < text.len() {
-        out[at + i] = text[i];
-        i += 1;
-    }
-    at + i
+    let behind = at + text.len();
+    out[at..behind].copy_from_slice(text);
+    behind
 }
 
-// A number in decimal: its digits from the last to the first, then put down together.
+// A number in decimal.
 fn put_decimal(out: &mut [u8], at: usize, x: u64) -> usize
     requires { at + 20 ≤ length out.old }
     ensures { Puts out.old at (decimal x) 20 out.new result }
 {
-    let mut digits = [0u8; 20];
-    let mut i = 19;
-    let mut v = x;
-    while 9 < v {
-        digits[i] = 48 + (v % 10) as u8;
-        v /= 10;
-        i -= 1;
-    }
-    digits[i] = 48 + v as u8;
-    put_text(out, at, &digits[i..])
-}
-
-// Whether a mark is that of a message.
-fn is_message(found: Marked) -> bool
-    ensures { result ≡ is_message found }
-{
-    match found {
-        Marked::Is(_) => true,
-        Marked::Refused(_) => false,
-    }
+    let mut digits = itoa::Buffer::new();
+    put_text(out, at, digits.format(x).as_bytes())
 }
 
 // Whether a record begins with a mark that the bench knows; one that is cut does not.
+#[tactic(auto, unfolding(crate::specs::Lines::known))]
 fn is_known(s: &[u8]) -> bool
     ensures { result ≡ known s.now }
 {
-    if s.len() < 2 {
-        return false;
-    }
-    if reading::is_mark(s, b"GP") {
-        return true;
-    }
-    if reading::is_mark(s, b"CK") {
-        return true;
-    }
-    if reading::is_mark(s, b"LM") {
-        return true;
-    }
-    is_message(reading::mark_of(s))
+    s.len() >= 2
+        && (reading::is_mark(s, b"GP")
+            || reading::is_mark(s, b"CK")
+            || reading::is_mark(s, b"LM")
+            || reading::mark_of(s).is_ok())
 }
 
 fn put_mark(out: &mut [u8], at: usize, s: &[u8]) -> usize
@@ -79,7 +53,7 @@ fn put_mark(out: &mut [u8], at: usize, s: &[u8]) -> usize
     ensures { Puts out.old at (mark_text s.now) 2 out.new result }
 {
     if is_known(s) {
-        return put_text(out, at, &s[0..2]);
+        return put_text(out, at, &s[..2]);
     }
     put_text(out, at, b"??")
 }

@@ -4,11 +4,10 @@ use native.Mathlib.Omega.{arith}
 use native.Mathlib.Nat.{add-zero}
 use mathlib.Core.Path.{◌≡◌, refl, ap, ◌∙◌}
 use mathlib.Core.Bool.{Bool, true, false, false≢true}
-use mathlib.Core.List.{List, [], ◌∷◌}
+use mathlib.Core.List.{List, ◌∷◌}
 use borrow.Author.Tests.{eqb-true, eq-eqb, ne_eqb}
 use lib.Dec.{eqb}
-use borrow.Rule.Slice.PartMut.{put_mid}
-use lib.ListN.{length, take, drop, drop_of_length-le}
+use lib.ListN.{take, drop}
 use lib.Seq.{drop-drop}
 use Rattle.terms.specs.Choice.{pick}
 use Rattle.records.specs.Numbers.{le_val, le_bytes, num_at}
@@ -96,9 +95,3 @@ over_old t k = rw (same_yes (fold_in t k))
 pub over_new : (t : List ℕ) (k : ℕ) (v : Version) → (fold_in t k).stamp.0 < v.stamp.0 → fold_over t k v ≡ fold_bytes v
 unfolding fold_over
 over_new t k v h = rw (same_no (fold_in t k) v h)
-
--- stamp and value put down one after the other
-pub fold_put : (s : List ℕ) (v : Version) → length s ≡ fold_len → put_mid 8 8 (put_mid 0 8 s (open_bytes 7 v.stamp.0)) (open_bytes 7 v.value) ≡ fold_bytes v
-fold_put s v l =
-    let z : drop 8 (drop 8 s) ≡ [] = drop-drop 8 8 s ∙ drop_of_length-le s {i = 16} (omega arith) in
-    rw z

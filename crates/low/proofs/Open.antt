@@ -1,14 +1,14 @@
 -- 18 and 19: a row that is open at or below the mark, by its outcomes.
 use Prim.Native.Nat.{ℕ, ◌<◌, ◌≤◌}
-use mathlib.Core.Path.{◌≡◌}
-use mathlib.Core.Bool.{true, false}
+use mathlib.Core.Path.{◌≡◌, refl}
+use native.Mathlib.Omega.{arith}
+use mathlib.Core.Bool.{Bool, true, false}
 use mathlib.Core.List.{List}
-use borrow.Author.Tests.{le-leb, lt-leb, ne_eqb}
-use lib.Dec.{leb}
+use borrow.Author.Tests.{eqb-false, le-leb, lt-leb, ne_eqb}
+use lib.Dec.{eqb, leb}
 use lib.ListN.{drop, get_or}
 use Rattle.terms.specs.Choice.{any}
 use Rattle.terms.specs.Checks.{old, or_else, undecided, when}
-use Rattle.terms.proofs.Checks.{links}
 use Rattle.rules.specs.Bodies.{stamp_of}
 use Rattle.rules.specs.Calls.{is_undecided, old_wrong}
 use Rattle.rules.specs.Low.{low_wrong, open_up_to, up_to}
@@ -34,20 +34,23 @@ module _ (l : ℕ) (r : List ℕ) where
     unfolding open_up_to
     closed_by e = rw (up_yes h, e)
 
-    pub open_committed : get_or r decided_at 0 ≡ 1 → false ≡ open_up_to l (entry_of r)
+    pub open_decided : 1 ≤ get_or r decided_at 0 → get_or r decided_at 0 ≤ 2 → false ≡ open_up_to l (entry_of r)
     unfolding entry_of entry_with state_at is_undecided
-    open_committed e = closed_by (rw e)
-
-    pub open_aborted : get_or r decided_at 0 ≡ 2 → false ≡ open_up_to l (entry_of r)
-    unfolding entry_of entry_with state_at is_undecided
-    open_aborted e = closed_by (rw e)
+    open_decided a b = by (eqb (get_or r decided_at 0) 1) refl
+      where
+        by : (t : Bool) → eqb (get_or r decided_at 0) 1 ≡ t → false ≡ open_up_to l (entry_of r)
+        by true e = closed_by (rw e)
+        by false e =
+            let n = eqb-false (get_or r decided_at 0) 1 e in
+            let z : get_or r decided_at 0 ≡ 2 = omega arith in
+            closed_by (rw z)
 
     pub open_yes : (get_or r decided_at 0 ≡ 1 → ⊥) → (get_or r decided_at 0 ≡ 2 → ⊥) → true ≡ open_up_to l (entry_of r)
     unfolding open_up_to entry_of entry_with state_at is_undecided
     open_yes a b = rw (up_yes h, ne_eqb (get_or r decided_at 0) 1 a, ne_eqb (get_or r decided_at 0) 2 b)
 
--- the check of a low mark, by its links
-pub low_links : (t : List ℕ) (l : ℕ) (marks : List ℕ) {x a b : ℕ} → x ≡ or_else a b → a ≡ when (leb l (low_of t)) old
-    → b ≡ when (any (open_up_to l) (entries (drop head_len t) (count_of t))) undecided → x ≡ low_wrong (box_from t (entries_of t) marks) l
+-- the check of a low mark
+pub low_is : (t : List ℕ) (l : ℕ) (marks : List ℕ)
+    → or_else (when (leb l (low_of t)) old) (when (any (open_up_to l) (entries (drop head_len t) (count_of t))) undecided) ≡ low_wrong (box_from t (entries_of t) marks) l
 unfolding low_wrong old_wrong
-low_links t l marks e p q = rw (entries_are t) (links e p q)
+low_is t l marks = rw (entries_are t)

@@ -1,7 +1,6 @@
 -- The folds of a table by the bytes of each key: a write that folds changes its own key's, and nothing behind the head.
-use Prim.Native.Nat.{ℕ, suc, ◌+◌, ◌*◌, ◌-◌, ◌<◌, ◌≤◌, zero-le}
+use Prim.Native.Nat.{ℕ, suc, ◌+◌, ◌*◌, ◌-◌, ◌<◌, ◌≤◌}
 use native.Mathlib.Omega.{arith}
-use native.Mathlib.Nat.{sub-zero}
 use mathlib.Core.Path.{◌≡◌, refl, ap, sym, ◌∙◌}
 use mathlib.Core.Bool.{Bool, true, false}
 use mathlib.Core.List.{List, [], ◌∷◌, ◌++◌}
@@ -215,9 +214,6 @@ pub record Folding (s : ℕ) (f : ℕ → Write) (n : ℕ) (t c : List ℕ) (j :
   pub rest : fold_writes s (tab f j (n - j)) c ≡ fold_writes s (tab f 0 n) t
 
 module _ {s : ℕ} {f : ℕ → Write} {n : ℕ} {t : List ℕ} where
-  pub folding_none : head_len ≤ length t → Folding s f n t t 0
-  folding_none h = record { within = zero-le; in_t = h; beside = beside_same t; rest = rw sub-zero }
-
   module _ {c : List ℕ} {j : ℕ} (h : Folding s f n t c j) where
     pub folding_more : {d : List ℕ} → j < n → d ≡ fold_write s (f j) c → Folding s f n t d (j + 1)
     unfolding fold_writes

@@ -12,7 +12,7 @@ use lib.Seq.{drop_at, drop-drop, get_or-drop, get_or-take, length-take-le, take_
 use Rattle.terms.specs.Choice.{pick, tab}
 use Rattle.terms.proofs.Scans.{tab_same}
 use Rattle.terms.specs.declared.Decision.TheVariants.{Abort as abort}
-use Rattle.rules.specs.declared.Settled.TheVariants.{None as unsettled, Is as settled}
+use Rattle.rules.specs.Answers.{settled, unsettled}
 use Rattle.rules.specs.declared.Version.{Version}
 use Rattle.rules.specs.Bodies.{stamp_of, writes_of}
 use Rattle.rules.specs.Calls.{is_committed, newest}

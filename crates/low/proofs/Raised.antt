@@ -7,6 +7,7 @@ use mathlib.Core.Bool.{Bool, true, false, ◌||◌, false≢true}
 use mathlib.Core.List.{List, [], ◌∷◌, ◌++◌, append_assoc, map}
 use lib.ListN.{length, take, drop, length-append, length-drop}
 use lib.Seq.{drop-append-add, drop_at, drop-drop, length-take-le, take_at}
+use Rattle.terms.specs.Checks.{passed}
 use Rattle.terms.specs.Choice.{any, pick, tab}
 use Rattle.terms.proofs.Checks.{less_no, pass, when_no}
 use Rattle.terms.proofs.Scans.{tab_length, tab_map, tab_same, tab_shift}
@@ -103,7 +104,7 @@ unfolding folds_of
 folds_are s = refl
 
 -- ---- the table
-module _ (cap l : ℕ) (t : List ℕ) (right : table_wrong cap t ≡ 0) where
+module _ (cap l : ℕ) (t : List ℕ) (right : table_wrong cap t ≡ passed) where
   head_in : head_len ≤ length t
   head_in = let a = table_room cap t right in omega arith
 
@@ -201,7 +202,7 @@ module _ (cap l : ℕ) (t : List ℕ) (right : table_wrong cap t ≡ 0) where
   unfolding folds_up_to
   raised_folds = folds_are (raised l t) ∙ tab_same (fold_up_to l (entries_of t) (folds_of t)) (fold_in (raised l t)) 0 512 (λ k p q. raised_fold k (omega arith))
 
-  pub raised_right : table_wrong cap (raised l t) ≡ 0
+  pub raised_right : table_wrong cap (raised l t) ≡ passed
   unfolding table_wrong
   raised_right =
       let a = table_room cap t right in

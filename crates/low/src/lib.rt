@@ -12,25 +12,16 @@ ghost use Rattle.low.specs.Passing.{RowThere, fold_entry, fold_write, fold_write
 
 use records::Write;
 use rules::Version;
-use terms::Stamp;
+use terms::{Check, Refusal, Stamp};
 
 // Whether row `i` of the rows is at or below the mark and undecided.
+#[tactic(auto, using(crate::proofs::Open::open_above, crate::proofs::Open::open_decided, crate::proofs::Open::open_yes))]
 fn open_at(t: &[u8], i: usize, low: Stamp) -> bool
     requires { (i * row_len + row_len ≤ length t.now) × WfRow (row_at t.now i) }
     ensures { result ≡ open_up_to low.0 (entry_at t.now i) }
 {
     let e = table::row(t, i);
-    if low.0 < table::stamp_of(table::tx_of(e)).0 {
-        return false;
-    }
-    let d = e[table::DECIDED_AT];
-    if d == 1 {
-        return false;
-    }
-    if d == 2 {
-        return false;
-    }
-    true
+    table::stamp_of(table::tx_of(e)).0 <= low.0 && !matches!(e[table::DECIDED_AT], 1 | 2)
 }
 
 // Whether one of the first `n` rows is.
@@ -38,35 +29,24 @@ fn any_open(t: &[u8], n: usize, low: Stamp) -> bool
     requires { Wf t.now n }
     ensures { result ≡ any (open_up_to low.0) (entries t.now n) }
 {
-    let mut i = 0;
-    while i < n {
+    for i in 0..n {
         if open_at(t, i, low) {
             return true;
         }
-        i += 1;
     }
     false
 }
 
-// 18 for a mark not above the present one, 19 where an entry at or below it is undecided, else 0.
-pub fn low_wrong(t: &[u8], low: Stamp) -> u8
+// 18 for a mark not above the present one, 19 where an entry at or below it is undecided.
+pub fn low_wrong(t: &[u8], low: Stamp) -> Check
     requires { TableThere t.now }
     ensures { (marks : List ℕ) → result ≡ low_wrong (box_from t.now (entries_of t.now) marks) low.0 }
 {
-    let old = terms::refuse_if(low.0 <= table::low_of(t).0, terms::OLD);
-    let open = terms::refuse_if(
+    terms::refuse_if(low.0 <= table::low_of(t).0, Refusal::Old)?;
+    terms::refuse_if(
         any_open(table::rows(t), table::count_of(t), low),
-        terms::UNDECIDED,
-    );
-    terms::first(old, open)
-}
-
-// A number in eight bytes.
-fn put_number(s: &mut [u8], x: u64)
-    requires { length s.old ≡ 8 }
-    ensures { s.new ≡ open_bytes 7 x }
-{
-    records::put_u64(s, x);
+        Refusal::Undecided,
+    )
 }
 
 // A folded version: stamp and value.
@@ -74,8 +54,8 @@ fn put_fold(s: &mut [u8], v: Version)
     requires { length s.old ≡ fold_len }
     ensures { s.new ≡ fold_bytes v }
 {
-    put_number(&mut s[0..8], v.stamp.0);
-    put_number(&mut s[8..16], v.value);
+    records::put_u64(&mut s[0..8], v.stamp.0);
+    records::put_u64(&mut s[8..16], v.value);
 }
 
 // A write of an entry with this stamp folds where that is above the stamp folded so far; one to a key above 511 is passed over.
@@ -110,12 +90,9 @@ fn fold_row(t: &mut [u8], i: usize)
     ensures { t.new ≡ fold_writes (stamp_of (tx_at t.old i)) (writes_of (tx_at t.old i)) t.old }
 {
     let stamp = table::stamp_of(tx_at(t, i));
-    let n = table::write_count(tx_at(t, i));
-    let mut j = 0;
-    while j < n {
+    for j in 0..table::write_count(tx_at(t, i)) {
         let w = table::write_at(tx_at(t, i), j);
         fold_write(t, stamp, w);
-        j += 1;
     }
 }
 
@@ -129,11 +106,7 @@ fn move_row(t: &mut [u8], i: usize, free: usize)
     }
     let from = table::HEAD + i * table::ROW;
     let to = table::HEAD + free * table::ROW;
-    let mut j = 0;
-    while j < table::ROW {
-        t[to + j] = t[from + j];
-        j += 1;
-    }
+    t.copy_within(from..from + table::ROW, to);
 }
 
 // Row `i` folds, is dropped or moves to the free place; the free place then.
@@ -159,11 +132,9 @@ pub fn raise(t: &mut [u8], low: Stamp)
 {
     let n = table::count_of(t);
     let mut free = 0;
-    let mut i = 0;
-    while i < n {
+    for i in 0..n {
         free = pass_row(t, i, free, low);
-        i += 1;
     }
-    put_number(&mut t[table::LOW_AT..table::FOLDS_AT], low.0);
+    records::put_u64(&mut t[table::LOW_AT..table::FOLDS_AT], low.0);
     t[0] = free as u8;
 }

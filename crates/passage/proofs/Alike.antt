@@ -4,7 +4,7 @@ use mathlib.Core.Path.{◌≡◌, refl}
 use mathlib.Core.Logic.{◌⊎◌, inl, inr}
 use mathlib.Core.List.{List}
 use native.Mathlib.Omega.{arith}
-use Rattle.terms.specs.Checks.{or_else}
+use Rattle.terms.specs.Checks.{or_else, passage}
 use Rattle.terms.proofs.Checks.{less_yes}
 use Rattle.records.specs.Contents.{largest_key}
 use Rattle.rules.specs.declared.Version.{Version}
@@ -51,7 +51,7 @@ module _ (f g i j : ℕ) (es ds : List Event) (same : SameTaken f i es g j ds) (
   -- 26 stands before what was seen
   past : (p : ℕ) (x y : Seen) → 127 < p → report_of p x ≡ report_of p y
   unfolding report_of reported_by seen_wrong passage_wrong or_else
-  past p x y h = rw (less_yes 127 p 26 h)
+  past p x y h = rw (less_yes 127 p passage h)
 
   report_same : (p : ℕ) → report_in (box_at f i es) p s ≡ report_in (box_at g j ds) p s
   report_same p = go (lt_cases 127 p)

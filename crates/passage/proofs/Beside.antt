@@ -8,6 +8,7 @@ use mathlib.Core.List.{List, Memᴰ as In}
 use native.Mathlib.Omega.{arith}
 use lib.Dec.{T, eqb, eqb_refl, leb, ltb, ltb→lt, nltb→le, nleb→lt}
 use Rattle.terms.specs.Choice.{any}
+use Rattle.terms.specs.Checks.{Check, passed}
 use Rattle.terms.specs.Group.{boxes}
 use Rattle.terms.specs.declared.Decision.TheVariants.{Commit as commit}
 use Rattle.terms.proofs.Checks.{rest_none, when_none}
@@ -28,15 +29,15 @@ use Rattle.passage.proofs.Shown.{made_by_lem, made_as}
 record Plain (p : ℕ) (seen : Seen) (b : Body) : Type 0 where
   values : Values
   tx : tx_of b ≡ passage_tx p seen (stamp_of b) values
-  fine : tx_wrong (passage_tx p seen (stamp_of b) values) ≡ 0
+  fine : tx_wrong (passage_tx p seen (stamp_of b) values) ≡ passed
 
-plain_by : (n p : ℕ) (seen : Seen) (v : Values) (b : Body) → MadeAs (made_after n (passage_tx p seen (stamp_of b) v)) b → Plain p seen b
+plain_by : (c : Check) (p : ℕ) (seen : Seen) (v : Values) (b : Body) → MadeAs (made_after c (passage_tx p seen (stamp_of b) v)) b → Plain p seen b
 unfolding made_after
-plain_by n p seen v b h =
+plain_by c p seen v b h =
     record {
       values = v;
-      tx = (made_as n p seen (stamp_of b) v b h).1;
-      fine = rest_none n _ (made_by_lem _ (passage_tx p seen (stamp_of b) v) h.0).0;
+      tx = (made_as c p seen (stamp_of b) v b h).1;
+      fine = rest_none c _ (made_by_lem _ (passage_tx p seen (stamp_of b) v) b h).0;
     }
 
 plain : (p : ℕ) (seen : Seen) (b : Body) → MadeOf p seen b → Plain p seen b

@@ -1,13 +1,11 @@
 -- What the checks that passed tell of a passage.
-use Prim.Native.Nat.{ℕ, zero, suc, ◌+◌, ◌-◌, ◌≤◌}
-use mathlib.Core.Path.{◌≡◌, refl}
+use Rattle.std.proofs.Common.{ℕ, ◌+◌, ◌-◌, ◌≤◌, ◌≡◌}
 use borrow.Author.Tests.{eq-eqb, ne_eqb}
-use Rattle.terms.specs.Refusals.{refusal_of}
+use Rattle.terms.specs.Checks.{passed}
 use Rattle.terms.proofs.Checks.{first_none, rest_none, not_less}
 use Rattle.passage.specs.declared.Values.{Values}
 use Rattle.passage.specs.declared.Seen.{Seen}
-use Rattle.passage.specs.declared.Reported.TheVariants.{Of, Refused}
-use Rattle.passage.specs.Passages.{values_of, passage_wrong, values_wrong, seen_wrong, from_lead, reported, reported_by}
+use Rattle.passage.specs.Passages.{values_of, passage_wrong, values_wrong, seen_wrong, from_lead}
 
 -- values in order
 pub record Right (v : Values) : Type 0 where
@@ -16,7 +14,7 @@ pub record Right (v : Values) : Type 0 where
   pub few : v.axles ≤ 1000
   pub hot : v.hot ≤ v.axles
 
-pub right : (v : Values) → values_wrong v ≡ 0 → Right v
+pub right : (v : Values) → values_wrong v ≡ passed → Right v
 unfolding values_wrong
 right v e =
     let r = rest_none _ _ e in
@@ -29,24 +27,23 @@ right v e =
     }
 
 -- what was seen in order
-pub seen_right : (p : ℕ) (s : Seen) → seen_wrong p s ≡ 0 → Right (values_of s)
+seen_right : (p : ℕ) (s : Seen) → seen_wrong p s ≡ passed → Right (values_of s)
 unfolding seen_wrong
 seen_right p s e = right _ (rest_none _ _ (rest_none _ _ e))
 
-pub seen_low : (p : ℕ) (s : Seen) → seen_wrong p s ≡ 0 → p ≤ 127
+module _ (p : ℕ) (s : Seen) (e : seen_wrong p s ≡ passed) where
+  pub seen_direction : (values_of s).direction ≤ 1
+  seen_direction = (seen_right p s e).direction
+
+  pub seen_few : (values_of s).axles ≤ 1000
+  seen_few = (seen_right p s e).few
+
+  pub seen_hot : (values_of s).hot ≤ (values_of s).axles
+  seen_hot = (seen_right p s e).hot
+
+pub seen_low : (p : ℕ) (s : Seen) → seen_wrong p s ≡ passed → p ≤ 127
 unfolding seen_wrong passage_wrong
 seen_low p s e = not_less _ _ _ (first_none _ _ e)
-
--- the answer, by its refusal
-pub reported_some : (n : ℕ) (v : Values) → (n ≡ 0 → ⊥) → Refused (refusal_of n) ≡ reported_by n v
-unfolding reported_by
-reported_some zero v h = absurd (h refl)
-reported_some (suc n) v h = refl
-
-pub reported_zero : (n : ℕ) (v w : Values) (hot : ℕ) → n ≡ 0 → w ≡ v → hot ≡ from_lead w.direction w.axles w.hot
-    → Of (record { train = w.train; direction = w.direction; axles = w.axles; hot = hot }) ≡ reported_by n v
-unfolding reported_by reported
-reported_zero n v w hot e q h = rw (e, h, q)
 
 -- the hot axle from the leading end, by its three cases
 module _ (d count n : ℕ) where

@@ -14,12 +14,9 @@ use Rattle.records.specs.Cutting.{tx_part}
 use Rattle.records.specs.Messages.{list_behind}
 use Rattle.records.specs.declared.Mark.{Mark}
 use Rattle.records.specs.declared.Mark.TheVariants.{PR, LG, DC, RD, IV, LD}
-use Rattle.records.specs.declared.Marked.TheVariants.{Is}
+use Rattle.std.specs.Prelude.{Ok}
 use Rattle.rules.specs.declared.Answer.TheVariants.{Done}
-use Rattle.rules.specs.declared.Settled.{Settled}
-use Rattle.rules.specs.declared.Settled.TheVariants.{Is as settled, None as unsettled}
-use Rattle.rules.specs.declared.Log.{Log}
-use Rattle.rules.specs.declared.Log.TheVariants.{Is as logged, None as unlogged}
+use Rattle.rules.specs.Answers.{Log, Settled, logged, settled, unlogged, unsettled}
 use Rattle.rules.specs.declared.Told.{Told}
 use Rattle.rules.specs.Bodies.{Body, same_body, stamp_of}
 use Rattle.rules.specs.Lists.{decision_of, for_logging, meets}
@@ -51,7 +48,7 @@ module _ (told : Told) (b : Body) (l : Vl) where
 
   by_log : (e : Entry) (o : Log) → NotDone (lg_by_log told b l e o)
   unfolding NotDone lg_by_log needing
-  by_log e (logged d v) = λ q. let z : ◌≡◌ {A = ℕ} 0 1 = cc in omega arith
+  by_log e (logged y) = λ q. let z : ◌≡◌ {A = ℕ} 0 1 = cc in omega arith
   by_log e unlogged = pick_elim NotDone (meets (for_logging told.f (decision_of l.decision)) l) (λ _. logs (some e)) (λ _. refuses _)
 
   by_decision : (e : Entry) (o : Settled) → NotDone (lg_by_decision told b l e o)
@@ -67,7 +64,7 @@ module _ (told : Told) (b : Body) (l : Vl) where
       (λ _. refuses _)
   by_entry_lem x (some e) = pick_elim NotDone (same_body e.body b) (λ _. by_decision e e.decided) (λ _. refuses _)
 
-lg_not_done : (told : Told) (x : Box) (way : EntryPoint) (m : List ℕ) → mark_by way m ≡ Is LG → NotDone (act way told x m)
+lg_not_done : (told : Told) (x : Box) (way : EntryPoint) (m : List ℕ) → mark_by way m ≡ Ok LG → NotDone (act way told x m)
 unfolding act due_act rule unless_old lg_rule
 lg_not_done told x way m q =
     guarded_elim NotDone _ _
@@ -99,13 +96,13 @@ done_by (decides l o w p) e i q = inr refl
 done_by (replaces l o w p g) e i q = inr refl
 
 pub record Came (way : EntryPoint) (m : List ℕ) (a : Act) (b : Body) : Type 0 where
-  pub mark : mark_by way m ≡ Is DC
+  pub mark : mark_by way m ≡ Ok DC
   pub body : tx_part m ≡ b
   pub names : decision_of (list_behind m).decision ≡ commit
   pub done : a.answer ≡ Done
 
 module _ (told : Told) (x : Box) (way : EntryPoint) (m : List ℕ) (e : Entry) (q : e.decided ≡ settled commit) where
-  by_mark : (k : Mark) → Listed k → mark_by way m ≡ Is k → (act way told x m).answer ≡ Done → mark_by way m ≡ Is DC
+  by_mark : (k : Mark) → Listed k → mark_by way m ≡ Ok k → (act way told x m).answer ≡ Done → mark_by way m ≡ Ok DC
   unfolding NotDone
   by_mark LG in_lg h d = absurd (lg_not_done told x way m h d)
   by_mark DC in_dc h d = h

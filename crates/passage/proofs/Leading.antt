@@ -2,10 +2,11 @@
 use Prim.Native.Nat.{ℕ, zero, suc, ◌+◌, ◌-◌, ◌≤◌}
 use mathlib.Core.Path.{◌≡◌, refl, sym, ap, ◌∙◌}
 use native.Mathlib.Omega.{arith}
+use Rattle.std.specs.Prelude.{Ok}
+use Rattle.terms.specs.Checks.{passed, or_else, versions}
 use Rattle.terms.proofs.Checks.{pass, first_none, rest_none, less_no, other_no}
 use Rattle.passage.specs.declared.Values.{Values}
 use Rattle.passage.specs.declared.Seen.{Seen}
-use Rattle.passage.specs.declared.Reported.TheVariants.{Of}
 use Rattle.passage.specs.Passages.{values_of, passage_wrong, versions_wrong, values_wrong, seen_wrong, from_lead, reported, reported_by, report_of}
 use Rattle.passage.specs.Corrections.{turned}
 use Rattle.passage.specs.Register.{NoneStays, Itself, FromTheOtherEnd, TurnedTwice, BothEnds, standing, NumbersBack}
@@ -40,22 +41,22 @@ pub turned_back : (v : Values) → v.direction ≤ 1 → turned (turned v) ≡ v
 unfolding turned
 turned_back v h = let e : 1 - (1 - v.direction) ≡ v.direction = omega arith in rw e
 
-pub stays_right : (v : Values) → values_wrong v ≡ 0 → values_wrong (turned v) ≡ 0
+pub stays_right : (v : Values) → values_wrong v ≡ passed → values_wrong (turned v) ≡ passed
 unfolding values_wrong turned
 stays_right v e = sym (pass (less_no 1 (1 - v.direction) _ (omega arith)) (sym (rest_none _ _ e)))
 
-pub report_right : (p : ℕ) (s : Seen) → seen_wrong p s ≡ 0 → report_of p s ≡ Of (reported (values_of s))
-unfolding report_of reported_by
+pub report_right : (p : ℕ) (s : Seen) → seen_wrong p s ≡ passed → report_of p s ≡ Ok (reported (values_of s))
+unfolding report_of reported_by or_else
 report_right p s e = rw e
 
 -- what a transaction leaves is in order where its values are
-pub standing_right : (p s : ℕ) (v : Values) → passage_wrong p ≡ 0 → values_wrong v ≡ 0 → seen_wrong p (standing s v) ≡ 0
+pub standing_right : (p s : ℕ) (v : Values) → passage_wrong p ≡ passed → values_wrong v ≡ passed → seen_wrong p (standing s v) ≡ passed
 unfolding seen_wrong versions_wrong standing
 standing_right p s v low e =
-    let same = other_no s s 27 refl in
+    let same = other_no s s versions refl in
     sym (pass low (pass (sym (pass same (pass same (sym same)))) (sym e)))
 
-pub report_standing : (p s : ℕ) (v : Values) → passage_wrong p ≡ 0 → values_wrong v ≡ 0 → report_of p (standing s v) ≡ Of (reported v)
+pub report_standing : (p s : ℕ) (v : Values) → passage_wrong p ≡ passed → values_wrong v ≡ passed → report_of p (standing s v) ≡ Ok (reported v)
 unfolding standing
 report_standing p s v low e = report_right p (standing s v) (standing_right p s v low e)
 

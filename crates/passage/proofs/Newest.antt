@@ -11,8 +11,7 @@ use mathlib.Core.List.{List, [], ◌∷◌, Memᴰ as In}
 use native.Mathlib.Omega.{arith}
 use lib.Dec.{T, ltb, ltb→lt, nltb→le, lt→ltb}
 use Rattle.terms.specs.declared.Decision.TheVariants.{Commit as commit, Abort as abort}
-use Rattle.rules.specs.declared.Settled.{Settled}
-use Rattle.rules.specs.declared.Settled.TheVariants.{Is as settled, None as unsettled}
+use Rattle.rules.specs.Answers.{Settled, settled, unsettled}
 use Rattle.rules.specs.Bodies.{stamp_of, writes_key}
 use Rattle.rules.specs.Table.{Entry}
 use Rattle.rules.specs.Calls.{better, newest, is_committed}

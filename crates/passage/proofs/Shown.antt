@@ -1,5 +1,5 @@
 -- What was committed last is what every RD shows; so the direction corrected twice gives the first report back.
-use Prim.Native.Nat.{ℕ, zero, suc, ◌+◌, ◌*◌, ◌≤◌, ◌<◌}
+use Prim.Native.Nat.{ℕ, ◌+◌, ◌*◌, ◌≤◌, ◌<◌}
 use mathlib.Core.Path.{◌≡◌, refl, sym, ap, ◌∙◌}
 use mathlib.Core.Option.{Option}
 use mathlib.Core.List.Memᴰ.{head as here}
@@ -8,6 +8,8 @@ use mathlib.Core.List.{List, ◌∷◌, Memᴰ as In}
 use native.Mathlib.Omega.{arith}
 use lib.Dec.{T, eqb, eqb_refl}
 use borrow.Author.Tests.{eq-eqb, ne_eqb}
+use Rattle.std.specs.Prelude.{Ok, Err}
+use Rattle.terms.specs.Checks.{Check, passed, or_else}
 use Rattle.terms.proofs.Checks.{first_none, rest_none}
 use Rattle.records.specs.declared.Write.{Write}
 use Rattle.records.specs.Tx.{Tx, tx_of, tx_in, held_tx, write_key, write_value}
@@ -19,7 +21,6 @@ use Rattle.rules.specs.System.{Event, box_at}
 use Rattle.rules.proofs.Laws.{any_of}
 use Rattle.passage.specs.declared.Values.{Values}
 use Rattle.passage.specs.declared.Seen.{Seen}
-use Rattle.passage.specs.declared.Reported.TheVariants.{Of}
 use Rattle.passage.specs.Passages.{key_at, values_of, passage_wrong, values_wrong, seen_wrong, reported, report_of}
 use Rattle.passage.specs.Corrections.{write_of, turned, passage_tx, made_by, made_after, direction_corrected, entered}
 use Rattle.passage.specs.Register.{version_at, standing, seen_in, report_in, Alone, Last, NewestTaken, never, top, LastTaken, MadeAs}
@@ -105,36 +106,36 @@ module _ (x : Box) (p s : ℕ) (seen : Seen) (v : Values) (b : Body) (made : tx_
       ∙ (value_there _ _ _ (λ (e : 4 * p + 2 ≡ 4 * p + 3). omega arith) ∙ value_here _ _ _ refl))) in
       rw (seen_is x p s, train, direction, axles, hot)
 
-  pub report_last : passage_wrong p ≡ 0 → values_wrong v ≡ 0 → report_in x p s ≡ Of (reported v)
+  pub report_last : passage_wrong p ≡ passed → values_wrong v ≡ passed → report_in x p s ≡ Ok (reported v)
   report_last low fine = report_is x p s ∙ (ap (report_of p) seen_last ∙ report_standing p (stamp_of b) v low fine)
 
 -- ---- what was made
-pub made_by_lem : (n : ℕ) (x : Tx) → (made_by n x).wrong ≡ 0 → (n ≡ 0) × ((made_by n x).tx ≡ held_tx x)
-unfolding made_by
-made_by_lem zero x e = (refl, refl)
-made_by_lem (suc n) x e = absurd (omega arith)
+pub made_by_lem : (c : Check) (x : Tx) (b : Body) → MadeAs (made_by c x) b → (c ≡ passed) × (tx_of b ≡ tx_in (held_tx x))
+unfolding made_by or_else
+made_by_lem (Ok _) x b h = (refl, h)
+made_by_lem (Err r) x b h = absurd h
 
 -- nothing was refused, and the body is the passage's transaction
-pub made_as : (n p : ℕ) (seen : Seen) (stamp : ℕ) (v : Values) (b : Body) → MadeAs (made_after n (passage_tx p seen stamp v)) b
-    → (n ≡ 0) × (tx_of b ≡ passage_tx p seen stamp v)
+pub made_as : (c : Check) (p : ℕ) (seen : Seen) (stamp : ℕ) (v : Values) (b : Body) → MadeAs (made_after c (passage_tx p seen stamp v)) b
+    → (c ≡ passed) × (tx_of b ≡ passage_tx p seen stamp v)
 unfolding made_after
-made_as n p seen stamp v b h =
-    let m = made_by_lem _ (passage_tx p seen stamp v) h.0 in
-    (first_none n _ m.0, h.1 ∙ (ap tx_in m.1 ∙ tx_held p seen stamp v))
+made_as c p seen stamp v b h =
+    let m = made_by_lem _ (passage_tx p seen stamp v) b h in
+    (first_none c _ m.0, m.1 ∙ tx_held p seen stamp v)
 
 made_low : (p : ℕ) (seen : Seen) (stamp : ℕ) (v : Values) (b : Body) → MadeAs (entered p seen stamp v) b → p ≤ 127
 unfolding entered
 made_low p seen stamp v b h = low p (first_none _ _ (made_as _ p seen stamp v b h).0)
 
 entry_by_lem : (x : Box) (p s : ℕ) (seen : Seen) (v : Values) (b : Body) → MadeAs (entered p seen (stamp_of b) v) b → Shows x p s b
-    → report_in x p s ≡ Of (reported v)
+    → report_in x p s ≡ Ok (reported v)
 unfolding entered
 entry_by_lem x p s seen v b h l =
     let m = made_as _ p seen (stamp_of b) v b h in
     report_last x p s seen v b m.1 l (first_none _ _ m.0) (rest_none _ _ m.0)
 
 correction_by : (x : Box) (p s : ℕ) (seen : Seen) (b : Body) → MadeAs (direction_corrected p seen (stamp_of b)) b → Shows x p s b
-    → report_in x p s ≡ Of (reported (turned (values_of seen)))
+    → report_in x p s ≡ Ok (reported (turned (values_of seen)))
 unfolding direction_corrected seen_wrong
 correction_by x p s seen b h l =
     let m = made_as _ p seen (stamp_of b) (turned (values_of seen)) b h in
@@ -152,7 +153,7 @@ unfolding direction_corrected standing
 corrected_values x p s seen b h l =
     ap values_of (seen_last x p s seen (turned (values_of seen)) b (made_as _ p seen (stamp_of b) (turned (values_of seen)) b h).1 l)
 
-entered_right : (p : ℕ) (seen : Seen) (stamp : ℕ) (v : Values) (b : Body) → MadeAs (entered p seen stamp v) b → values_wrong v ≡ 0
+entered_right : (p : ℕ) (seen : Seen) (stamp : ℕ) (v : Values) (b : Body) → MadeAs (entered p seen stamp v) b → values_wrong v ≡ passed
 unfolding entered
 entered_right p seen stamp v b h = rest_none _ _ (made_as _ p seen stamp v b h).0
 
@@ -166,7 +167,7 @@ back_by x y z p q r s seen v b c d hb lb hc lc hd ld =
     let second = corrected_values y p r (seen_in x p q) c hc lc in
     let back = turned_back v (right v (entered_right p seen (stamp_of b) v b hb)).direction in
     let all : turned (values_of (seen_in y p r)) ≡ v = ap turned second ∙ (ap (λ (u : Values). turned (turned u)) first ∙ back) in
-    correction_by z p s (seen_in y p r) d hd ld ∙ (ap (λ (u : Values). Of (reported u)) all ∙ sym (entry_by_lem x p q seen v b hb lb))
+    correction_by z p s (seen_in y p r) d hd ld ∙ (ap (λ (u : Values). Ok (reported u)) all ∙ sym (entry_by_lem x p q seen v b hb lb))
 
 -- ---- the claims
 pub entry_shown : EntryShown

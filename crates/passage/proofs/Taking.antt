@@ -12,10 +12,9 @@ use Rattle.records.specs.Vl.{Vl}
 use Rattle.records.specs.Cutting.{tx_part}
 use Rattle.records.specs.Messages.{list_behind}
 use Rattle.records.specs.declared.Mark.TheVariants.{DC}
-use Rattle.records.specs.declared.Marked.TheVariants.{Is}
+use Rattle.std.specs.Prelude.{Ok}
 use Rattle.rules.specs.declared.Answer.TheVariants.{Done}
-use Rattle.rules.specs.declared.Settled.{Settled}
-use Rattle.rules.specs.declared.Settled.TheVariants.{Is as settled, None as unsettled}
+use Rattle.rules.specs.Answers.{Settled, settled, unsettled}
 use Rattle.rules.specs.Bodies.{Body, stamp_of, same_body}
 use Rattle.rules.specs.Lists.{decision_of, meets, for_proof, kind_of}
 use Rattle.rules.specs.declared.Told.{Told}
@@ -122,7 +121,7 @@ module _ (told : Told) (x : Box) (way : EntryPoint) (m : List ℕ) where
       (λ h. by_rule told x (tx_part m) (not_old x.low (stamp_of (tx_part m)) h) l e)
       (refused x (tx_part m))
 
-  act_commits : mark_by way m ≡ Is DC → decision_of (list_behind m).decision ≡ commit → Commits x (tx_part m) (act way told x m)
+  act_commits : mark_by way m ≡ Ok DC → decision_of (list_behind m).decision ≡ commit → Commits x (tx_part m) (act way told x m)
   unfolding act due_act rule
   act_commits q e =
       guarded_elim (Commits x (tx_part m)) _ _

@@ -1,14 +1,15 @@
 -- A4: corrections and entries, each "in one transaction".
-use Rattle.std.specs.Prelude.{ℕ, zero, suc, ◌-◌, List, [], ◌∷◌, ◌++◌, replicate}
-use Rattle.terms.specs.Checks.{or_else}
+use Rattle.std.specs.Prelude.{ℕ, ◌-◌, List, [], ◌∷◌, ◌++◌, replicate, Result, Ok}
+use Rattle.terms.specs.Checks.{Check, or_else}
+use Rattle.terms.specs.declared.Refusal.{Refusal}
 use Rattle.records.specs.declared.Read.{Read}
 use Rattle.records.specs.declared.Write.{Write}
-use Rattle.records.specs.Tx.{Tx, held_tx, no_tx, zero_read, zero_write}
+use Rattle.records.specs.declared.Transaction.{Transaction}
+use Rattle.records.specs.Tx.{Tx, held_tx, zero_read, zero_write}
 use Rattle.records.specs.Contents.{tx_wrong}
 use Rattle.rules.specs.declared.Version.{Version}
 use Rattle.passage.specs.declared.Values.{Values}
 use Rattle.passage.specs.declared.Seen.{Seen}
-use Rattle.passage.specs.declared.Made.{Made}
 use Rattle.passage.specs.Passages.{key_of, values_of, passage_wrong, values_wrong, seen_wrong}
 
 -- "one of the direction writes 1 − direction and the other three as read"
@@ -40,21 +41,20 @@ abbrev pub eight_writes : ℕ → Values → List Write
 eight_writes p v = passage_writes p v ++ replicate 4 zero_write
 
 -- a transaction, or the refusal
-unfoldable pub made_by : ℕ → Tx → Made
-made_by zero x = record { wrong = 0; tx = held_tx x }
-made_by (suc n) x = record { wrong = suc n; tx = held_tx no_tx }
+unfoldable pub made_by : Check → Tx → Result Transaction Refusal
+made_by c x = or_else c (Ok (held_tx x))
 
 -- what was judged before, then 5, 6, 7 of the new TX
-unfoldable pub made_after : ℕ → Tx → Made
-made_after n x = made_by (or_else n (tx_wrong x)) x
+unfoldable pub made_after : Check → Tx → Result Transaction Refusal
+made_after c x = made_by (or_else c (tx_wrong x)) x
 
-unfoldable pub direction_corrected : ℕ → Seen → ℕ → Made
+unfoldable pub direction_corrected : ℕ → Seen → ℕ → Result Transaction Refusal
 direction_corrected p s stamp = made_after (seen_wrong p s) (passage_tx p s stamp (turned (values_of s)))
 
 -- a general correction: four new values, judged "after those of what was read"
-unfoldable pub corrected : ℕ → Seen → ℕ → Values → Made
+unfoldable pub corrected : ℕ → Seen → ℕ → Values → Result Transaction Refusal
 corrected p s stamp v = made_after (or_else (seen_wrong p s) (values_wrong v)) (passage_tx p s stamp v)
 
 -- an entry: the first one, or a new train at a place used before; the versions that stand there, equal or not, 0 where there is none
-unfoldable pub entered : ℕ → Seen → ℕ → Values → Made
+unfoldable pub entered : ℕ → Seen → ℕ → Values → Result Transaction Refusal
 entered p s stamp v = made_after (or_else (passage_wrong p) (values_wrong v)) (passage_tx p s stamp v)

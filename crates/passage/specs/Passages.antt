@@ -1,8 +1,9 @@
 -- A4, "The passage register": the keys of a passage, what is judged of it, and the report.
-use Rattle.std.specs.Prelude.{ℕ, zero, suc, ◌+◌, ◌-◌, ◌*◌, eqb}
+use Rattle.std.specs.Prelude.{ℕ, ◌+◌, ◌-◌, ◌*◌, eqb, Result, Ok, Err}
 use Rattle.terms.specs.Choice.{pick}
-use Rattle.terms.specs.Checks.{or_else, if_less, if_same, if_other, mark, range, passage, versions, direction, axle_count, hot_axle}
+use Rattle.terms.specs.Checks.{Check, passed, or_else, if_less, if_same, if_other, mark, range, passage, versions, direction, axle_count, hot_axle}
 use Rattle.terms.specs.declared.Key.{Key}
+use Rattle.terms.specs.declared.Refusal.{Refusal}
 use Rattle.terms.specs.Refusals.{number_of, refusal_of}
 use Rattle.rules.specs.declared.Version.{Version}
 use Rattle.rules.specs.Table.{no_version}
@@ -10,11 +11,7 @@ use Rattle.rules.specs.declared.Answer.{Answer}
 use Rattle.rules.specs.declared.Answer.TheVariants.{Voted, Decided, Logged, Done, Found, Refused as Unanswered, Elected, Raised}
 use Rattle.passage.specs.declared.Values.{Values}
 use Rattle.passage.specs.declared.Seen.{Seen}
-use Rattle.passage.specs.declared.Sight.{Sight}
-use Rattle.passage.specs.declared.Sight.TheVariants.{Of as Sees, Refused as Unseen}
 use Rattle.passage.specs.declared.Report.{Report}
-use Rattle.passage.specs.declared.Reported.{Reported}
-use Rattle.passage.specs.declared.Reported.TheVariants.{Of, Refused}
 use Rattle.passage.specs.declared.Ask.{Ask}
 use Rattle.passage.specs.declared.Asked.{Asked}
 
@@ -35,11 +32,11 @@ values_of s =
 
 -- ---- "Refusals, in this order"
 -- "26 passage above 127"
-unfoldable pub passage_wrong : ℕ → ℕ
+unfoldable pub passage_wrong : ℕ → Check
 passage_wrong p = if_less largest_passage p passage
 
 -- "27 the four committed versions not all equal"
-unfoldable pub versions_wrong : Seen → ℕ
+unfoldable pub versions_wrong : Seen → Check
 versions_wrong s =
     or_else (if_other s.train.stamp.0 s.direction.stamp.0 versions)
     (or_else (if_other s.train.stamp.0 s.axles.stamp.0 versions)
@@ -50,14 +47,14 @@ abbrev pub largest_count : ℕ
 largest_count = 1000
 
 -- "28 direction not 0 or 1; 29 count not 1 to 1000, as at a passage never written; 30 hot axle above the count"
-unfoldable pub values_wrong : Values → ℕ
+unfoldable pub values_wrong : Values → Check
 values_wrong v =
     or_else (if_less 1 v.direction direction)
     (or_else (if_less v.axles 1 axle_count)
     (or_else (if_less largest_count v.axles axle_count)
     (if_less v.axles v.hot hot_axle)))
 
-unfoldable pub seen_wrong : ℕ → Seen → ℕ
+unfoldable pub seen_wrong : ℕ → Seen → Check
 seen_wrong p s = or_else (passage_wrong p) (or_else (versions_wrong s) (values_wrong (values_of s)))
 
 -- ---- the report
@@ -69,12 +66,11 @@ unfoldable pub reported : Values → Report
 reported v =
     record { train = v.train; direction = v.direction; axles = v.axles; hot = from_lead v.direction v.axles v.hot }
 
-unfoldable pub reported_by : ℕ → Values → Reported
-reported_by zero v = Of (reported v)
-reported_by (suc n) v = Refused (refusal_of (suc n))
+unfoldable pub reported_by : Check → Values → Result Report Refusal
+reported_by c v = or_else c (Ok (reported v))
 
 -- "A report is built from the committed halves of four RD answers taken at one stamp."
-unfoldable pub report_of : ℕ → Seen → Reported
+unfoldable pub report_of : ℕ → Seen → Result Report Refusal
 report_of p s = reported_by (seen_wrong p s) (values_of s)
 
 -- ---- "four RD answers taken at one stamp"
@@ -82,19 +78,16 @@ report_of p s = reported_by (seen_wrong p s) (values_of s)
 abbrev pub ask_at : ℕ → ℕ → ℕ → Ask
 ask_at p i s = record { key = key_of p i; stamp = record { 0 = s } }
 
-abbrev pub no_ask : Ask
-no_ask = record { key = record { 0 = 0 }; stamp = record { 0 = 0 } }
-
-unfoldable pub asks_by : ℕ → ℕ → ℕ → Asked
-asks_by zero p s = record { wrong = 0; train = ask_at p 0 s; direction = ask_at p 1 s; axles = ask_at p 2 s; hot = ask_at p 3 s }
-asks_by (suc n) p s = record { wrong = suc n; train = no_ask; direction = no_ask; axles = no_ask; hot = no_ask }
+unfoldable pub asks_by : Check → ℕ → ℕ → Result Asked Refusal
+asks_by c p s =
+    or_else c (Ok (record { train = ask_at p 0 s; direction = ask_at p 1 s; axles = ask_at p 2 s; hot = ask_at p 3 s }))
 
 -- 26, then 5: "stamp 0"
-unfoldable pub asks_wrong : ℕ → ℕ → ℕ
+unfoldable pub asks_wrong : ℕ → ℕ → Check
 asks_wrong p s = or_else (passage_wrong p) (if_same s 0 range)
 
 -- all four at one stamp
-unfoldable pub asks_of : ℕ → ℕ → Asked
+unfoldable pub asks_of : ℕ → ℕ → Result Asked Refusal
 asks_of p s = asks_by (asks_wrong p s) p s
 
 -- the committed half of an answer
@@ -108,30 +101,29 @@ half Raised = no_version
 half (Found committed undecided) = committed
 half (Unanswered r) = no_version
 
--- why there is none: the box's refusal (14, 16, 1 to 5, 15, 18), or the answer to another message
-abbrev pub unfound : Answer → ℕ
-unfound (Voted v n) = mark
-unfound (Decided d) = mark
-unfound (Logged d v) = mark
-unfound (Elected d v l) = mark
-unfound Done = mark
-unfound Raised = mark
-unfound (Found committed undecided) = 0
-unfound (Unanswered r) = number_of r
+-- why there is none: the box's refusal (14, 16, 1 to 5, 15, 18), or the answer to another message; one that no RD gives is told by its number, as 17
+abbrev pub unfound : Answer → Check
+unfound (Voted v n) = Err mark
+unfound (Decided d) = Err mark
+unfound (Logged d v) = Err mark
+unfound (Elected d v l) = Err mark
+unfound Done = Err mark
+unfound Raised = Err mark
+unfound (Found committed undecided) = passed
+unfound (Unanswered r) = Err (refusal_of (number_of r))
 
-unfoldable pub sight_by : ℕ → Seen → Sight
-sight_by zero s = Sees s
-sight_by (suc n) s = Unseen (refusal_of (suc n))
+unfoldable pub sight_by : Check → Seen → Result Seen Refusal
+sight_by c s = or_else c (Ok s)
 
 abbrev pub halves : Answer → Answer → Answer → Answer → Seen
 halves a b c d = record { train = half a; direction = half b; axles = half c; hot = half d }
 
-unfoldable pub sight_of : Answer → Answer → Answer → Answer → Sight
+unfoldable pub sight_of : Answer → Answer → Answer → Answer → Result Seen Refusal
 sight_of a b c d = sight_by (or_else (unfound a) (or_else (unfound b) (or_else (unfound c) (unfound d)))) (halves a b c d)
 
-unfoldable pub report_by : ℕ → Sight → Reported
-report_by p (Sees s) = report_of p s
-report_by p (Unseen r) = Refused r
+unfoldable pub report_by : ℕ → Result Seen Refusal → Result Report Refusal
+report_by p (Ok s) = report_of p s
+report_by p (Err r) = Err r
 
-unfoldable pub report_from : ℕ → Answer → Answer → Answer → Answer → Reported
+unfoldable pub report_from : ℕ → Answer → Answer → Answer → Answer → Result Report Refusal
 report_from p a b c d = report_by p (sight_of a b c d)

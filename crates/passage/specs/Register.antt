@@ -1,17 +1,19 @@
 -- A4: what is claimed of the register, on the numbers and over the rules.
-use Rattle.std.specs.Prelude.{ℕ, ◌+◌, ◌-◌, ◌<◌, ◌≤◌, Bool, ◌≡◌, ◌⊎◌, T}
+use Rattle.std.specs.Prelude.{ℕ, ◌+◌, ◌-◌, ◌<◌, ◌≤◌, Bool, ◌≡◌, ◌⊎◌, T, Result, Ok, IsOkAnd}
 use mathlib.Core.List.{List, [], ◌∷◌, Memᴰ as In}
+use Rattle.terms.specs.Checks.{passed}
 use Rattle.terms.specs.Group.{boxes}
+use Rattle.terms.specs.declared.Refusal.{Refusal}
+use Rattle.records.specs.declared.Transaction.{Transaction}
 use Rattle.records.specs.Tx.{tx_in, tx_of}
 use Rattle.records.specs.Contents.{largest_key, rd_wrong}
 use Rattle.records.specs.Cutting.{tx_part}
 use Rattle.records.specs.Messages.{list_behind}
 use Rattle.records.specs.declared.Mark.TheVariants.{DC}
-use Rattle.records.specs.declared.Marked.TheVariants.{Is}
 use Rattle.rules.specs.declared.Version.{Version}
 use Rattle.terms.specs.declared.Decision.TheVariants.{Commit as commit}
 use Rattle.rules.specs.declared.Answer.TheVariants.{Done}
-use Rattle.rules.specs.declared.Settled.TheVariants.{Is as settled}
+use Rattle.rules.specs.Answers.{settled}
 use Rattle.rules.specs.Bodies.{Body, stamp_of, writes_key, writes_of}
 use Rattle.rules.specs.Lists.{decision_of}
 use Rattle.rules.specs.Table.{Box, Entry, folded_at, no_version}
@@ -20,9 +22,7 @@ use Rattle.rules.specs.Act.{box_after, mark_by}
 use Rattle.rules.specs.System.{Event, Fair, Proof, answer_to, box_at, how_many}
 use Rattle.passage.specs.declared.Values.{Values}
 use Rattle.passage.specs.declared.Seen.{Seen}
-use Rattle.passage.specs.declared.Made.{Made}
-use Rattle.passage.specs.declared.Reported.{Reported}
-use Rattle.passage.specs.declared.Reported.TheVariants.{Of}
+use Rattle.passage.specs.declared.Report.{Report}
 use Rattle.passage.specs.Passages.{half, key_at, values_of, seen_wrong, from_lead, reported, report_of, halves, report_from, asks_wrong}
 use Rattle.passage.specs.Corrections.{turned, direction_corrected, corrected, entered}
 
@@ -62,7 +62,7 @@ standing s v =
     }
 
 abbrev pub NumbersBack : Type 0
-NumbersBack = (p r t : ℕ) (s : Seen) → seen_wrong p s ≡ 0
+NumbersBack = (p r t : ℕ) (s : Seen) → seen_wrong p s ≡ passed
     → report_of p (standing t (turned (values_of (standing r (turned (values_of s)))))) ≡ report_of p s
 
 -- ---- over the rules
@@ -70,12 +70,12 @@ NumbersBack = (p r t : ℕ) (s : Seen) → seen_wrong p s ≡ 0
 unfoldable pub seen_in : Box → ℕ → ℕ → Seen
 seen_in x p s = halves (rd_answer x (key_at p 0) s) (rd_answer x (key_at p 1) s) (rd_answer x (key_at p 2) s) (rd_answer x (key_at p 3) s)
 
-unfoldable pub report_in : Box → ℕ → ℕ → Reported
+unfoldable pub report_in : Box → ℕ → ℕ → Result Report Refusal
 report_in x p s = report_from p (rd_answer x (key_at p 0) s) (rd_answer x (key_at p 1) s) (rd_answer x (key_at p 2) s) (rd_answer x (key_at p 3) s)
 
 -- what is asked no box refuses for its contents (5)
 abbrev pub AsksRight : Type 0
-AsksRight = (p s : ℕ) → asks_wrong p s ≡ 0 → (i : ℕ) → i < 4 → rd_wrong (key_at p i) s ≡ 0
+AsksRight = (p s : ℕ) → asks_wrong p s ≡ passed → (i : ℕ) → i < 4 → rd_wrong (key_at p i) s ≡ passed
 
 -- the four may be asked in turn: an RD raises a read mark, and alters nothing of what the others show
 abbrev pub AskedInTurn : Type 0
@@ -100,13 +100,13 @@ pub record Last (x : Box) (p s : ℕ) (b : Body) : Type 0 where
   pub alone : Alone x p s b
 
 -- a body with the transaction that was made
-abbrev pub MadeAs : Made → Body → Type 0
-MadeAs m b = (m.wrong ≡ 0) × (tx_of b ≡ tx_in m.tx)
+abbrev pub MadeAs : Result Transaction Refusal → Body → Type 0
+MadeAs m b = IsOkAnd m (λ t. tx_of b ≡ tx_in t)
 
 -- box i has taken the decision commit of b: it answered Done to a DC of it
 pub record Takes (f i : ℕ) (b : Body) (e : Event) (es : List Event) : Type 0 where
   pub here : e.box ≡ i
-  pub mark : mark_by e.entry e.message ≡ Is DC
+  pub mark : mark_by e.entry e.message ≡ Ok DC
   pub body : tx_part e.message ≡ b
   pub names : decision_of (list_behind e.message).decision ≡ commit
   pub done : answer_to f e es ≡ Done
@@ -154,11 +154,11 @@ ShowsTaken = (f i : ℕ) (es : List Event) (k s : ℕ) → k ≤ largest_key →
 -- a passage's transaction that is the last one is what every RD shows: an entry, and the direction's correction
 abbrev pub EntryShown : Type 0
 EntryShown = (x : Box) (p s : ℕ) (seen : Seen) (v : Values) (b : Body) → MadeAs (entered p seen (stamp_of b) v) b → Last x p s b
-    → report_in x p s ≡ Of (reported v)
+    → report_in x p s ≡ Ok (reported v)
 
 abbrev pub CorrectionShown : Type 0
 CorrectionShown = (x : Box) (p s : ℕ) (seen : Seen) (b : Body) → MadeAs (direction_corrected p seen (stamp_of b)) b → Last x p s b
-    → report_in x p s ≡ Of (reported (turned (values_of seen)))
+    → report_in x p s ≡ Ok (reported (turned (values_of seen)))
 
 -- "Correcting the direction twice in a row gives the first report back": b the entry, c and d the corrections made of what was seen; the box as it was
 -- looked at each time, the same one or another

@@ -1,15 +1,15 @@
 // The passage register: four keys as one product. What is seen of a passage is judged, reported from the leading end, corrected, entered.
-#![tactic(auto)]
+#![tactic(auto, unfolding(terms::proofs::Checks::chain))]
 
 ghost use Rattle.std.specs.Prelude.{◌≡◌, ◌≤◌, ◌<◌};
-ghost use Rattle.records.specs.Tx.{held_tx, no_tx};
+ghost use Rattle.records.specs.Tx.{held_tx};
 ghost use Rattle.records.specs.Contents.{tx_wrong};
-ghost use Rattle.passage.specs.Passages.{key_of, values_of, passage_wrong, versions_wrong, values_wrong, seen_wrong, from_lead, report_of, half, unfound, sight_of, report_from, asks_wrong, asks_of};
-ghost use Rattle.passage.specs.Corrections.{turned, read_of, write_of, eight_reads, eight_writes, passage_tx, made_by, made_after, direction_corrected, corrected, entered};
+ghost use Rattle.passage.specs.Passages.{key_of, values_of, passage_wrong, versions_wrong, values_wrong, seen_wrong, from_lead, report_of, half, unfound, sight_of, report_from, asks_wrong, ask_at, asks_of};
+ghost use Rattle.passage.specs.Corrections.{turned, read_of, write_of, eight_reads, eight_writes, passage_tx, made_by, direction_corrected, corrected, entered};
 
-use records::{Read, Transaction, Write};
+use records::{NO_READ, NO_WRITE, Read, Transaction, Write};
 use rules::{Answer, Version};
-use terms::{Key, Refusal, Stamp};
+use terms::{Check, Key, Refusal, Stamp};
 
 pub const LARGEST_PASSAGE: u64 = 127;
 
@@ -33,33 +33,14 @@ pub struct Seen {
     pub hot: Version,
 }
 
-// What was seen, or why an answer has no halves.
-#[derive(Clone, Copy)]
-pub enum Sight {
-    Of(Seen),
-    Refused(Refusal),
-}
-
-// What a dispatcher reads: the hot axle counted from the train's leading end.
+// What a dispatcher reads: the hot axle counted from the train's leading end. The fields are those of `Values`; the public type is its own, so that a report
+// is never taken for what stands at the keys.
 #[derive(Clone, Copy)]
 pub struct Report {
     pub train: u64,
     pub direction: u64,
     pub axles: u64,
     pub hot: u64,
-}
-
-#[derive(Clone, Copy)]
-pub enum Reported {
-    Of(Report),
-    Refused(Refusal),
-}
-
-// A correction or an entry: 0 and its transaction, or the refusal's number and no transaction.
-#[derive(Clone, Copy)]
-pub struct Made {
-    pub wrong: u8,
-    pub tx: Transaction,
 }
 
 // The key and the stamp of an RD.
@@ -69,10 +50,9 @@ pub struct Ask {
     pub stamp: Stamp,
 }
 
-// 0 and the RDs of a passage, or the refusal's number and zeros.
+// The RDs of a passage.
 #[derive(Clone, Copy)]
 pub struct Asked {
-    pub wrong: u8,
     pub train: Ask,
     pub direction: Ask,
     pub axles: Ask,
@@ -84,48 +64,34 @@ const NO_VERSION: Version = Version {
     value: 0,
 };
 
-const NO_ASK: Ask = Ask {
-    key: Key(0),
-    stamp: Stamp(0),
-};
-
-const NO_READ: Read = Read {
-    key: Key(0),
-    version: Stamp(0),
-};
-
-const NO_WRITE: Write = Write {
-    key: Key(0),
-    value: 0,
-};
-
 // ---- judged
 
-fn passage_wrong(passage: u64) -> u8
+#[tactic(auto, unfolding(terms::proofs::Checks::chain, crate::specs::Passages::passage_wrong))]
+fn passage_wrong(passage: u64) -> Check
     ensures { result ≡ passage_wrong passage }
 {
-    terms::refuse_if(LARGEST_PASSAGE < passage, terms::PASSAGE)
+    terms::refuse_if(LARGEST_PASSAGE < passage, Refusal::Passage)
 }
 
-fn versions_wrong(seen: Seen) -> u8
+#[tactic(auto, using(terms::proofs::Checks::other_when), unfolding(terms::specs::Checks::or_else, crate::specs::Passages::versions_wrong))]
+fn versions_wrong(seen: Seen) -> Check
     ensures { result ≡ versions_wrong seen }
 {
     let one = seen.train.stamp.0;
-    let direction = terms::refuse_if(one != seen.direction.stamp.0, terms::VERSIONS);
-    let axles = terms::refuse_if(one != seen.axles.stamp.0, terms::VERSIONS);
-    let hot = terms::refuse_if(one != seen.hot.stamp.0, terms::VERSIONS);
-    terms::first(direction, terms::first(axles, hot))
+    terms::refuse_if(one != seen.direction.stamp.0, Refusal::Versions)?;
+    terms::refuse_if(one != seen.axles.stamp.0, Refusal::Versions)?;
+    terms::refuse_if(one != seen.hot.stamp.0, Refusal::Versions)
 }
 
 // 28, 29, 30: no sum is made before them.
-pub fn values_wrong(v: Values) -> u8
+#[tactic(auto, unfolding(terms::proofs::Checks::chain, crate::specs::Passages::values_wrong))]
+pub fn values_wrong(v: Values) -> Check
     ensures { result ≡ values_wrong v }
 {
-    let direction = terms::refuse_if(1 < v.direction, terms::DIRECTION);
-    let none = terms::refuse_if(v.axles < 1, terms::AXLE_COUNT);
-    let many = terms::refuse_if(LARGEST_AXLE_COUNT < v.axles, terms::AXLE_COUNT);
-    let hot = terms::refuse_if(v.axles < v.hot, terms::HOT_AXLE);
-    terms::first(direction, terms::first(none, terms::first(many, hot)))
+    terms::refuse_if(1 < v.direction, Refusal::Direction)?;
+    terms::refuse_if(v.axles < 1, Refusal::AxleCount)?;
+    terms::refuse_if(LARGEST_AXLE_COUNT < v.axles, Refusal::AxleCount)?;
+    terms::refuse_if(v.axles < v.hot, Refusal::HotAxle)
 }
 
 // The values alone.
@@ -141,46 +107,42 @@ pub fn values_of(seen: Seen) -> Values
 }
 
 // 26 to 30, in their order.
-pub fn seen_wrong(passage: u64, seen: Seen) -> u8
+#[tactic(auto, unfolding(terms::proofs::Checks::chain, crate::specs::Passages::seen_wrong))]
+pub fn seen_wrong(passage: u64, seen: Seen) -> Check
     ensures { result ≡ seen_wrong passage seen }
 {
-    let values = values_wrong(values_of(seen));
-    let place = passage_wrong(passage);
-    let versions = versions_wrong(seen);
-    terms::first(place, terms::first(versions, values))
+    passage_wrong(passage)?;
+    versions_wrong(seen)?;
+    values_wrong(values_of(seen))
 }
 
 // ---- reported
 
 // The hot axle from the leading end.
+#[tactic(auto, unfolding(crate::specs::Passages::from_lead))]
 fn from_lead(direction: u64, axles: u64, hot: u64) -> u64
     requires { (axles ≤ 1000) × (hot ≤ axles) }
     ensures { result ≡ from_lead direction axles hot }
 {
-    if hot == 0 {
-        return 0;
+    if hot == 0 || direction == 0 {
+        hot
+    } else {
+        axles + 1 - hot
     }
-    if direction == 0 {
-        return hot;
-    }
-    axles + 1 - hot
 }
 
 // The report of a passage, from what was seen of it.
-pub fn report_of(passage: u64, seen: Seen) -> Reported
+#[tactic(auto, using(crate::proofs::Checked::seen_few, crate::proofs::Checked::seen_hot), unfolding(terms::proofs::Checks::chain, crate::specs::Passages::report_of, crate::specs::Passages::reported_by, crate::specs::Passages::reported))]
+pub fn report_of(passage: u64, seen: Seen) -> Result<Report, Refusal>
     ensures { result ≡ report_of passage seen }
 {
-    let wrong = seen_wrong(passage, seen);
-    if wrong != 0 {
-        return Reported::Refused(Refusal::of(wrong));
-    }
+    seen_wrong(passage, seen)?;
     let v = values_of(seen);
-    let hot = from_lead(v.direction, v.axles, v.hot);
-    Reported::Of(Report {
+    Ok(Report {
         train: v.train,
         direction: v.direction,
         axles: v.axles,
-        hot,
+        hot: from_lead(v.direction, v.axles, v.hot),
     })
 }
 
@@ -194,42 +156,34 @@ fn key_at(passage: u64, i: u64) -> Key
     Key((4 * passage + i) as u16)
 }
 
-fn asks_wrong(passage: u64, stamp: Stamp) -> u8
+fn ask_at(passage: u64, i: u64, stamp: Stamp) -> Ask
+    requires { (passage ≤ 127) × (i < 4) }
+    ensures { result ≡ ask_at passage i stamp.0 }
+{
+    let key = key_at(passage, i);
+    Ask { key, stamp }
+}
+
+#[tactic(auto, unfolding(terms::proofs::Checks::chain, crate::specs::Passages::asks_wrong))]
+fn asks_wrong(passage: u64, stamp: Stamp) -> Check
     ensures { result ≡ asks_wrong passage stamp.0 }
 {
-    let place = passage_wrong(passage);
-    let zero = terms::refuse_if(stamp.0 == 0, terms::RANGE);
-    terms::first(place, zero)
+    passage_wrong(passage)?;
+    terms::refuse_if(stamp.0 == 0, Refusal::Range)
 }
 
 // The four RDs of a passage at one stamp: what a report and a correction are read from.
-pub fn asks(passage: u64, stamp: Stamp) -> Asked
+#[tactic(auto, using(crate::proofs::Making::asks_low), unfolding(terms::proofs::Checks::chain, crate::specs::Passages::asks_of, crate::specs::Passages::asks_by))]
+pub fn asks(passage: u64, stamp: Stamp) -> Result<Asked, Refusal>
     ensures { result ≡ asks_of passage stamp.0 }
 {
-    let wrong = asks_wrong(passage, stamp);
-    if wrong != 0 {
-        return Asked {
-            wrong,
-            train: NO_ASK,
-            direction: NO_ASK,
-            axles: NO_ASK,
-            hot: NO_ASK,
-        };
-    }
-    let train = key_at(passage, 0);
-    let direction = key_at(passage, 1);
-    let axles = key_at(passage, 2);
-    let hot = key_at(passage, 3);
-    Asked {
-        wrong: 0,
-        train: Ask { key: train, stamp },
-        direction: Ask {
-            key: direction,
-            stamp,
-        },
-        axles: Ask { key: axles, stamp },
-        hot: Ask { key: hot, stamp },
-    }
+    asks_wrong(passage, stamp)?;
+    Ok(Asked {
+        train: ask_at(passage, 0, stamp),
+        direction: ask_at(passage, 1, stamp),
+        axles: ask_at(passage, 2, stamp),
+        hot: ask_at(passage, 3, stamp),
+    })
 }
 
 // An answer's committed half; 0 and 0 where it has none.
@@ -237,43 +191,38 @@ fn half(a: Answer) -> Version
     ensures { result ≡ half a }
 {
     match a {
-        Answer::Voted(_, _) => NO_VERSION,
-        Answer::Decided(_) => NO_VERSION,
-        Answer::Logged(_, _) => NO_VERSION,
-        Answer::Done => NO_VERSION,
         Answer::Found(committed, _) => committed,
-        Answer::Refused(_) => NO_VERSION,
-        Answer::Elected(_, _, _) => NO_VERSION,
-        Answer::Raised => NO_VERSION,
+        _ => NO_VERSION,
     }
 }
 
-// Why an answer has no halves: its refusal's number, or 2 where another message was answered.
-fn unfound(a: Answer) -> u8
+// Why an answer has no halves: its refusal, or that another message was answered.
+fn unfound(a: Answer) -> Check
     ensures { result ≡ unfound a }
 {
     match a {
-        Answer::Voted(_, _) => terms::MARK,
-        Answer::Decided(_) => terms::MARK,
-        Answer::Logged(_, _) => terms::MARK,
-        Answer::Done => terms::MARK,
-        Answer::Found(_, _) => 0,
-        Answer::Refused(r) => r.number(),
-        Answer::Elected(_, _, _) => terms::MARK,
-        Answer::Raised => terms::MARK,
+        Answer::Found(_, _) => Ok(()),
+        // By its number: a refusal that no RD gives, 9 to 13 and 21 to 24, is told as 17, and what is answered may not change.
+        Answer::Refused(r) => Err(Refusal::of(r.number())),
+        _ => Err(Refusal::Mark),
     }
 }
 
 // What the answers to a passage's four RDs show.
-pub fn sight_of(train: Answer, direction: Answer, axles: Answer, hot: Answer) -> Sight
+#[tactic(auto, unfolding(terms::proofs::Checks::chain, crate::specs::Passages::sight_of, crate::specs::Passages::sight_by))]
+pub fn sight_of(
+    train: Answer,
+    direction: Answer,
+    axles: Answer,
+    hot: Answer,
+) -> Result<Seen, Refusal>
     ensures { result ≡ sight_of train direction axles hot }
 {
-    let rest = terms::first(unfound(axles), unfound(hot));
-    let wrong = terms::first(unfound(train), terms::first(unfound(direction), rest));
-    if wrong != 0 {
-        return Sight::Refused(Refusal::of(wrong));
-    }
-    Sight::Of(Seen {
+    unfound(train)?;
+    unfound(direction)?;
+    unfound(axles)?;
+    unfound(hot)?;
+    Ok(Seen {
         train: half(train),
         direction: half(direction),
         axles: half(axles),
@@ -282,23 +231,21 @@ pub fn sight_of(train: Answer, direction: Answer, axles: Answer, hot: Answer) ->
 }
 
 // The report from those answers.
+#[tactic(auto, unfolding(terms::proofs::Checks::chain, crate::specs::Passages::report_from, crate::specs::Passages::report_by))]
 pub fn read_report(
     passage: u64,
     train: Answer,
     direction: Answer,
     axles: Answer,
     hot: Answer,
-) -> Reported
+) -> Result<Report, Refusal>
     ensures { result ≡ report_from passage train direction axles hot }
 {
-    let sight = sight_of(train, direction, axles, hot);
-    match sight {
-        Sight::Of(seen) => report_of(passage, seen),
-        Sight::Refused(r) => Reported::Refused(r),
-    }
+    let seen = sight_of(train, direction, axles, hot)?;
+    report_of(passage, seen)
 }
 
-// ---- corrected and entered
+// ---- entered and corrected
 
 // The i-th key read at the version seen, and written.
 fn read_at(passage: u64, i: u64, seen: Version) -> Read
@@ -308,7 +255,7 @@ fn read_at(passage: u64, i: u64, seen: Version) -> Read
     let key = key_at(passage, i);
     Read {
         key,
-        version: Stamp(seen.stamp.0),
+        version: seen.stamp,
     }
 }
 
@@ -324,15 +271,11 @@ fn reads_of(passage: u64, seen: Seen) -> [Read; 8]
     requires { passage ≤ 127 }
     ensures { result ≡ eight_reads passage seen }
 {
-    let train = seen.train;
-    let direction = seen.direction;
-    let axles = seen.axles;
-    let hot = seen.hot;
     [
-        read_at(passage, 0, train),
-        read_at(passage, 1, direction),
-        read_at(passage, 2, axles),
-        read_at(passage, 3, hot),
+        read_at(passage, 0, seen.train),
+        read_at(passage, 1, seen.direction),
+        read_at(passage, 2, seen.axles),
+        read_at(passage, 3, seen.hot),
         NO_READ,
         NO_READ,
         NO_READ,
@@ -340,6 +283,7 @@ fn reads_of(passage: u64, seen: Seen) -> [Read; 8]
     ]
 }
 
+// Beside `reads_of`: what stands at each place differs in type, and a function for four and four more zeros would be no plainer.
 fn writes_of(passage: u64, v: Values) -> [Write; 8]
     requires { passage ≤ 127 }
     ensures { result ≡ eight_writes passage v }
@@ -361,94 +305,63 @@ fn transaction(passage: u64, seen: Seen, stamp: Stamp, v: Values) -> Transaction
     requires { passage ≤ 127 }
     ensures { (result ≡ held_tx (passage_tx passage seen stamp.0 v)) × (result.r ≤ 8) × (result.w ≤ 8) }
 {
-    let reads = reads_of(passage, seen);
-    let writes = writes_of(passage, v);
     Transaction {
         stamp,
         r: 4,
         w: 4,
-        reads,
-        writes,
-    }
-}
-
-fn no_transaction() -> Transaction
-    ensures { result ≡ held_tx no_tx }
-{
-    Transaction {
-        stamp: Stamp(0),
-        r: 0,
-        w: 0,
-        reads: [NO_READ; 8],
-        writes: [NO_WRITE; 8],
+        reads: reads_of(passage, seen),
+        writes: writes_of(passage, v),
     }
 }
 
 // The transaction, or what it is refused with: 5, 6 or 7.
-fn make(passage: u64, seen: Seen, stamp: Stamp, v: Values) -> Made
+#[tactic(auto, using(crate::proofs::Making::tx_held), unfolding(terms::proofs::Checks::chain, crate::specs::Corrections::made_by))]
+fn make(passage: u64, seen: Seen, stamp: Stamp, v: Values) -> Result<Transaction, Refusal>
     requires { passage ≤ 127 }
     ensures { result ≡ made_by (tx_wrong (passage_tx passage seen stamp.0 v)) (passage_tx passage seen stamp.0 v) }
 {
     let tx = transaction(passage, seen, stamp, v);
-    let wrong = contents::tx_wrong(tx);
-    if wrong != 0 {
-        let none = no_transaction();
-        return Made { wrong, tx: none };
-    }
-    Made { wrong, tx }
+    contents::tx_wrong(tx)?;
+    Ok(tx)
 }
 
-// The transaction where nothing was refused before it.
-fn make_after(wrong: u8, passage: u64, seen: Seen, stamp: Stamp, v: Values) -> Made
-    requires { wrong ≡ 0 → passage ≤ 127 }
-    ensures { result ≡ made_after wrong (passage_tx passage seen stamp.0 v) }
+// An entry: four values over whatever stands there.
+#[tactic(auto, using(crate::proofs::Making::low), unfolding(terms::proofs::Checks::chain, crate::specs::Corrections::entered, crate::specs::Corrections::made_after, crate::specs::Corrections::made_by))]
+pub fn enter(passage: u64, seen: Seen, stamp: Stamp, v: Values) -> Result<Transaction, Refusal>
+    ensures { result ≡ entered passage seen stamp.0 v }
 {
-    if wrong != 0 {
-        let none = no_transaction();
-        return Made { wrong, tx: none };
-    }
+    passage_wrong(passage)?;
+    values_wrong(v)?;
+    make(passage, seen, stamp, v)
+}
+
+// A general correction: four new values, judged after those that were seen.
+#[tactic(auto, using(crate::proofs::Checked::seen_low), unfolding(terms::proofs::Checks::chain, crate::specs::Corrections::corrected, crate::specs::Corrections::made_after, crate::specs::Corrections::made_by))]
+pub fn correct(passage: u64, seen: Seen, stamp: Stamp, v: Values) -> Result<Transaction, Refusal>
+    ensures { result ≡ corrected passage seen stamp.0 v }
+{
+    seen_wrong(passage, seen)?;
+    values_wrong(v)?;
     make(passage, seen, stamp, v)
 }
 
 // The other direction, all else as it was.
+#[tactic(auto, unfolding(crate::specs::Corrections::turned))]
 fn turned(v: Values) -> Values
     requires { v.direction ≤ 1 }
     ensures { result ≡ turned v }
 {
     Values {
-        train: v.train,
         direction: 1 - v.direction,
-        axles: v.axles,
-        hot: v.hot,
+        ..v
     }
 }
 
 // The direction's correction: 1 - direction, and the other three as read.
-pub fn correct_direction(passage: u64, seen: Seen, stamp: Stamp) -> Made
+#[tactic(auto, using(crate::proofs::Checked::seen_low, crate::proofs::Checked::seen_direction), unfolding(terms::proofs::Checks::chain, crate::specs::Corrections::direction_corrected, crate::specs::Corrections::made_after, crate::specs::Corrections::made_by))]
+pub fn correct_direction(passage: u64, seen: Seen, stamp: Stamp) -> Result<Transaction, Refusal>
     ensures { result ≡ direction_corrected passage seen stamp.0 }
 {
-    let v = values_of(seen);
-    let wrong = seen_wrong(passage, seen);
-    if wrong != 0 {
-        return make_after(wrong, passage, seen, stamp, v);
-    }
-    make_after(wrong, passage, seen, stamp, turned(v))
-}
-
-// A general correction: four new values, judged after those that were seen.
-pub fn correct(passage: u64, seen: Seen, stamp: Stamp, v: Values) -> Made
-    ensures { result ≡ corrected passage seen stamp.0 v }
-{
-    let was = seen_wrong(passage, seen);
-    let new = values_wrong(v);
-    make_after(terms::first(was, new), passage, seen, stamp, v)
-}
-
-// An entry: four values over whatever stands there.
-pub fn enter(passage: u64, seen: Seen, stamp: Stamp, v: Values) -> Made
-    ensures { result ≡ entered passage seen stamp.0 v }
-{
-    let place = passage_wrong(passage);
-    let new = values_wrong(v);
-    make_after(terms::first(place, new), passage, seen, stamp, v)
+    seen_wrong(passage, seen)?;
+    make(passage, seen, stamp, turned(values_of(seen)))
 }

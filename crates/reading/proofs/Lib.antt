@@ -1,4 +1,3 @@
 pub mod Cuts
 pub mod Answers
 pub mod Due
-pub mod Marks

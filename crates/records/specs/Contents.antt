@@ -1,7 +1,7 @@
 -- "Then contents: all of TX for 5, then 6, then 7; a list .. for 8, then 5, then 6. RD has 5". A VS has 5, then 6.
 use Rattle.std.specs.Prelude.{ℕ, ◌+◌, Bool, ◌||◌, List, map, eqb, ltb, leb}
 use Rattle.terms.specs.Choice.{any, falls}
-use Rattle.terms.specs.Checks.{or_else, when, if_less, if_same, count, range, order, misbehaviour, code}
+use Rattle.terms.specs.Checks.{Check, or_else, when, if_less, if_same, count, range, order, misbehaviour, code}
 use Rattle.terms.specs.Group.{boxes}
 use Rattle.records.specs.declared.Read.{Read}
 use Rattle.records.specs.declared.Write.{Write}
@@ -13,11 +13,11 @@ use Rattle.records.specs.declared.ViewMark.TheVariants.{VS, EL}
 use Rattle.records.specs.Views.{Views, ballot_pair}
 
 -- "count: r or w above 8, r + w = 0"
-unfoldable pub counts_wrong : ℕ → ℕ → ℕ
+unfoldable pub counts_wrong : ℕ → ℕ → Check
 counts_wrong r w = or_else (if_less 8 r count) (or_else (if_less 8 w count) (if_same (r + w) 0 count))
 
 -- "count: .. list count 0 or above 26"
-unfoldable pub count_wrong : ℕ → ℕ
+unfoldable pub count_wrong : ℕ → Check
 count_wrong n = or_else (if_same n 0 count) (if_less 26 n count)
 
 -- "keys 0 to 511"
@@ -36,7 +36,7 @@ abbrev pub too_new : ℕ → Read → Bool
 too_new s r = leb s (read_version r)
 
 -- "range: stamp 0, key above 511"; "order: keys .. not strictly rising"; "misbehaviour: a read version at or above the own stamp"
-unfoldable pub tx_wrong : Tx → ℕ
+unfoldable pub tx_wrong : Tx → Check
 tx_wrong x =
     or_else (if_same x.stamp 0 range)
     (or_else (when (any read_wide x.reads) range)
@@ -46,7 +46,7 @@ tx_wrong x =
     (when (any (too_new x.stamp) x.reads) misbehaviour)))))
 
 -- "not 1 or 2"
-unfoldable pub code_wrong : ℕ → ℕ
+unfoldable pub code_wrong : ℕ → Check
 code_wrong n = or_else (if_same n 0 code) (if_less 2 n code)
 
 abbrev pub answer_odd : Pair → Bool
@@ -60,11 +60,11 @@ abbrev pub pair_box : Pair → ℕ
 pair_box p = p.number
 
 -- "range: .. box number n or more"; "order: .. box numbers not strictly rising"
-abbrev pub boxes_wrong : ℕ → List Pair → ℕ
+abbrev pub boxes_wrong : ℕ → List Pair → Check
 boxes_wrong f ps = or_else (when (any (box_wide f) ps) range) (when (falls pair_box 0 ps) order)
 
 -- "code: kind, decision or answer not 1 or 2"; then the boxes
-unfoldable pub list_wrong : ℕ → Vl → ℕ
+unfoldable pub list_wrong : ℕ → Vl → Check
 list_wrong f l =
     or_else (code_wrong l.kind)
     (or_else (code_wrong l.decision)
@@ -76,11 +76,11 @@ abbrev pub logs : ℕ
 logs = 2
 
 -- the list of an LG: "code: .. kind 2 in an LG"
-unfoldable pub log_list_wrong : ℕ → Vl → ℕ
+unfoldable pub log_list_wrong : ℕ → Vl → Check
 log_list_wrong f l = or_else (if_same l.kind logs code) (list_wrong f l)
 
 -- a VS: the boxes; an EL: "8 (decision, answers), 5 (leader or a box n or more), 6"
-unfoldable pub views_wrong : ViewMark → ℕ → Views → ℕ
+unfoldable pub views_wrong : ViewMark → ℕ → Views → Check
 views_wrong VS f l = boxes_wrong f (map ballot_pair l.ballots)
 views_wrong EL f l =
     or_else (code_wrong l.decision)
@@ -89,5 +89,5 @@ views_wrong EL f l =
     (boxes_wrong f (map ballot_pair l.ballots))))
 
 -- an RD's key and stamp, without the clock
-unfoldable pub rd_wrong : ℕ → ℕ → ℕ
+unfoldable pub rd_wrong : ℕ → ℕ → Check
 rd_wrong k s = or_else (if_less largest_key k range) (if_same s 0 range)

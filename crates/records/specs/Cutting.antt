@@ -1,6 +1,6 @@
 -- "cutting, record by record: mark bytes present (1), mark right (2), count bytes present (1), counts (3), rest present (1); then 4".
 use Rattle.std.specs.Prelude.{ℕ, ◌+◌, List, [], ◌∷◌, length, get_or, take, drop}
-use Rattle.terms.specs.Checks.{or_else, if_less, if_other, short, mark, trailing}
+use Rattle.terms.specs.Checks.{Check, or_else, if_less, if_other, short, mark, trailing}
 use Rattle.records.specs.declared.Mark.{Mark}
 use Rattle.records.specs.declared.Mark.TheVariants.{PR, LG, DC, RD, IV, LD}
 use Rattle.records.specs.Tx.{mark_tx, r_count, w_count, tx_len}
@@ -11,14 +11,14 @@ use Rattle.records.specs.Views.{ballots_from, view_mark_bytes, views_count, view
 use Rattle.records.specs.Contents.{counts_wrong, count_wrong}
 
 -- "mark bytes present (1), mark right (2)"
-unfoldable pub mark_wrong : List ℕ → List ℕ → ℕ
+unfoldable pub mark_wrong : List ℕ → List ℕ → Check
 mark_wrong due s =
     or_else (if_less (length s) 2 short)
     (or_else (if_other (get_or s 0 0) (get_or due 0 0) mark)
     (if_other (get_or s 1 0) (get_or due 1 0) mark))
 
 -- a TX at the front
-unfoldable pub tx_cut : List ℕ → ℕ
+unfoldable pub tx_cut : List ℕ → Check
 tx_cut s =
     or_else (mark_wrong mark_tx s)
     (or_else (if_less (length s) 4 short)
@@ -26,7 +26,7 @@ tx_cut s =
     (if_less (length s) (tx_len s) short)))
 
 -- a VL at the front
-unfoldable pub vl_cut : List ℕ → ℕ
+unfoldable pub vl_cut : List ℕ → Check
 vl_cut s =
     or_else (mark_wrong mark_vl s)
     (or_else (if_less (length s) 5 short)
@@ -34,7 +34,7 @@ vl_cut s =
     (if_less (length s) (vl_len s) short)))
 
 -- a VS or an EL at the front
-unfoldable pub views_cut : ViewMark → List ℕ → ℕ
+unfoldable pub views_cut : ViewMark → List ℕ → Check
 views_cut k s =
     or_else (mark_wrong (view_mark_bytes k) s)
     (or_else (if_less (length s) (ballots_from k) short)
@@ -42,7 +42,7 @@ views_cut k s =
     (if_less (length s) (views_len k s) short)))
 
 -- "trailing: bytes after the message"
-unfoldable pub behind_wrong : ℕ → List ℕ → ℕ
+unfoldable pub behind_wrong : ℕ → List ℕ → Check
 behind_wrong n s = if_less n (length s) trailing
 
 -- "PR: "PR", TX. LG and DC: mark, TX, VL. RD: "RD", key (2), stamp (8)"; A5, IV: "IV", TX, VS. LD: "LD", TX, EL
@@ -89,11 +89,11 @@ unfoldable pub list_part : List ℕ → List ℕ
 list_part m = drop (tx_len (behind_mark m)) (behind_mark m)
 
 -- a TX and a VL behind the mark
-unfoldable pub listed_cut : List ℕ → ℕ
+unfoldable pub listed_cut : List ℕ → Check
 listed_cut m = or_else (tx_cut (behind_mark m)) (vl_cut (list_part m))
 
 -- a TX and a VS behind the mark, or a TX and an EL
-unfoldable pub viewed_cut : ViewMark → List ℕ → ℕ
+unfoldable pub viewed_cut : ViewMark → List ℕ → Check
 viewed_cut k m = or_else (tx_cut (behind_mark m)) (views_cut k (list_part m))
 
 -- the length of an RD
@@ -101,7 +101,7 @@ abbrev pub rd_len : ℕ
 rd_len = 12
 
 -- what follows the mark
-unfoldable pub rest_cut : Mark → List ℕ → ℕ
+unfoldable pub rest_cut : Mark → List ℕ → Check
 rest_cut PR m = tx_cut (behind_mark m)
 rest_cut LG m = listed_cut m
 rest_cut DC m = listed_cut m
@@ -110,7 +110,7 @@ rest_cut IV m = viewed_cut VS m
 rest_cut LD m = viewed_cut EL m
 
 -- a message at the front, where one with this mark is due
-unfoldable pub message_cut : Mark → List ℕ → ℕ
+unfoldable pub message_cut : Mark → List ℕ → Check
 message_cut k m = or_else (mark_wrong (mark_bytes k) m) (rest_cut k m)
 
 -- its length

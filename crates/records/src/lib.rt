@@ -1,28 +1,29 @@
-// The records' values: a transaction, a list of answers, and what reading and writing answer. Numbers are little-endian.
+// The records' values: a transaction, a list of answers, and what is read of a message. Numbers are little-endian.
 #![tactic(auto)]
 
-ghost use Rattle.std.specs.Prelude.{◌≡◌, ◌+◌, ◌*◌, ◌<◌, ◌≤◌, length, get_or};
+ghost use Rattle.std.specs.Prelude.{ℕ, ◌≡◌, ◌+◌, ◌*◌, ◌<◌, ◌≤◌, length, get_or};
 ghost use Rattle.records.specs.Numbers.{num_at, le_bytes};
 ghost use Rattle.records.specs.Tx.{read_at, write_at, padded, zero_read, zero_write, tx_len, tx_of, held_tx, TxThere};
 ghost use Rattle.records.specs.Cutting.{mark_bytes, carrier};
 ghost use Rattle.records.specs.Views.{view_mark_bytes, count_at, ballots_from, ballot_len, views_len, ballot_from, ballot_at, zero_ballot, views_of, held_views, ViewsThere};
 ghost use Rattle.records.specs.Vl.{view_len, view_of, pair_at, zero_pair, vl_len, vl_of, held_list, VlThere};
 
-use terms::{Key, Refusal, Stamp, View};
+use terms::{Key, Stamp, View};
 
-#[derive(Clone, Copy)]
+#[derive(Clone, Copy, PartialEq, Eq)]
 pub struct Read {
     pub key: Key,
     pub version: Stamp,
 }
 
-#[derive(Clone, Copy)]
+#[derive(Clone, Copy, PartialEq, Eq)]
 pub struct Write {
     pub key: Key,
     pub value: u64,
 }
 
-// Up to eight reads and up to eight writes: the first r and the first w places count.
+// Up to eight reads and up to eight writes: the first r and the first w places count. Arrays with their counts, here and in the lists, and no `Vec`: nothing of
+// a box asks for a heap, and docs/FORMS.md binds it.
 #[derive(Clone, Copy)]
 pub struct Transaction {
     pub stamp: Stamp,
@@ -32,8 +33,9 @@ pub struct Transaction {
     pub writes: [Write; 8],
 }
 
-// What a box is said to have answered: 1 commit, 2 abort.
-#[derive(Clone, Copy)]
+// What a box is said to have answered: 1 commit, 2 abort. Numbers here and in the lists, and no enums: a record may say any byte, and what is wrong with it
+// `list_wrong` and `views_wrong` of contents tell.
+#[derive(Clone, Copy, PartialEq, Eq)]
 pub struct Pair {
     pub number: u8,
     pub answer: u8,
@@ -50,7 +52,7 @@ pub struct VoteList {
 }
 
 // What a box is said to have told: its view, and in an election answer the decision that it had logged (1 commit, 2 abort).
-#[derive(Clone, Copy)]
+#[derive(Clone, Copy, PartialEq, Eq)]
 pub struct Ballot {
     pub number: u8,
     pub answer: u8,
@@ -67,8 +69,54 @@ pub struct ViewList {
     pub ballots: [Ballot; 26],
 }
 
+// Zeros, where there is none: of a transaction, of a list, of what boxes told.
+pub const NO_READ: Read = Read {
+    key: Key(0),
+    version: Stamp(0),
+};
+
+pub const NO_WRITE: Write = Write {
+    key: Key(0),
+    value: 0,
+};
+
+pub const NO_TX: Transaction = Transaction {
+    stamp: Stamp(0),
+    r: 0,
+    w: 0,
+    reads: [NO_READ; 8],
+    writes: [NO_WRITE; 8],
+};
+
+pub const NO_PAIR: Pair = Pair {
+    number: 0,
+    answer: 0,
+};
+
+pub const NO_LIST: VoteList = VoteList {
+    kind: 0,
+    decision: 0,
+    view: View(0),
+    count: 0,
+    pairs: [NO_PAIR; 26],
+};
+
+pub const NO_BALLOT: Ballot = Ballot {
+    number: 0,
+    answer: 0,
+    view: View(0),
+};
+
+pub const NO_VIEWS: ViewList = ViewList {
+    leader: 0,
+    decision: 0,
+    view: View(0),
+    count: 0,
+    ballots: [NO_BALLOT; 26],
+};
+
 // The six messages, by their marks.
-#[derive(Clone, Copy)]
+#[derive(Clone, Copy, PartialEq, Eq)]
 pub enum Mark {
     PR,
     LG,
@@ -95,7 +143,7 @@ impl Mark {
 }
 
 // The two lists of views, by their marks: an IV carries the one, an LD the other.
-#[derive(Clone, Copy)]
+#[derive(Clone, Copy, PartialEq, Eq)]
 pub enum ViewMark {
     VS,
     EL,
@@ -143,48 +191,15 @@ impl ViewMark {
     }
 }
 
-// Which message it is, or its refusal's number.
+// A message that was read: what it carries, by its mark.
 #[derive(Clone, Copy)]
-pub enum Marked {
-    Is(Mark),
-    Refused(u8),
-}
-
-// What was read of a message: which it is, or its refusal; its transaction, its list and its views; an RD's key and stamp.
-#[derive(Clone, Copy)]
-pub struct Reading {
-    pub found: Marked,
-    pub tx: Transaction,
-    pub list: VoteList,
-    pub views: ViewList,
-    pub key: Key,
-    pub stamp: Stamp,
-}
-
-// A TX, a VL, a VS or an EL by itself: 0 and the value, or the refusal's number and no value.
-#[derive(Clone, Copy)]
-pub struct TxReading {
-    pub wrong: u8,
-    pub tx: Transaction,
-}
-
-#[derive(Clone, Copy)]
-pub struct VlReading {
-    pub wrong: u8,
-    pub list: VoteList,
-}
-
-#[derive(Clone, Copy)]
-pub struct ViewsReading {
-    pub wrong: u8,
-    pub views: ViewList,
-}
-
-// How many bytes were written.
-#[derive(Clone, Copy)]
-pub enum Written {
-    Wrote(usize),
-    Refused(Refusal),
+pub enum Message {
+    PR(Transaction),
+    LG(Transaction, VoteList),
+    DC(Transaction, VoteList),
+    RD(Key, Stamp),
+    IV(Transaction, ViewList),
+    LD(Transaction, ViewList),
 }
 
 pub fn wide(x: u8) -> usize
@@ -204,15 +219,7 @@ pub fn u64_at(s: &[u8], at: usize) -> u64
     requires { at + 8 ≤ length s.now }
     ensures { result ≡ num_at 8 at s.now }
 {
-    let b0 = widened(s[at]);
-    let b1 = widened(s[at + 1]);
-    let b2 = widened(s[at + 2]);
-    let b3 = widened(s[at + 3]);
-    let b4 = widened(s[at + 4]);
-    let b5 = widened(s[at + 5]);
-    let b6 = widened(s[at + 6]);
-    let b7 = widened(s[at + 7]);
-    b0 + 256 * (b1 + 256 * (b2 + 256 * (b3 + 256 * (b4 + 256 * (b5 + 256 * (b6 + 256 * b7))))))
+    u64::from_le_bytes(s[at..at + 8].try_into().unwrap())
 }
 
 // The same of two bytes.
@@ -220,9 +227,7 @@ pub fn u16_at(s: &[u8], at: usize) -> u16
     requires { at + 2 ≤ length s.now }
     ensures { result ≡ num_at 2 at s.now }
 {
-    let b0 = widened(s[at]);
-    let b1 = widened(s[at + 1]);
-    (b0 + 256 * b1) as u16
+    u16::from_le_bytes(s[at..at + 2].try_into().unwrap())
 }
 
 // A number put down in eight bytes.
@@ -230,21 +235,7 @@ pub fn put_u64(s: &mut [u8], x: u64)
     requires { length s.old ≡ 8 }
     ensures { s.new ≡ le_bytes 8 x }
 {
-    let x1 = x / 256;
-    let x2 = x1 / 256;
-    let x3 = x2 / 256;
-    let x4 = x3 / 256;
-    let x5 = x4 / 256;
-    let x6 = x5 / 256;
-    let x7 = x6 / 256;
-    s[0] = (x % 256) as u8;
-    s[1] = (x1 % 256) as u8;
-    s[2] = (x2 % 256) as u8;
-    s[3] = (x3 % 256) as u8;
-    s[4] = (x4 % 256) as u8;
-    s[5] = (x5 % 256) as u8;
-    s[6] = (x6 % 256) as u8;
-    s[7] = (x7 % 256) as u8;
+    s.copy_from_slice(&x.to_le_bytes());
 }
 
 // The same in two bytes.
@@ -252,9 +243,7 @@ pub fn put_u16(s: &mut [u8], x: u16)
     requires { length s.old ≡ 2 }
     ensures { s.new ≡ le_bytes 2 x }
 {
-    let x1 = x / 256;
-    s[0] = (x % 256) as u8;
-    s[1] = (x1 % 256) as u8;
+    s.copy_from_slice(&x.to_le_bytes());
 }
 
 // The length of a TX that its counts give.
@@ -270,11 +259,9 @@ pub fn read_at(s: &[u8], p: usize, j: usize) -> Read
     requires { (p ≤ 200) × (j < 8) × (p + j * 10 + 10 ≤ length s.now) }
     ensures { result ≡ read_at s.now p j }
 {
-    let k = u16_at(s, p + j * 10);
-    let v = u64_at(s, p + j * 10 + 2);
     Read {
-        key: Key(k),
-        version: Stamp(v),
+        key: Key(u16_at(s, p + j * 10)),
+        version: Stamp(u64_at(s, p + j * 10 + 2)),
     }
 }
 
@@ -283,12 +270,23 @@ pub fn write_at(s: &[u8], p: usize, j: usize) -> Write
     requires { (p ≤ 200) × (j < 8) × (p + j * 10 + 10 ≤ length s.now) }
     ensures { result ≡ write_at s.now p j }
 {
-    let k = u16_at(s, p + j * 10);
-    let v = u64_at(s, p + j * 10 + 2);
     Write {
-        key: Key(k),
-        value: v,
+        key: Key(u16_at(s, p + j * 10)),
+        value: u64_at(s, p + j * 10 + 2),
     }
+}
+
+// An array whose first n places `at` fills; the others hold z.
+fn padded<T: Copy, const N: usize, F: Fn(usize) -> T>(n: usize, z: T, at: F) -> [T; N]
+    requires few { n ≤ N }
+    requires callable { (j : ℕ) → j < n → F.pre at j }
+    ensures { (f : ℕ → T) → ((j : ℕ) (y : T) → j < n → F.post at j y → y ≡ f j) → result ≡ padded f n N z }
+{
+    let mut a = [z; N];
+    for (j, place) in a[..n].iter_mut().enumerate() {
+        *place = at(j);
+    }
+    a
 }
 
 // The n reads that begin at p, in an array of eight.
@@ -296,17 +294,11 @@ fn reads_of(s: &[u8], p: usize, n: usize) -> [Read; 8]
     requires { (p ≤ 200) × (n ≤ 8) × (p + n * 10 ≤ length s.now) }
     ensures { result ≡ padded (read_at s.now p) n 8 zero_read }
 {
-    let z = Read {
+    let none = Read {
         key: Key(0),
         version: Stamp(0),
     };
-    let mut a = [z; 8];
-    let mut j = 0;
-    while j < n {
-        a[j] = read_at(s, p, j);
-        j += 1;
-    }
-    a
+    padded(n, none, |j| read_at(s, p, j))
 }
 
 // The same of writes.
@@ -314,17 +306,11 @@ fn writes_of(s: &[u8], p: usize, n: usize) -> [Write; 8]
     requires { (p ≤ 200) × (n ≤ 8) × (p + n * 10 ≤ length s.now) }
     ensures { result ≡ padded (write_at s.now p) n 8 zero_write }
 {
-    let z = Write {
+    let none = Write {
         key: Key(0),
         value: 0,
     };
-    let mut a = [z; 8];
-    let mut j = 0;
-    while j < n {
-        a[j] = write_at(s, p, j);
-        j += 1;
-    }
-    a
+    padded(n, none, |j| write_at(s, p, j))
 }
 
 // The transaction that a TX says.
@@ -334,14 +320,12 @@ pub fn transaction_of(s: &[u8]) -> Transaction
 {
     let r = wide(s[2]);
     let w = wide(s[3]);
-    let stamp = Stamp(u64_at(s, 4));
-    let reads = reads_of(s, 12, r);
     let writes = writes_of(s, 12 + r * 10, w);
     Transaction {
-        stamp,
+        stamp: Stamp(u64_at(s, 4)),
         r,
         w,
-        reads,
+        reads: reads_of(s, 12, r),
         writes,
     }
 }
@@ -350,20 +334,14 @@ pub fn transaction_of(s: &[u8]) -> Transaction
 pub fn view_len(kind: u8) -> usize
     ensures { (result ≡ view_len kind) × (result ≤ 2) }
 {
-    if kind == 2 {
-        return 2;
-    }
-    0
+    if kind == 2 { 2 } else { 0 }
 }
 
 // The view that a list of this kind has: one beside votes is no part of it.
 pub fn own_view(kind: u8, view: View) -> View
     ensures { result.0 ≡ view_of kind view.0 }
 {
-    if view_len(kind) == 2 {
-        return view;
-    }
-    View(0)
+    if view_len(kind) == 2 { view } else { View(0) }
 }
 
 // The length of a VL that its kind and its count give.
@@ -380,9 +358,10 @@ fn view_of(s: &[u8]) -> View
     ensures { result.0 ≡ view_of (get_or s.now 2 0) (num_at 2 5 s.now) }
 {
     if s[2] == 2 {
-        return View(u16_at(s, 5));
+        View(u16_at(s, 5))
+    } else {
+        View(0)
     }
-    View(0)
 }
 
 fn pair_at(s: &[u8], from: usize, j: usize) -> Pair
@@ -390,26 +369,21 @@ fn pair_at(s: &[u8], from: usize, j: usize) -> Pair
     ensures { result ≡ pair_at s.now from j }
 {
     let at = from + 2 * j;
-    let number = s[at];
-    let answer = s[at + 1];
-    Pair { number, answer }
+    Pair {
+        number: s[at],
+        answer: s[at + 1],
+    }
 }
 
 fn pairs_of(s: &[u8], from: usize, n: usize) -> [Pair; 26]
     requires { (n ≤ 26) × (from ≤ 7) × (from + 2 * n ≤ length s.now) }
     ensures { result ≡ padded (pair_at s.now from) n 26 zero_pair }
 {
-    let z = Pair {
+    let none = Pair {
         number: 0,
         answer: 0,
     };
-    let mut a = [z; 26];
-    let mut j = 0;
-    while j < n {
-        a[j] = pair_at(s, from, j);
-        j += 1;
-    }
-    a
+    padded(n, none, |j| pair_at(s, from, j))
 }
 
 // The list that a VL says.
@@ -417,17 +391,14 @@ pub fn list_of(s: &[u8]) -> VoteList
     requires { VlThere s.now }
     ensures { (result ≡ held_list (vl_of s.now)) × (result.count ≤ 26) }
 {
-    let count = wide(s[4]);
     let kind = s[2];
-    let decision = s[3];
-    let view = view_of(s);
-    let pairs = pairs_of(s, 5 + view_len(kind), count);
+    let count = wide(s[4]);
     VoteList {
         kind,
-        decision,
-        view,
+        decision: s[3],
+        view: view_of(s),
         count,
-        pairs,
+        pairs: pairs_of(s, 5 + view_len(kind), count),
     }
 }
 
@@ -465,20 +436,14 @@ fn ballots_of(k: ViewMark, s: &[u8], n: usize) -> [Ballot; 26]
     requires { (n ≤ 26) × (ballots_from k + ballot_len k * n ≤ length s.now) }
     ensures { result ≡ padded (ballot_at k s.now) n 26 zero_ballot }
 {
-    let z = Ballot {
+    let none = Ballot {
         number: 0,
         answer: 0,
         view: View(0),
     };
     let from = 1 + k.count_at();
     let width = k.ballot_len();
-    let mut a = [z; 26];
-    let mut j = 0;
-    while j < n {
-        a[j] = ballot_from(k, s, from + width * j);
-        j += 1;
-    }
-    a
+    padded(n, none, |j| ballot_from(k, s, from + width * j))
 }
 
 // What a VS, or an EL, says.

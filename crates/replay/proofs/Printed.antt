@@ -5,11 +5,10 @@ use mathlib.Core.Path.{◌≡◌, refl, ap, sym, ◌∙◌}
 use mathlib.Core.List.{List, [], ◌++◌}
 use lib.ListN.{length, drop}
 use borrow.Author.Tests.{lt-ltb, le-ltb}
-use Rattle.terms.specs.Refusals.{refusal_of}
-use Rattle.terms.specs.declared.Refusal.TheVariants.{Buffer}
-use Rattle.terms.proofs.Checks.{less_no, less_yes}
-use Rattle.records.specs.declared.Written.{Written}
-use Rattle.records.specs.declared.Written.TheVariants.{Wrote, Refused as refused_written}
+use Rattle.std.specs.Prelude.{Result, Ok, Err}
+use Rattle.terms.specs.Checks.{passed, or_else}
+use Rattle.terms.specs.declared.Refusal.{Refusal}
+use Rattle.terms.proofs.Checks.{not_less}
 use Rattle.records.specs.Writing.{wrote_by, buffer_by}
 use Rattle.rules.specs.declared.Answer.TheVariants.{Refused}
 use Rattle.lines.specs.declared.Said.{Said}
@@ -35,36 +34,32 @@ module _ (s : List ℕ) where
       unfolding bench_text
       text_first = no _ _ _ (le-ltb _ _ few) ∙ yes _ _ _ (lt-ltb 0 (length s) (omega arith))
 
-      pub text_refused : (c : ℕ) → c ≡ gp_refusal s → (c ≡ 0 → ⊥) → (what : Said) → what ≡ Answered (Refused (refusal_of c)) → bench_text s ≡ line_of 0 s what
-      text_refused c e z what h =
-          text_first
-          ∙ cut_is _ _ _ _ (λ (q : gp_refusal s ≡ 0). z (e ∙ q))
-          ∙ ap (λ (k : ℕ). line_of 0 s (Answered (Refused (refusal_of k)))) (sym e)
-          ∙ ap (line_of 0 s) (sym h)
+      pub text_refused : {r : Refusal} {what : Said} → gp_refusal s ≡ Err r → what ≡ Answered (Refused r) → bench_text s ≡ line_of 0 s what
+      text_refused e h = text_first ∙ cut_is _ _ _ e ∙ ap (line_of 0 s) (sym h)
 
-      pub text_run : gp_refusal s ≡ 0 → bench_text s ≡ run_text s
-      text_run z = text_first ∙ cut_passes _ _ _ _ z
+      pub text_run : gp_refusal s ≡ passed → bench_text s ≡ run_text s
+      text_run z = text_first ∙ cut_passes _ _ _ z
 
 -- ---- the answer and the buffer
+pub wide : (out : List ℕ) → room_wrong out ≡ passed → room ≤ length out
+unfolding room_wrong
+wide out z = not_less _ _ _ z
+
 module _ (s out : List ℕ) where
-  abbrev pub Printed : Written → List ℕ → Type 0
+  abbrev pub Printed : Result ℕ Refusal → List ℕ → Type 0
   Printed r after = (r ≡ wrote_by (room_wrong out) (bench_text s)) × (after ≡ buffer_by (room_wrong out) (bench_text s) out) × (wrote_in r ≤ room)
 
-  pub no_room : length out < room → Printed (refused_written Buffer) out
-  unfolding room_wrong wrote_by buffer_by refusal_of
-  no_room h = rw (less_yes (length out) room 17 h) (refl, refl, omega arith)
+  pub no_room : {r : Refusal} → room_wrong out ≡ Err r → Printed (Err r) out
+  unfolding wrote_by buffer_by or_else
+  no_room e = rw e (refl, refl, omega arith)
 
-  module _ (wide : room ≤ length out) where
-    passes : room_wrong out ≡ 0
-    unfolding room_wrong
-    passes = less_no _ _ _ wide
-
-    pub printed : (text after : List ℕ) (n most : ℕ) → bench_text s ≡ text → Puts out 0 text most after n → most ≤ room → Printed (Wrote n) after
-    unfolding wrote_by buffer_by put_at
+  module _ (passes : room_wrong out ≡ passed) where
+    pub printed : (text after : List ℕ) (n most : ℕ) → bench_text s ≡ text → Puts out 0 text most after n → most ≤ room → Printed (Ok n) after
+    unfolding wrote_by buffer_by or_else put_at
     printed text after n most e p fits =
         let z : 0 + length text ≡ length text = omega arith in
-        rw (passes, e) (ap Wrote (p.place ∙ z), p.written ∙ ap (λ (k : ℕ). text ++ drop k out) z, let a = p.place in let b = p.short in omega arith)
+        rw (passes, e) (ap Ok (p.place ∙ z), p.written ∙ ap (λ (k : ℕ). text ++ drop k out) z, let a = p.place in let b = p.short in omega arith)
 
-    pub printed_none : bench_text s ≡ [] → Printed (Wrote 0) out
-    unfolding wrote_by buffer_by
+    pub printed_none : bench_text s ≡ [] → Printed (Ok 0) out
+    unfolding wrote_by buffer_by or_else
     printed_none e = rw (passes, e) (refl, refl, omega arith)

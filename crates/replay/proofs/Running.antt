@@ -5,14 +5,15 @@ use mathlib.Core.Bool.{Bool, true, false}
 use mathlib.Core.Path.{◌≡◌, refl, ap, sym, ◌∙◌}
 use mathlib.Core.List.{List, [], ◌∷◌, ◌++◌, append_assoc, append-nil}
 use lib.Dec.{ltb}
+use Rattle.std.specs.Prelude.{Ok, Err}
 use lib.ListN.{length, get_or, take, drop, replicate, length-drop, drop_of_length-le}
 use lib.Seq.{drop-drop, length-take-le}
 use borrow.Author.Tests.{lt-ltb, ltb-true, ltb-false}
 use Rattle.terms.specs.Choice.{pick}
-use Rattle.terms.specs.Refusals.{refusal_of}
+use Rattle.terms.specs.Checks.{Check, passed}
+use Rattle.terms.specs.declared.Refusal.{Refusal}
 use Rattle.terms.proofs.Checks.{not_less, first_none, rest_none}
 use Rattle.terms.proofs.Groups.{capacity_small}
-use Rattle.records.specs.Numbers.{num_at}
 use Rattle.rules.specs.declared.Answer.TheVariants.{Refused}
 use Rattle.rules.specs.declared.Told.{Told}
 use Rattle.rules.specs.Table.{Box, empty}
@@ -30,14 +31,13 @@ use Rattle.replay.proofs.Cuts.{yes, no, Sized, cut_sized}
 use Rattle.replay.proofs.Turns.{said_same, next_same}
 
 -- ---- the lines of the records that are left
-pub cut_is : (c k : ℕ) (s rest : List ℕ) → (c ≡ 0 → ⊥) → cut_or c k s rest ≡ line_of k s (Answered (Refused (refusal_of c)))
+pub cut_is : {c : Check} {r : Refusal} (k : ℕ) (s rest : List ℕ) → c ≡ Err r → cut_or c k s rest ≡ line_of k s (Answered (Refused r))
 unfolding cut_or
-cut_is zero k s rest h = absurd (h refl)
-cut_is (suc c) k s rest h = refl
+cut_is k s rest e = rw e
 
-pub cut_passes : (c k : ℕ) (s rest : List ℕ) → c ≡ 0 → cut_or c k s rest ≡ rest
+pub cut_passes : {c : Check} (k : ℕ) (s rest : List ℕ) → c ≡ passed → cut_or c k s rest ≡ rest
 unfolding cut_or
-cut_passes c k s rest z = rw z
+cut_passes k s rest z = rw z
 
 lines_end : (n k : ℕ) (gp : List ℕ) (clock : ℕ) (x : Box) (s : List ℕ) → s ≡ [] → lines_from n k gp clock x s ≡ []
 unfolding lines_from
@@ -52,22 +52,22 @@ module _ (n k : ℕ) (gp : List ℕ) (clock : ℕ) (x : Box) (s : List ℕ) (h :
   abbrev told : Told
   told = told_by gp clock
 
-  lines_cut : (record_cut s ≡ 0 → ⊥) → lines_from (suc n) k gp clock x s ≡ line_of k s (Answered (Refused (refusal_of (record_cut s))))
+  lines_cut : {r : Refusal} → record_cut s ≡ Err r → lines_from (suc n) k gp clock x s ≡ line_of k s (Answered (Refused r))
   unfolding lines_from
-  lines_cut c = yes _ _ _ (lt-ltb 0 (length s) h) ∙ cut_is _ _ _ _ c
+  lines_cut e = yes _ _ _ (lt-ltb 0 (length s) h) ∙ cut_is _ _ _ e
 
-  module _ (z : record_cut s ≡ 0) where
-    passed : lines_from (suc n) k gp clock x s
+  module _ (z : record_cut s ≡ passed) where
+    goes : lines_from (suc n) k gp clock x s
         ≡ line_of k s (said told x (front s)) ++ pick (stops (said told x (front s))) [] (lines_from n (k + 1) gp (clock_next clock (front s)) (box_next told x (front s)) (drop (record_len s) s))
     unfolding lines_from
-    passed = yes _ _ _ (lt-ltb 0 (length s) h) ∙ cut_passes _ _ _ _ z
+    goes = yes _ _ _ (lt-ltb 0 (length s) h) ∙ cut_passes _ _ _ z
 
     lines_stop : stops (said told x (front s)) ≡ true → lines_from (suc n) k gp clock x s ≡ line_of k s (said told x (front s))
-    lines_stop p = passed ∙ ap (λ (l : List ℕ). line_of k s (said told x (front s)) ++ l) (yes _ _ _ p) ∙ append-nil _
+    lines_stop p = goes ∙ ap (λ (l : List ℕ). line_of k s (said told x (front s)) ++ l) (yes _ _ _ p) ∙ append-nil _
 
     lines_go : stops (said told x (front s)) ≡ false → lines_from (suc n) k gp clock x s
         ≡ line_of k s (said told x (front s)) ++ lines_from n (k + 1) gp (clock_next clock (front s)) (box_next told x (front s)) (drop (record_len s) s)
-    lines_go p = passed ∙ ap (λ (l : List ℕ). line_of k s (said told x (front s)) ++ l) (no _ _ _ p)
+    lines_go p = goes ∙ ap (λ (l : List ℕ). line_of k s (said told x (front s)) ++ l) (no _ _ _ p)
 
 -- no line is lost to the number of turns: as many turns as there are bytes are enough, and more change nothing
 pub enough : (n k : ℕ) (gp : List ℕ) (clock : ℕ) (x : Box) (s : List ℕ) → length s ≤ n → lines_from n k gp clock x s ≡ lines_from (suc n) k gp clock x s
@@ -81,34 +81,27 @@ enough (suc n) k gp clock x s h =
     next : ℕ → List ℕ
     next i = lines_from i (k + 1) gp (clock_next clock (front s)) (box_next (told_by gp clock) x (front s)) (drop (record_len s) s)
 
-    by : (some : Bool) → ltb 0 (length s) ≡ some → (c : ℕ) → record_cut s ≡ c → (halt : Bool) → stops (said (told_by gp clock) x (front s)) ≡ halt
+    by : (some : Bool) → ltb 0 (length s) ≡ some → (c : Check) → record_cut s ≡ c → (halt : Bool) → stops (said (told_by gp clock) x (front s)) ≡ halt
         → (length (drop (record_len s) s) ≤ n → next n ≡ next (suc n)) → lines_from (suc n) k gp clock x s ≡ lines_from (suc (suc n)) k gp clock x s
     by false p c q halt r more =
         let e : s ≡ [] = no_bytes s (ltb-false 0 (length s) p) in
         lines_end (suc n) k gp clock x s e ∙ sym (lines_end (suc (suc n)) k gp clock x s e)
-    by true p (suc c) q halt r more =
-        let z : record_cut s ≡ 0 → ⊥ = λ (u : record_cut s ≡ 0). (let e : suc c ≡ 0 = sym q ∙ u in omega arith) in
+    by true p (Err why) q halt r more =
         let l : 0 < length s = ltb-true 0 (length s) p in
-        lines_cut n k gp clock x s l z ∙ sym (lines_cut (suc n) k gp clock x s l z)
-    by true p zero q true r more = let l : 0 < length s = ltb-true 0 (length s) p in lines_stop n k gp clock x s l q r ∙ sym (lines_stop (suc n) k gp clock x s l q r)
-    by true p zero q false r more =
+        lines_cut n k gp clock x s l q ∙ sym (lines_cut (suc n) k gp clock x s l q)
+    by true p (Ok _) q true r more = let l : 0 < length s = ltb-true 0 (length s) p in lines_stop n k gp clock x s l q r ∙ sym (lines_stop (suc n) k gp clock x s l q r)
+    by true p (Ok _) q false r more =
         let l : 0 < length s = ltb-true 0 (length s) p in
         let f = front s in
         let d = length-drop (record_len s) s in
-        let z = cut_sized s q in
+        let z = (cut_sized s q).0 in
         lines_go n k gp clock x s l q r
         ∙ ap (λ (t : List ℕ). line_of k s (said (told_by gp clock) x f) ++ t) (more (omega arith))
         ∙ sym (lines_go (suc n) k gp clock x s l q r)
 
-pub gp_long : (s : List ℕ) → gp_refusal s ≡ 0 → 12 ≤ length s
+pub gp_long : (s : List ℕ) → gp_refusal s ≡ passed → 12 ≤ length s
 unfolding gp_refusal
 gp_long s z = not_less _ _ _ (first_none _ _ (rest_none _ _ z))
-
--- what a GP tells, number by number
-pub told_is : (gp : List ℕ) (f capacity clock delta : ℕ) → f ≡ get_or gp 2 0 → capacity ≡ get_or gp 3 0 → delta ≡ num_at 8 4 gp
-    → ◌≡◌ {A = Told} (record { f = f; capacity = capacity; clock = clock; delta = delta }) (told_by gp clock)
-unfolding told_by
-told_is gp f capacity clock delta p q d = rw (p, q, d)
 
 -- the front of a record that is cut
 pub front_is : (s : List ℕ) (n : ℕ) → Sized s n → Fronted s (take n s)
@@ -124,7 +117,7 @@ pub record Running (input out₀ : List ℕ) (first number at clock n : ℕ) (ta
   pub done : List ℕ
   pub put : Puts out₀ first done (12 * at - 144) out n
   pub whole : rest_text input ≡ done ++ lines_from (length input + 1 - number) number input clock (box_in (kept table marks)) (drop at input)
-  pub taken : table_wrong (get_or input 3 0) table ≡ 0
+  pub taken : table_wrong (get_or input 3 0) table ≡ passed
   pub counted : number ≤ at
   pub behind : 12 ≤ at
   pub within : at ≤ length input
@@ -133,7 +126,7 @@ pub record Running (input out₀ : List ℕ) (first number at clock n : ℕ) (ta
   pub short : first ≤ 112
 
 pub running_first : {input out : List ℕ} {first : ℕ} {table marks : List ℕ}
-    → (gp_refusal input ≡ 0) × (length input ≤ longest) × (room ≤ length out) × (first ≤ 112) × (table_wrong (get_or input 3 0) table ≡ 0) × (box_in (kept table marks) ≡ empty)
+    → (gp_refusal input ≡ passed) × (length input ≤ longest) × (room ≤ length out) × (first ≤ 112) × (table_wrong (get_or input 3 0) table ≡ passed) × (box_in (kept table marks) ≡ empty)
     → Running input out first 1 12 0 first table marks out
 unfolding rest_text
 running_first {input} {out} {first} {table} {marks} h =
@@ -201,20 +194,18 @@ module _ {input out₀ : List ℕ} {first number at clock n : ℕ} {table marks 
         (puts_both r.put p room_behind)
         (omega arith)
 
-    module _ (s : List ℕ) (is : s ≡ drop at input) (c : ℕ) (cut : c ≡ record_cut s) where
-      pub running_cut : (what : Said) (out' : List ℕ) (n' : ℕ) → (c ≡ 0 → ⊥) → what ≡ Answered (Refused (refusal_of c))
+    module _ (s : List ℕ) (is : s ≡ drop at input) (c : Check) (cut : c ≡ record_cut s) where
+      pub running_cut : {r : Refusal} (what : Said) (out' : List ℕ) (n' : ℕ) → c ≡ Err r → what ≡ Answered (Refused r)
           → Puts out n (line_of number s what) 112 out' n' → Puts out₀ first (rest_text input) 786400 out' n'
       running_cut what out' n' z q p =
           last _ out' n' (rw (← is) p)
-          (lines_cut left number input clock _ _ some (λ (u : record_cut (drop at input) ≡ 0). z (cut ∙ ap record_cut is ∙ u))
-          ∙ ap (λ (k : ℕ). line_of number (drop at input) (Answered (Refused (refusal_of k)))) (sym (cut ∙ ap record_cut is))
-          ∙ ap (line_of number (drop at input)) (sym q))
+          (lines_cut left number input clock _ _ some (ap record_cut (sym is) ∙ sym cut ∙ z) ∙ ap (line_of number (drop at input)) (sym q))
 
       -- a record that is cut
-      module _ (z : c ≡ 0) (m : List ℕ) (fronted : Fronted s m) (told : Told) (same : told ≡ told_by input clock) (what : Said)
+      module _ (z : c ≡ passed) (m : List ℕ) (fronted : Fronted s m) (told : Told) (same : told ≡ told_by input clock) (what : Said)
           (answers : what ≡ said_to told (kept table marks) m) (out' : List ℕ) (n' : ℕ) (p : Puts out n (line_of number s what) 112 out' n') where
-        zero_cut : record_cut (drop at input) ≡ 0
-        zero_cut = ap record_cut (sym is) ∙ sym cut ∙ z
+        cut_there : record_cut (drop at input) ≡ passed
+        cut_there = ap record_cut (sym is) ∙ sym cut ∙ z
 
         fronts : m ≡ front (drop at input)
         fronts = fronted.0 ∙ ap front is
@@ -222,11 +213,11 @@ module _ {input out₀ : List ℕ} {first number at clock n : ℕ} {table marks 
         put_down : Puts out n (line_of number (drop at input) what) 112 out' n'
         put_down = rw (← is) p
 
-        taken_so : table_wrong (told_by input clock).capacity table ≡ 0
+        taken_so : table_wrong (told_by input clock).capacity table ≡ passed
         unfolding told_by
         taken_so = r.taken
 
-        still : table_wrong (get_or input 3 0) (kept_next (told_by input clock) (kept table marks) (front (drop at input))).table ≡ 0
+        still : table_wrong (get_or input 3 0) (kept_next (told_by input clock) (kept table marks) (front (drop at input))).table ≡ passed
         unfolding told_by
         still = (next_same (told_by input clock) (kept table marks) (front (drop at input)) taken_so).1
 
@@ -235,7 +226,7 @@ module _ {input out₀ : List ℕ} {first number at clock n : ℕ} {table marks 
 
         pub running_stop : stops what ≡ true → Puts out₀ first (rest_text input) 786400 out' n'
         running_stop q =
-            last _ out' n' put_down (lines_stop left number input clock _ _ some zero_cut (ap stops (sym what_said) ∙ q) ∙ ap (line_of number (drop at input)) (sym what_said))
+            last _ out' n' put_down (lines_stop left number input clock _ _ some cut_there (ap stops (sym what_said) ∙ q) ∙ ap (line_of number (drop at input)) (sym what_said))
 
         -- it ends within the input
         pub fits : at + length m ≤ length input
@@ -255,7 +246,7 @@ module _ {input out₀ : List ℕ} {first number at clock n : ℕ} {table marks 
             let ck : clock' ≡ clock_next clock (front y) = u ∙ ap (clock_next clock) fronts in
             let dr : drop (at + length m) input ≡ drop (record_len y) y = sym (drop-drop (length m) at input) ∙ ap (λ (i : ℕ). drop i y) (fronted.1 ∙ ap record_len is) in
             let fu : length input + 1 - (number + 1) ≡ left = omega arith in
-            let go = lines_go left number input clock (box_in (kept table marks)) y some zero_cut (ap stops (sym what_said) ∙ q) in
+            let go = lines_go left number input clock (box_in (kept table marks)) y some cut_there (ap stops (sym what_said) ∙ q) in
             let d = r.done in
             let line = line_of number y what in
             let g = fronted.2 in
@@ -283,15 +274,15 @@ zeros_empty : (n : ℕ) → box_in (kept (replicate (suc n) 0) (replicate 512 0)
 unfolding box_in empty entries_of
 zeros_empty n = rw (low_none (suc n), folds_none (suc n))
 
-pub zeros_start : (input : List ℕ) → gp_refusal input ≡ 0 → (table_wrong (get_or input 3 0) (replicate 54101 0) ≡ 0) × (box_in (kept (replicate 54101 0) (replicate 512 0)) ≡ empty)
+pub zeros_start : (input : List ℕ) → gp_refusal input ≡ passed → (table_wrong (get_or input 3 0) (replicate 54101 0) ≡ passed) × (box_in (kept (replicate 54101 0) (replicate 512 0)) ≡ empty)
 unfolding gp_refusal told_wrong told_by
 zeros_start input z =
     let c : get_or input 3 0 ≤ 255 = capacity_small _ (rest_none _ _ (rest_none _ _ (rest_none _ _ z))) in
     (zeros_taken (get_or input 3 0) 54100 (omega arith), zeros_empty 54100)
 
 -- the first line, then the rest
-pub rest_ready : (input : List ℕ) {o e : List ℕ} {a : ℕ} → (gp_refusal input ≡ 0) × (length input ≤ longest) × (room ≤ length o) → Puts o 0 (line_of 0 input Taken) 112 e a
-    → (gp_refusal input ≡ 0) × (length input ≤ longest) × (room ≤ length e) × (a ≤ 112) × (table_wrong (get_or input 3 0) (replicate 54101 0) ≡ 0) × (box_in (kept (replicate 54101 0) (replicate 512 0)) ≡ empty)
+pub rest_ready : (input : List ℕ) {o e : List ℕ} {a : ℕ} → (gp_refusal input ≡ passed) × (length input ≤ longest) × (room ≤ length o) → Puts o 0 (line_of 0 input Taken) 112 e a
+    → (gp_refusal input ≡ passed) × (length input ≤ longest) × (room ≤ length e) × (a ≤ 112) × (table_wrong (get_or input 3 0) (replicate 54101 0) ≡ passed) × (box_in (kept (replicate 54101 0) (replicate 512 0)) ≡ empty)
 rest_ready input h p =
     let w = h.2 in
     let l = puts_same p (omega arith) in

@@ -4,6 +4,7 @@ use mathlib.Core.Bool.{Bool, true, false}
 use mathlib.Core.Path.{◌≡◌, refl, ap, sym, ◌∙◌}
 use mathlib.Core.List.{List}
 use Rattle.terms.specs.Choice.{pick}
+use Rattle.terms.specs.Checks.{passed}
 use Rattle.records.specs.Numbers.{num_at}
 use Rattle.records.specs.Messages.{is_mark}
 use Rattle.rules.specs.declared.Answer.{Answer}
@@ -63,16 +64,16 @@ module _ (told : Told) (x : Kept) (m : List ℕ) where
       turn_call p (raising l) w a t x.marks (e ∙ ap (λ (y : Act). y.answer) c) (g ∙ ap (λ (y : Act). table_by x.table y.change) c) (marks_stay l)
 
   -- where the table that is kept is taken
-  module _ (taken : table_wrong told.capacity x.table ≡ 0) where
+  module _ (taken : table_wrong told.capacity x.table ≡ passed) where
     pub said_same : said_to told x m ≡ said told (box_in x) m
     unfolding said_to said
     said_same = ap (λ (a : Act). pick (is_mark mark_ck m) Taken (Answered a.answer)) (called_act (entry_point m) told x m taken)
 
-    pub next_same : (box_in (kept_next told x m) ≡ box_next told (box_in x) m) × (table_wrong told.capacity (kept_next told x m).table ≡ 0)
+    pub next_same : (box_in (kept_next told x m) ≡ box_next told (box_in x) m) × (table_wrong told.capacity (kept_next told x m).table ≡ passed)
     unfolding kept_next box_next
     next_same = by (is_mark mark_ck m)
       where
         by : (b : Bool) → (box_in (pick b x (leaves (entry_point m) told x m)) ≡ pick b (box_in x) (after (entry_point m) told (box_in x) m))
-            × (table_wrong told.capacity (pick b x (leaves (entry_point m) told x m)).table ≡ 0)
+            × (table_wrong told.capacity (pick b x (leaves (entry_point m) told x m)).table ≡ passed)
         by true = (refl, taken)
         by false = bridge (entry_point m) told x m taken

@@ -1,13 +1,11 @@
 -- 01, 'Bench program', in its order: from the bytes read to the text printed.
-use Rattle.std.specs.Prelude.{ℕ, zero, suc, ◌+◌, Bool, false, ◌||◌, List, [], ◌∷◌, ◌++◌, length, get_or, take, drop, eqb, ltb}
+use Rattle.std.specs.Prelude.{ℕ, zero, suc, ◌+◌, Bool, false, ◌||◌, List, [], ◌∷◌, ◌++◌, length, get_or, take, drop, eqb, ltb, Result, Ok, Err}
 use Rattle.terms.specs.Choice.{pick}
-use Rattle.terms.specs.Checks.{or_else, if_less, short, buffer}
-use Rattle.terms.specs.Refusals.{refusal_of, number_of}
+use Rattle.terms.specs.Checks.{Check, or_else, if_less, short, buffer}
+use Rattle.terms.specs.Refusals.{number_of}
 use Rattle.records.specs.Numbers.{num_at}
-use Rattle.records.specs.declared.Written.{Written}
-use Rattle.records.specs.declared.Written.TheVariants.{Wrote, Refused as refused_written}
-use Rattle.records.specs.declared.Marked.{Marked}
-use Rattle.records.specs.declared.Marked.TheVariants.{Is, Refused as Unmarked}
+use Rattle.terms.specs.declared.Refusal.{Refusal}
+use Rattle.records.specs.declared.Mark.{Mark}
 use Rattle.records.specs.Cutting.{mark_wrong, message_cut, message_len}
 use Rattle.records.specs.Messages.{is_mark, mark_of}
 use Rattle.rules.specs.declared.Answer.{Answer}
@@ -35,7 +33,7 @@ unfoldable pub told_by : List ℕ → ℕ → Told
 told_by gp clock = record { f = get_or gp 2 0; capacity = get_or gp 3 0; clock = clock; delta = num_at 8 4 gp }
 
 -- ".. another mark first, is 2; a cut GP is 1"; then 14
-unfoldable pub gp_refusal : List ℕ → ℕ
+unfoldable pub gp_refusal : List ℕ → Check
 gp_refusal s = or_else (mark_wrong mark_gp s) (or_else (if_less (length s) gp_len short) (told_wrong (told_by s 0)))
 
 -- "Then CK ("CK", clock, 8 bytes; clock starts at 0) and messages."
@@ -47,17 +45,17 @@ abbrev pub lm_len : ℕ
 lm_len = 10
 
 -- a message at the front, by its mark, and its length
-unfoldable pub marked_cut : Marked → List ℕ → ℕ
-marked_cut (Is k) s = message_cut k s
-marked_cut (Unmarked n) s = n
+unfoldable pub marked_cut : Result Mark Refusal → List ℕ → Check
+marked_cut (Ok k) s = message_cut k s
+marked_cut (Err r) s = Err r
 
-unfoldable pub marked_len : Marked → List ℕ → ℕ
-marked_len (Is k) s = message_len k s
-marked_len (Unmarked n) s = 0
+unfoldable pub marked_len : Result Mark Refusal → List ℕ → ℕ
+marked_len (Ok k) s = message_len k s
+marked_len (Err r) s = 0
 
 -- a record at the front is cut by its mark: "Records follow one another directly, so 4 occurs only at the entry points that take a single message."
 -- "GP elsewhere .. is 2"
-unfoldable pub record_cut : List ℕ → ℕ
+unfoldable pub record_cut : List ℕ → Check
 record_cut s =
     or_else (if_less (length s) 2 short)
     (pick (is_mark mark_ck s) (if_less (length s) ck_len short) (pick (is_mark mark_lm s) (if_less (length s) lm_len short) (marked_cut (mark_of s) s)))
@@ -101,9 +99,9 @@ stops Taken = false
 stops (Answered a) = answer_stops a
 
 -- what cannot be cut has refusal 1, 2 or 3: its line is the last
-unfoldable pub cut_or : ℕ → ℕ → List ℕ → List ℕ → List ℕ
-cut_or zero k s rest = rest
-cut_or (suc n) k s rest = line_of k s (Answered (Refused (refusal_of (suc n))))
+unfoldable pub cut_or : Check → ℕ → List ℕ → List ℕ → List ℕ
+cut_or (Ok _) k s rest = rest
+cut_or (Err r) k s rest = line_of k s (Answered (Refused r))
 
 -- "Each record prints number from 0 ..": the lines of at most n records s, the first with number k, where the GP, the clock and the box stand so
 unfoldable pub lines_from : ℕ → ℕ → List ℕ → ℕ → Box → List ℕ → List ℕ
@@ -131,10 +129,10 @@ bench_text s = pick (ltb longest (length s)) too_long (pick (ltb 0 (length s)) (
 abbrev pub room : ℕ
 room = 786544
 
-unfoldable pub room_wrong : List ℕ → ℕ
+unfoldable pub room_wrong : List ℕ → Check
 room_wrong out = if_less (length out) room buffer
 
 -- how much was written
-abbrev pub wrote_in : Written → ℕ
-wrote_in (Wrote n) = n
-wrote_in (refused_written r) = 0
+abbrev pub wrote_in : Result ℕ Refusal → ℕ
+wrote_in (Ok n) = n
+wrote_in (Err r) = 0

@@ -2,22 +2,21 @@
 #![tactic(auto)]
 
 ghost use Rattle.std.specs.Prelude.{◌≡◌, ◌≤◌, length, get_or};
-ghost use Rattle.terms.specs.Checks.{if_less, short};
+ghost use Rattle.terms.specs.Checks.{if_less, passed, short};
 ghost use Rattle.records.specs.Writing.{wrote_by, buffer_by};
 ghost use Rattle.replay.specs.Bench.{gp_len, told_by, gp_refusal, record_cut, record_len, ck_len, clock_next, stops_at, answer_stops, stops, rest_text, run_text, bench_text, room_wrong, room, longest, wrote_in};
 ghost use Rattle.lines.specs.Lines.{Puts};
 ghost use Rattle.lines.specs.declared.Said.TheVariants.{Answered};
 ghost use Rattle.rules.specs.declared.Answer.TheVariants.{Refused};
-ghost use Rattle.terms.specs.Refusals.{refusal_of};
+ghost use Rattle.terms.specs.Refusals.{number_of};
 ghost use Rattle.replay.specs.Turn.{Fronted, said_to, kept_next};
 ghost use Rattle.rules.specs.Table.{empty};
 ghost use Rattle.table.specs.Table.{table_wrong};
 ghost use Rattle.engine.specs.Outcome.{kept, box_in};
 
 use lines::Said;
-use records::{Marked, Written};
 use rules::{Answer, Told};
-use terms::{Refusal, Stamp};
+use terms::{Check, Refusal, Stamp};
 
 // Room for the lines of every input: a line is at most 112 bytes, and all records but the last have at least ten.
 pub const ROOM: usize = 786_544;
@@ -26,80 +25,61 @@ pub const ROOM: usize = 786_544;
 const TABLE: usize = table::HEAD + 255 * table::ROW;
 
 // What a GP tells a box, at a clock.
+#[tactic(auto, unfolding(crate::specs::Bench::told_by))]
 fn told_of(gp: &[u8], clock: u64) -> Told
     requires { gp_len ≤ length gp.now }
     ensures { result ≡ told_by gp.now clock }
 {
-    let f = records::widened(gp[2]);
-    let capacity = records::widened(gp[3]);
-    let delta = records::u64_at(gp, 4);
     Told {
-        f,
-        capacity,
+        f: u64::from(gp[2]),
+        capacity: u64::from(gp[3]),
         clock,
-        delta,
+        delta: records::u64_at(gp, 4),
     }
 }
 
 // A GP at the front: 2 or 1, then 14.
-fn gp_wrong(s: &[u8]) -> u8
+#[tactic(auto, unfolding(terms::proofs::Checks::chain, crate::specs::Bench::gp_refusal))]
+fn gp_wrong(s: &[u8]) -> Check
     ensures { result ≡ gp_refusal s.now }
 {
-    let mark = reading::mark_wrong(s, b"GP");
-    if mark != 0 {
-        return mark;
-    }
-    if s.len() < 12 {
-        return terms::SHORT;
-    }
+    reading::mark_wrong(s, b"GP")?;
+    terms::refuse_if(s.len() < 12, Refusal::Short)?;
     engine::told_wrong(told_of(s, 0))
 }
 
 // A CK or an LM at the front, by its mark.
-fn ck_cut(s: &[u8]) -> u8
+#[tactic(auto, unfolding(terms::proofs::Checks::chain))]
+fn ck_cut(s: &[u8]) -> Check
     ensures { result ≡ if_less (length s.now) ck_len short }
 {
-    if s.len() < 10 {
-        return terms::SHORT;
-    }
-    0
+    terms::refuse_if(s.len() < 10, Refusal::Short)
 }
 
 // A CK, an LM or a message at the front.
-fn record_cut(s: &[u8]) -> u8
+#[tactic(auto, unfolding(terms::proofs::Checks::chain, crate::specs::Bench::record_cut, crate::specs::Bench::marked_cut))]
+fn record_cut(s: &[u8]) -> Check
     ensures { result ≡ record_cut s.now }
 {
-    if s.len() < 2 {
-        return terms::SHORT;
-    }
-    if reading::is_mark(s, b"CK") {
+    terms::refuse_if(s.len() < 2, Refusal::Short)?;
+    if reading::is_mark(s, b"CK") || reading::is_mark(s, b"LM") {
         return ck_cut(s);
     }
-    if reading::is_mark(s, b"LM") {
-        return ck_cut(s);
-    }
-    let marked = reading::mark_of(s);
-    match marked {
-        Marked::Is(mark) => reading::message_cut(mark, s),
-        Marked::Refused(n) => n,
-    }
+    reading::message_cut(reading::mark_of(s)?, s)
 }
 
 // The length of a record that is cut.
+#[tactic(auto, using(crate::proofs::Cuts::cut_long, crate::proofs::Cuts::message_passes))]
 fn record_len(s: &[u8]) -> usize
-    requires { record_cut s.now ≡ 0 }
+    requires { record_cut s.now ≡ passed }
     ensures { (result ≡ record_len s.now) × (10 ≤ result) × (result ≤ length s.now) }
 {
-    if reading::is_mark(s, b"CK") {
+    if reading::is_mark(s, b"CK") || reading::is_mark(s, b"LM") {
         return 10;
     }
-    if reading::is_mark(s, b"LM") {
-        return 10;
-    }
-    let marked = reading::mark_of(s);
-    match marked {
-        Marked::Is(mark) => reading::message_len(mark, s),
-        Marked::Refused(_) => 0,
+    match reading::mark_of(s) {
+        Ok(mark) => reading::message_len(mark, s),
+        Err(_) => 0,
     }
 }
 
@@ -109,82 +89,66 @@ fn turn(table: &mut [u8], marks: &mut [u64; 512], told: Told, m: &[u8]) -> Said
     ensures { (result ≡ said_to told (kept table.old marks.old) m.now) × (table.new ≡ (kept_next told (kept table.old marks.old) m.now).table) × (marks.new ≡ (kept_next told (kept table.old marks.old) m.now).marks) }
 {
     if reading::is_mark(m, b"CK") {
-        return Said::Taken;
+        Said::Taken
+    } else if reading::is_mark(m, b"LM") {
+        Said::Answered(engine::raise_low(table, told, Stamp(records::u64_at(m, 2))))
+    } else {
+        Said::Answered(engine::receive(table, marks, told, m))
     }
-    if reading::is_mark(m, b"LM") {
-        let raised = engine::raise_low(table, told, Stamp(records::u64_at(m, 2)));
-        return Said::Answered(raised);
-    }
-    let answer = engine::receive(table, marks, told, m);
-    Said::Answered(answer)
 }
 
 // The clock behind a record.
+#[tactic(auto, unfolding(crate::specs::Bench::clock_next))]
 fn clock_next(clock: u64, m: &[u8]) -> u64
     requires { 10 ≤ length m.now }
     ensures { result ≡ clock_next clock m.now }
 {
     if reading::is_mark(m, b"CK") {
-        return records::u64_at(m, 2);
+        records::u64_at(m, 2)
+    } else {
+        clock
     }
-    clock
 }
 
 // 1, 2, 3 and 14.
-fn stops_at(n: u8) -> bool
-    ensures { result ≡ stops_at n }
+fn stops_at(why: Refusal) -> bool
+    ensures { result ≡ stops_at (number_of why) }
 {
-    match n {
-        1 => true,
-        2 => true,
-        3 => true,
-        14 => true,
-        _ => false,
-    }
+    matches!(
+        why,
+        Refusal::Short | Refusal::Mark | Refusal::Count | Refusal::Group
+    )
 }
 
 // Whether the bench stops behind this answer.
 fn answer_stops(a: Answer) -> bool
     ensures { result ≡ answer_stops a }
 {
-    match a {
-        Answer::Voted(_, _) => false,
-        Answer::Decided(_) => false,
-        Answer::Logged(_, _) => false,
-        Answer::Done => false,
-        Answer::Found(_, _) => false,
-        Answer::Refused(r) => stops_at(r.number()),
-        Answer::Elected(_, _, _) => false,
-        Answer::Raised => false,
-    }
+    matches!(a, Answer::Refused(why) if stops_at(why))
 }
 
 // Whether it stops behind this record.
 fn stops(said: Said) -> bool
     ensures { result ≡ stops said }
 {
-    match said {
-        Said::Taken => false,
-        Said::Answered(a) => answer_stops(a),
-    }
+    matches!(said, Said::Answered(a) if answer_stops(a))
 }
 
-fn refused(n: u8) -> Said
-    ensures { result ≡ Answered (Refused (refusal_of n)) }
+fn refused(why: Refusal) -> Said
+    ensures { result ≡ Answered (Refused why) }
 {
-    Said::Answered(Answer::Refused(Refusal::of(n)))
+    Said::Answered(Answer::Refused(why))
 }
 
 // A record that is cut, without what follows it.
 fn front_of(s: &[u8]) -> &[u8]
-    requires { record_cut s.now ≡ 0 }
+    requires { record_cut s.now ≡ passed }
     ensures { Fronted s.now result.now }
 {
-    let n = record_len(s);
-    &s[..n]
+    &s[..record_len(s)]
 }
 
-// The lines of the records behind a GP that is taken, on an empty box.
+// The lines of the records behind a GP that is taken, on an empty box. A `while`, since only a record that is cut tells where the next one begins.
 fn rest(
     table: &mut [u8],
     marks: &mut [u64; 512],
@@ -192,7 +156,7 @@ fn rest(
     out: &mut [u8],
     first: usize,
 ) -> usize
-    requires { (gp_refusal input.now ≡ 0) × (length input.now ≤ longest) × (room ≤ length out.old) × (first ≤ 112) × (table_wrong (get_or input.now 3 0) table.old ≡ 0) × (box_in (kept table.old marks.old) ≡ empty) }
+    requires { (gp_refusal input.now ≡ passed) × (length input.now ≤ longest) × (room ≤ length out.old) × (first ≤ 112) × (table_wrong (get_or input.now 3 0) table.old ≡ passed) × (box_in (kept table.old marks.old) ≡ empty) }
     ensures { Puts out.old first (rest_text input.now) 786400 out.new result }
 {
     let mut clock = 0;
@@ -201,9 +165,8 @@ fn rest(
     let mut n = first;
     while at < input.len() {
         let s = reading::behind(input, at);
-        let cut = record_cut(s);
-        if cut != 0 {
-            return lines::put_line(out, n, number, s, refused(cut));
+        if let Err(why) = record_cut(s) {
+            return lines::put_line(out, n, number, s, refused(why));
         }
         let m = front_of(s);
         let said = turn(table, marks, told_of(input, clock), m);
@@ -220,7 +183,7 @@ fn rest(
 
 // The lines of an input whose GP is taken.
 fn run(input: &[u8], out: &mut [u8]) -> usize
-    requires { (gp_refusal input.now ≡ 0) × (length input.now ≤ longest) × (room ≤ length out.old) }
+    requires { (gp_refusal input.now ≡ passed) × (length input.now ≤ longest) × (room ≤ length out.old) }
     ensures { Puts out.old 0 (run_text input.now) room out.new result }
 {
     let mut table = [0u8; TABLE];
@@ -229,22 +192,28 @@ fn run(input: &[u8], out: &mut [u8]) -> usize
     rest(&mut table, &mut marks, input, out, first)
 }
 
+// 17 where not every line would fit.
+#[tactic(auto, unfolding(terms::proofs::Checks::chain, crate::specs::Bench::room_wrong))]
+fn room_wrong(out: &[u8]) -> Check
+    ensures { result ≡ room_wrong out.now }
+{
+    terms::refuse_if(out.len() < ROOM, Refusal::Buffer)
+}
+
 // The bench: what standard input holds, to what is printed for it.
-pub fn replay(input: &[u8], out: &mut [u8]) -> Written
+#[tactic(auto, using(crate::proofs::Printed::wide))]
+pub fn replay(input: &[u8], out: &mut [u8]) -> Result<usize, Refusal>
     ensures { (result ≡ wrote_by (room_wrong out.old) (bench_text input.now)) × (out.new ≡ buffer_by (room_wrong out.old) (bench_text input.now) out.old) × (wrote_in result ≤ room) }
 {
-    if out.len() < ROOM {
-        return Written::Refused(Refusal::Buffer);
-    }
+    room_wrong(out)?;
     if 65536 < input.len() {
-        return Written::Wrote(lines::put_text(out, 0, b"too long\n"));
+        return Ok(lines::put_text(out, 0, b"too long\n"));
     }
     if input.len() == 0 {
-        return Written::Wrote(0);
+        return Ok(0);
     }
-    let wrong = gp_wrong(input);
-    if wrong != 0 {
-        return Written::Wrote(lines::put_line(out, 0, 0, input, refused(wrong)));
+    if let Err(why) = gp_wrong(input) {
+        return Ok(lines::put_line(out, 0, 0, input, refused(why)));
     }
-    Written::Wrote(run(input, out))
+    Ok(run(input, out))
 }

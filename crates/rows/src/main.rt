@@ -1,10 +1,8 @@
 // The five thresholds as five rows of five numbers, one row for each f, held against the group's own.
 #![tactic(auto)]
 
-ghost use Rattle.std.specs.Prelude.{◌≤◌};
-
 use std::io;
-use terms::{Group, GroupAnswer};
+use terms::Group;
 
 // Commit list, abort list, commit proof, abort proof, proof from logs: 01's table, written out.
 const ROWS: [[usize; 5]; 5] = [
@@ -15,18 +13,16 @@ const ROWS: [[usize; 5]; 5] = [
     [16, 6, 26, 16, 21],
 ];
 
-// 1 where the two are the same.
-fn one(a: usize, b: usize) -> usize
-    ensures { result ≤ 1 }
-{
-    if a == b { 1 } else { 0 }
-}
-
 // How many of a row's five are the group's.
 fn agreeing(row: [usize; 5], g: Group) -> usize {
-    let lists = one(row[0], g.commit_list()) + one(row[1], g.abort_list());
-    let votes = one(row[2], g.commit_proof()) + one(row[3], g.abort_proof());
-    lists + votes + one(row[4], g.log_proof())
+    let own = [
+        g.commit_list(),
+        g.abort_list(),
+        g.commit_proof(),
+        g.abort_proof(),
+        g.log_proof(),
+    ];
+    row.iter().zip(&own).filter(|(a, b)| a == b).count()
 }
 
 // One line: f, n, the row, and how many of the five agree.
@@ -42,15 +38,15 @@ fn show(rt: &impl Print, f: u64, row: [usize; 5], g: Group) -> io::Result<()> {
 // The row of f, or the refusal's number.
 fn row_of(rt: &impl Print, f: u64) -> io::Result<()> {
     match Group::of(f) {
-        GroupAnswer::Of(g) => {
-            if 1 <= f && f <= 5 {
+        Ok(g) => {
+            if (1..=5).contains(&f) {
                 let i = (f - 1) as usize;
                 let row = ROWS[i];
                 show(rt, f, row, g)?;
             }
             Ok(())
         }
-        GroupAnswer::Refused(r) => println!(rt; "{f}: refused {}", r.number()),
+        Err(r) => println!(rt; "{f}: refused {}", r.number()),
     }
 }
 

@@ -9,6 +9,7 @@ use mathlib.Core.List.Memᴰ.{tail as there}
 use mathlib.Core.List.{List, [], ◌∷◌, map, Memᴰ as In}
 use native.Mathlib.Omega.{arith}
 use lib.Dec.{T, eqb, eqb→eq, leb→le}
+use Rattle.terms.specs.Checks.{passed}
 use Rattle.terms.specs.Group.{boxes}
 use Rattle.records.specs.declared.Pair.{Pair}
 use Rattle.records.specs.Vl.{Vl}
@@ -87,7 +88,7 @@ module _ (f : ℕ) (faulty : ℕ → Bool) where
           let h = C y.0 y.1 (rw i at s) in
           rw i (rw (j, w.views y.0 y.1) at h)
 
-  list_count : (es : List Event) (b : Body) (l : Vl) (need : ℕ) → list_wrong f l ≡ 0 → T (meets need l) → Backed f faulty es b l
+  list_count : (es : List Event) (b : Body) (l : Vl) (need : ℕ) → list_wrong f l ≡ passed → T (meets need l) → Backed f faulty es b l
       → need ≤ how_many (upheld es b (word (kind_of l.kind) l.view (decision_of l.decision))) (boxes f)
   unfolding meets BackedBy
   list_count es b l need wf h B =

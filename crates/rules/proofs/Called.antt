@@ -6,6 +6,7 @@ use mathlib.Core.Logic.{inl, inr}
 use mathlib.Core.Option.{Option, some, none}
 use mathlib.Core.List.{List}
 use lib.Dec.{T}
+use Rattle.terms.specs.Checks.{passed}
 use Rattle.terms.specs.Choice.{pick}
 use Rattle.terms.specs.declared.Refusal.{Refusal}
 use Rattle.records.specs.Tx.{tx_of}
@@ -55,7 +56,7 @@ module _ {f : ℕ} {x : Box} {way : EntryPoint} {m : List ℕ} {b : Body} where
   needed need l a k = tested (meets need l) _ a k
 
 -- PR
-module _ (told : Told) (x : Box) (way : EntryPoint) (m : List ℕ) (b : Body) (sane : tx_wrong (tx_of b) ≡ 0) where
+module _ (told : Told) (x : Box) (way : EntryPoint) (m : List ℕ) (b : Body) (sane : tx_wrong (tx_of b) ≡ passed) where
   pr_vote : (e : Entry) → Prior x.table b (some e) → (v : Vote) → e.vote ≡ v → Move told.f x way m b (pr_by_vote told x b e v)
   unfolding pr_by_vote Holds cast vote_word word_in
   pr_vote e p vote_commit q = again (vote commit) e p (rw q) refl
@@ -80,10 +81,10 @@ module _ (told : Told) (x : Box) (way : EntryPoint) (m : List ℕ) (b : Body) (s
 
 -- LG
 module _ (told : Told) (x : Box) (way : EntryPoint) (m : List ℕ) (b : Body) (l : Vl) (w : Brings told.f way m b l) (k : kind_of l.kind ≡ votes)
-    (h : list_wrong told.f l ≡ 0) where
+    (h : list_wrong told.f l ≡ passed) where
   lg_log : (e : Entry) → Prior x.table b (some e) → (o : Log) → e.log ≡ o → Move told.f x way m b (lg_by_log told b l e o)
   unfolding lg_by_log Holds word_in
-  lg_log e p (logged d v) q = again (log d v.0) e p q refl
+  lg_log e p (logged y) q = again (log y.decision y.view.0) e p q refl
   lg_log e p unlogged q =
       needed (for_logging told.f (decision_of l.decision)) l _ (λ n. logs_first l (some e) w k (record { formed = h; enough = n }) p q)
 
@@ -128,7 +129,7 @@ module _ (told : Told) (x : Box) (way : EntryPoint) (m : List ℕ) (b : Body) (l
       (λ s. dc_same_lem e p (same_body_eq e.body b s) e.decided refl)
       (λ s. dc_other_lem e p (not_same e.body b s) (decision_of l.decision) refl e.decided refl)
 
-pub dc_move : (told : Told) (x : Box) (way : EntryPoint) (m : List ℕ) (b : Body) (l : Vl) → Brings told.f way m b l → list_wrong told.f l ≡ 0 → Move told.f x way m b (dc_rule told x b l)
+pub dc_move : (told : Told) (x : Box) (way : EntryPoint) (m : List ℕ) (b : Body) (l : Vl) → Brings told.f way m b l → list_wrong told.f l ≡ passed → Move told.f x way m b (dc_rule told x b l)
 unfolding dc_rule
 dc_move told x way m b l w h =
     needed (for_proof told.f (kind_of l.kind) (decision_of l.decision)) l _

@@ -8,7 +8,7 @@ use mathlib.Core.List.{List, [], ◌∷◌, ◌++◌, Memᴰ as In}
 use native.Mathlib.Omega.{arith}
 use lib.Dec.{T, eqb, eqb→eq, leb, leb→le, le→leb, nleb→lt, ltb, ltb→lt, lt→ltb, nltb→le}
 use Rattle.terms.specs.Choice.{any, falls}
-use Rattle.terms.specs.Checks.{or_else, when}
+use Rattle.terms.specs.Checks.{passed, or_else, when}
 use Rattle.terms.specs.Group.{boxes}
 use Rattle.terms.proofs.Checks.{first_none, rest_none, when_none}
 use Rattle.records.specs.declared.Pair.{Pair}
@@ -116,11 +116,11 @@ rising_of f lo (p ∷ ps) h k =
     (rising_of f (p.number + 1) ps w.1 v.1))
 
 -- what boxes that are judged in order tell
-pub boxes_rising : (f : ℕ) (ps : List Pair) → boxes_wrong f ps ≡ 0 → T (rising 0 (boxes f) ps)
+pub boxes_rising : (f : ℕ) (ps : List Pair) → boxes_wrong f ps ≡ passed → T (rising 0 (boxes f) ps)
 boxes_rising f ps h = rising_of f 0 ps (when_none _ _ (first_none _ _ h)) (when_none _ _ (rest_none _ _ h))
 
 -- and a list so
-pub formed_rising : (f : ℕ) (l : Vl) → list_wrong f l ≡ 0 → T (rising 0 (boxes f) l.pairs)
+pub formed_rising : (f : ℕ) (l : Vl) → list_wrong f l ≡ passed → T (rising 0 (boxes f) l.pairs)
 unfolding list_wrong
 formed_rising f l h = boxes_rising f l.pairs (rest_none _ _ (rest_none _ _ (rest_none _ _ h)))
 
@@ -149,8 +149,8 @@ none_falls lo n (p ∷ ps) h =
     (none_falls (p.number + 1) n ps r)
 
 -- the other way: right codes and rising numbers are all that is judged
-pub rising_formed : (f : ℕ) (l : Vl) → code_wrong l.kind ≡ 0 → code_wrong l.decision ≡ 0 → any answer_odd l.pairs ≡ false
-    → T (rising 0 (boxes f) l.pairs) → list_wrong f l ≡ 0
+pub rising_formed : (f : ℕ) (l : Vl) → code_wrong l.kind ≡ passed → code_wrong l.decision ≡ passed → any answer_odd l.pairs ≡ false
+    → T (rising 0 (boxes f) l.pairs) → list_wrong f l ≡ passed
 unfolding list_wrong or_else when
 rising_formed f l k d a h = rw (k, d, a, none_wide f 0 l.pairs h, none_falls 0 (boxes f) l.pairs h)
 
@@ -211,7 +211,7 @@ rising_rest lo n (q ∷ qs) ps h = rising_rest (q.number + 1) n qs ps r
 
 -- "Counting answers, not boxes": a list that names a box at two places is not in order
 pub named_once : (f : ℕ) (l : Vl) (before after : List Pair) (p q : Pair) → l.pairs ≡ before ++ (p ∷ after) → In q after → p.number ≡ q.number
-    → list_wrong f l ≡ 0 → ⊥
+    → list_wrong f l ≡ passed → ⊥
 unfolding rising
 named_once f l before after p q e m s h =
     let w = rising_rest 0 (boxes f) before (p ∷ after) (rw e at (formed_rising f l h)) in

@@ -1,6 +1,6 @@
 -- What any bytes do to a box: a move above its low mark, or none, or a read mark is raised; or the low mark itself is. The reading is taken apart here,
 -- and nowhere else.
-use Prim.Native.Nat.{ℕ, zero, suc, ◌≤◌, ◌<◌}
+use Prim.Native.Nat.{ℕ, ◌≤◌, ◌<◌}
 use mathlib.Core.Bool.{Bool, true, false, not}
 use mathlib.Core.Path.{◌≡◌, refl, ap}
 use mathlib.Core.Logic.{◌⊎◌, inl, inr}
@@ -9,16 +9,14 @@ use mathlib.Core.List.{List, Memᴰ as In}
 use native.Mathlib.Omega.{arith}
 use lib.Dec.{T, eqb, eqb_refl, leb, le→leb, nleb→lt}
 use Rattle.terms.specs.Choice.{any, pick}
-use Rattle.terms.specs.Checks.{if_same}
-use Rattle.terms.specs.Refusals.{refusal_of}
+use Rattle.terms.specs.Checks.{Check, passed, if_same, code}
 use Rattle.terms.specs.declared.Refusal.{Refusal}
-use Rattle.terms.proofs.Checks.{first_none, rest_none, not_less, when_none}
+use Rattle.terms.proofs.Checks.{not_passed, first_none, rest_none, not_less, when_none}
 use Rattle.records.specs.Contents.{list_wrong, log_list_wrong, code_wrong, views_wrong}
 use Rattle.records.specs.declared.Mark.{Mark}
 use Rattle.records.specs.declared.Mark.TheVariants.{PR, LG, DC, RD, IV, LD}
-use Rattle.records.specs.declared.Marked.{Marked}
+use Rattle.std.specs.Prelude.{Result, Ok, Err}
 use Rattle.records.specs.declared.ViewMark.TheVariants.{VS, EL}
-use Rattle.records.specs.declared.Marked.TheVariants.{Is, Refused as Unmarked}
 use Rattle.records.specs.Messages.{contents_wrong, due_refusal, list_behind, views_behind}
 use Rattle.rules.specs.Answers.{Answer, Raised, unsettled, votes}
 use Rattle.rules.specs.Bodies.{Body, stamp_of}
@@ -45,18 +43,18 @@ pub data Deed (f : ℕ) (x : Box) (way : EntryPoint) (m : List ℕ) (b : Body) :
   lifts : (l : ℕ) → x.low < l → ((e : Entry) → In e x.table → stamp_of e.body ≤ l → e.decided ≡ unsettled → ⊥)
       → Deed f x way m b (record { answer = Raised; change = raises_low l })
 
-pub guarded_elim : (P : Act → Type 0) (n : ℕ) (a : Act) → (n ≡ 0 → P a) → ((r : Refusal) → P (refuse r)) → P (guarded n a)
+pub guarded_elim : (P : Act → Type 0) (c : Check) (a : Act) → (c ≡ passed → P a) → ((r : Refusal) → P (refuse r)) → P (guarded c a)
 unfolding guarded
-guarded_elim P zero a h k = h refl
-guarded_elim P (suc n) a h k = k (refusal_of (suc n))
+guarded_elim P (Ok _) a h k = h refl
+guarded_elim P (Err r) a h k = k r
 
 -- a check in front changes no deed
-guard : {f : ℕ} {x : Box} {way : EntryPoint} {m : List ℕ} {b : Body} (n : ℕ) (a : Act) → (n ≡ 0 → Deed f x way m b a) → Deed f x way m b (guarded n a)
+guard : {f : ℕ} {x : Box} {way : EntryPoint} {m : List ℕ} {b : Body} (c : Check) (a : Act) → (c ≡ passed → Deed f x way m b a) → Deed f x way m b (guarded c a)
 unfolding word_in
-guard {f} {x} {way} {m} {b} n a h = guarded_elim (Deed f x way m b) n a h (λ r. idles refl)
+guard {f} {x} {way} {m} {b} c a h = guarded_elim (Deed f x way m b) c a h (λ r. idles refl)
 
 -- 18: what is not old is above the low mark
-pub not_old : (low s : ℕ) → old_wrong low s ≡ 0 → low < s
+pub not_old : (low s : ℕ) → old_wrong low s ≡ passed → low < s
 unfolding old_wrong
 not_old low s h = go (decide_t (leb s low)) (when_none (leb s low) _ h)
   where
@@ -68,32 +66,32 @@ young : {f : ℕ} {x : Box} {way : EntryPoint} {m : List ℕ} (b : Body) (a : Ac
 unfolding unless_old
 young {x = x} b a k = guard (old_wrong x.low (stamp_of b)) a (λ h. moves (not_old x.low (stamp_of b) h) k)
 
-same_none : (a b n : ℕ) → if_same a b (suc n) ≡ 0 → a ≡ b → ⊥
+same_none : (a b : ℕ) (r : Refusal) → if_same a b r ≡ passed → a ≡ b → ⊥
 unfolding if_same
-same_none a b n e q = go (eqb a b) (rw q (eqb_refl b)) e
+same_none a b r e q = go (eqb a b) (rw q (eqb_refl b)) e
   where
-    go : (t : Bool) → T t → pick t (suc n) 0 ≡ 0 → ⊥
-    go true h k = omega arith
+    go : (t : Bool) → T t → pick t (Err r) passed ≡ passed → ⊥
+    go true h k = not_passed k
     go false h k = h
 
 -- "kind 2 in an LG" is 8, so what is read is a list of votes
-kind_votes : (n : ℕ) → if_same n 2 8 ≡ 0 → code_wrong n ≡ 0 → kind_of n ≡ votes
+kind_votes : (n : ℕ) → if_same n 2 code ≡ passed → code_wrong n ≡ passed → kind_of n ≡ votes
 unfolding kind_of code_wrong
 kind_votes n h k =
-    let one : n ≡ 1 = omega (arith, same_none n 2 7 h, same_none n 0 7 (first_none _ _ k), not_less 2 n 7 (rest_none _ _ k)) in
+    let one : n ≡ 1 = omega (arith, same_none n 2 _ h, same_none n 0 _ (first_none _ _ k), not_less 2 n _ (rest_none _ _ k)) in
     rw one
 
 -- what each message does, once it is read
 module _ (told : Told) (x : Box) (way : EntryPoint) (m : List ℕ) where
   -- 14, the cutting and 4 are behind it
-  judged : (k : Mark) → due_refusal k told.f m ≡ 0 → contents_wrong k told.f m ≡ 0
+  judged : (k : Mark) → due_refusal k told.f m ≡ passed → contents_wrong k told.f m ≡ passed
   unfolding due_refusal
   judged k h = rest_none _ _ (rest_none _ _ (rest_none _ _ h))
 
-  brings : (k : Mark) → mark_by way m ≡ Is k → due_refusal k told.f m ≡ 0 → Listed k → Brings told.f way m (tx_part m) (list_behind m)
+  brings : (k : Mark) → mark_by way m ≡ Ok k → due_refusal k told.f m ≡ passed → Listed k → Brings told.f way m (tx_part m) (list_behind m)
   brings k q h y = record { mark = k; marked = q; read = h; carries = y; body = refl; list = refl }
 
-  deed_by : (k : Mark) → mark_by way m ≡ Is k → due_refusal k told.f m ≡ 0 → Deed told.f x way m (tx_part m) (rule k told x m)
+  deed_by : (k : Mark) → mark_by way m ≡ Ok k → due_refusal k told.f m ≡ passed → Deed told.f x way m (tx_part m) (rule k told x m)
   unfolding rule contents_wrong log_list_wrong list_wrong views_wrong rd_rule
   deed_by PR q h = young (tx_part m) _ (pr_move told x way m (tx_part m) (judged PR h))
   deed_by LG q h =
@@ -110,20 +108,20 @@ module _ (told : Told) (x : Box) (way : EntryPoint) (m : List ℕ) where
       (ld_move told x way m (tx_part m) (views_behind EL m) (record { marked = q; read = h; body = refl; answers = refl })
       (rest_none _ _ (rest_none _ _ (rest_none _ _ answers))))
 
-  deed_marked : (k : Marked) → mark_by way m ≡ k → Deed told.f x way m (tx_part m) (marked_act k told x m)
+  deed_marked : (k : Result Mark Refusal) → mark_by way m ≡ k → Deed told.f x way m (tx_part m) (marked_act k told x m)
   unfolding marked_act due_act word_in
-  deed_marked (Is k) q = guard (due_refusal k told.f m) _ (deed_by k q)
-  deed_marked (Unmarked n) q = idles refl
+  deed_marked (Ok k) q = guard (due_refusal k told.f m) _ (deed_by k q)
+  deed_marked (Err n) q = idles refl
 
 -- what is taken for a message with a mark is judged as one
-pub act_marked : (told : Told) (x : Box) (way : EntryPoint) (m : List ℕ) (k : Mark) → mark_by way m ≡ Is k → act_by way told x m ≡ due_act k told x m
+pub act_marked : (told : Told) (x : Box) (way : EntryPoint) (m : List ℕ) (k : Mark) → mark_by way m ≡ Ok k → act_by way told x m ≡ due_act k told x m
 unfolding act_by marked_act mark_by
-act_marked told x receive m k e = ap (λ (q : Marked). marked_act q told x m) e
-act_marked told x (due q) m k e = ap (λ (q : Marked). marked_act q told x m) e
+act_marked told x receive m k e = ap (λ (q : Result Mark Refusal). marked_act q told x m) e
+act_marked told x (due q) m k e = ap (λ (q : Result Mark Refusal). marked_act q told x m) e
 act_marked told x (raising l) m k e = let z : ◌≡◌ {A = ℕ} 0 1 = cc in absurd (omega arith)
 
 -- 18 and 19: the low mark rises, over decided entries
-decided_below : (x : Box) (l : ℕ) → low_wrong x l ≡ 0 → (e : Entry) → In e x.table → stamp_of e.body ≤ l → e.decided ≡ unsettled → ⊥
+decided_below : (x : Box) (l : ℕ) → low_wrong x l ≡ passed → (e : Entry) → In e x.table → stamp_of e.body ≤ l → e.decided ≡ unsettled → ⊥
 unfolding low_wrong open_up_to up_to is_undecided
 decided_below x l h e i k q = go (when_none (any (open_up_to l) x.table) _ (rest_none _ _ h))
   where

@@ -8,6 +8,7 @@ use mathlib.Core.List.{List, map}
 use native.Mathlib.Omega.{arith}
 use lib.Dec.{T, eqb, eqb→eq, leb, ltb, leb→le, ltb→lt}
 use lib.ListN.{length}
+use Rattle.terms.specs.Checks.{passed}
 use Rattle.terms.specs.Choice.{any}
 use Rattle.terms.specs.Group.{abort_list, commit_list, log_proof}
 use Rattle.records.specs.declared.Ballot.{Ballot}
@@ -46,9 +47,9 @@ module _ (told : Told) (x : Box) (way : EntryPoint) (m : List ℕ) (b : Body) (p
   iv_log : (e : Entry) → Prior x.table b (some e) → (o : Log) → e.log ≡ o → Move told.f x way m b (iv_by_log told b ps e o)
   unfolding iv_by_log
   iv_log e p unlogged q = refuses _
-  iv_log e p (logged d v) q =
+  iv_log e p (logged y) q =
       pick_elim (Move told.f x way m b) (ltb largest_view (next_view told.f (e.view).0 ps)) (λ _. refuses _)
-      (λ _. elects told (next_view told.f (e.view).0 ps) e d v p q (view_up told.f (e.view).0 ps))
+      (λ _. elects told (next_view told.f (e.view).0 ps) e y.decision y.view p q (view_up told.f (e.view).0 ps))
 
   iv_decided : (e : Entry) → find (stamp_of b) x.table ≡ some e → e.body ≡ b → (o : Settled) → e.decided ≡ o
       → Move told.f x way m b (iv_by_decision told b ps e o)
@@ -66,7 +67,7 @@ unfolding iv_rule
 iv_move told x way m b l = iv_entry told x way m b l.ballots (find (stamp_of b) x.table) refl
 
 -- LD: what 23 leaves of the election answers
-leading : (f : ℕ) (b : Body) (l : Views) → boxes_wrong f (map ballot_pair l.ballots) ≡ 0 → T (leads f b l) → Leading f l
+leading : (f : ℕ) (b : Body) (l : Views) → boxes_wrong f (map ballot_pair l.ballots) ≡ passed → T (leads f b l) → Leading f l
 unfolding leads one_view
 leading f b l w h =
     let n : T (eqb (length l.ballots) (log_proof f)) = search ands in
@@ -86,7 +87,7 @@ leading f b l w h =
     same p (inr y) n = absurd (n y)
 
 module _ (told : Told) (x : Box) (way : EntryPoint) (m : List ℕ) (b : Body) (l : Views) (r : Leads told.f way m b l)
-    (w : boxes_wrong told.f (map ballot_pair l.ballots) ≡ 0) where
+    (w : boxes_wrong told.f (map ballot_pair l.ballots) ≡ passed) where
   ld_take : (o : Option Entry) (a : Act)
       → (Leading told.f l → (view_in o).0 ≤ l.view → (log_view (log_in o)).0 < l.view → Move told.f x way m b a) → Move told.f x way m b (take_act told b l o a)
   unfolding take_act may_take

@@ -7,11 +7,12 @@ use mathlib.Core.List.{List, [], ◌∷◌}
 use native.Mathlib.Omega.{arith}
 use lib.ListN.{length, take}
 use lib.Seq.{get_or-take}
+use Rattle.terms.specs.Checks.{passed}
 use Rattle.terms.specs.declared.Refusal.{Refusal}
 use Rattle.terms.proofs.Checks.{first_none, rest_none, not_less}
 use Rattle.terms.proofs.Scans.{tab_length}
 use Rattle.records.specs.declared.Mark.TheVariants.{PR}
-use Rattle.records.specs.declared.Marked.TheVariants.{Is}
+use Rattle.std.specs.Prelude.{Ok}
 use Rattle.records.specs.Contents.{counts_wrong}
 use Rattle.records.specs.Cutting.{behind_mark, message_cut, rest_cut, tx_cut, tx_part}
 use Rattle.records.specs.Messages.{due_refusal}
@@ -58,8 +59,8 @@ new_last_lem b [] = omega arith
 new_last_lem b (e ∷ es) = omega (arith, new_last_lem b es)
 
 -- ---- "r or w above 8" is refused
-module _ (f : ℕ) (m : List ℕ) (h : due_refusal PR f m ≡ 0) where
-  counts_fine : counts_wrong (r_count (behind_mark m)) (w_count (behind_mark m)) ≡ 0
+module _ (f : ℕ) (m : List ℕ) (h : due_refusal PR f m ≡ passed) where
+  counts_fine : counts_wrong (r_count (behind_mark m)) (w_count (behind_mark m)) ≡ passed
   unfolding due_refusal message_cut rest_cut tx_cut
   counts_fine = first_none _ _ (rest_none _ _ (rest_none _ _ (rest_none _ _ (first_none _ _ (rest_none _ _ h)))))
 
@@ -68,7 +69,7 @@ module _ (f : ℕ) (m : List ℕ) (h : due_refusal PR f m ≡ 0) where
   reads_eight =
       let s = behind_mark m in
       let c : r_count (take (tx_len s) s) ≡ r_count s = get_or-take (tx_len s) s 2 0 (omega arith) in
-      rw (tab_length (read_at (tx_part m) 12) 0 (r_count (tx_part m)), c) (not_less 8 (r_count s) 2 (first_none _ _ counts_fine))
+      rw (tab_length (read_at (tx_part m) 12) 0 (r_count (tx_part m)), c) (not_less 8 (r_count s) _ (first_none _ _ counts_fine))
 
   writes_eight : length (writes_of (tx_part m)) ≤ 8
   unfolding writes_of tx_of tx_part counts_wrong
@@ -76,7 +77,7 @@ module _ (f : ℕ) (m : List ℕ) (h : due_refusal PR f m ≡ 0) where
       let s = behind_mark m in
       let c : w_count (take (tx_len s) s) ≡ w_count s = get_or-take (tx_len s) s 3 0 (omega arith) in
       rw (tab_length (write_at (tx_part m) (writes_from (tx_part m))) 0 (w_count (tx_part m)), c)
-      (not_less 8 (w_count s) 2 (first_none _ _ (rest_none _ _ counts_fine)))
+      (not_less 8 (w_count s) _ (first_none _ _ (rest_none _ _ counts_fine)))
 
 -- ---- an act that bears the figure
 record Bears (told : Told) (x : Box) (p : EntryPoint) (m : List ℕ) (a : Act) : Type 0 where
@@ -136,7 +137,7 @@ module _ (told : Told) (x : Box) (p : EntryPoint) (m : List ℕ) where
     entry_bears (some e) at =
         pick_elim (Bears told x p m) (same_body e.body (tx_part m)) (λ _. decision_bears e at e.decided refl) (λ _. refused_bears _)
 
-  act_bears : mark_by p m ≡ Is PR → Bears told x p m (act p told x m)
+  act_bears : mark_by p m ≡ Ok PR → Bears told x p m (act p told x m)
   unfolding act due_act rule unless_old pr_rule
   act_bears d =
       rw (act_marked told x p m PR d)

@@ -7,7 +7,7 @@ use mathlib.Core.List.{List, Memᴰ as In}
 use lib.Dec.{T}
 use Rattle.records.specs.Vl.{Vl}
 use Rattle.rules.specs.Answers.{Decision, commit, abort, Vote, unvoted, waiting, vote_commit, vote_abort, Answer, Voted, visited, Logged, Done, Settled, settled, unsettled}
-use Rattle.rules.specs.Answers.{View, logged, unlogged, view_as}
+use Rattle.rules.specs.Answers.{View, logged_at, unlogged, view_as}
 use Rattle.rules.specs.Bodies.{Body, stamp_of}
 use Rattle.rules.specs.Lists.{decision_of}
 use Rattle.rules.specs.Table.{Entry, Box, vote_in, log_in, view_in, live_by, live}
@@ -16,7 +16,7 @@ use Rattle.rules.specs.Fallback.{elect_act}
 use Rattle.rules.specs.Act.{table_after, EntryPoint}
 use Rattle.rules.specs.System.{Word, vote, log, elect, cast, vote_word, word_in}
 use Rattle.rules.proofs.Laws.{find_in, in_put}
-use Rattle.rules.proofs.Moves.{settled_eq, un_settled, un_logged, Holds, stands, stands_cast, Clear, Prior, Arrives}
+use Rattle.rules.proofs.Moves.{settled_eq, logged_eq, un_settled, un_logged, Holds, stands, stands_cast, Clear, Prior, Arrives}
 use Rattle.rules.proofs.Moves.{Move, quiet, again, casts, logs_first, takes, elects, decides, replaces}
 use Rattle.rules.proofs.Kept.{Keeps}
 use Rattle.rules.proofs.Said.{Spoken, Carried, carried}
@@ -73,15 +73,13 @@ module _ {t : List Entry} {b : Body} (o : Option Entry) (p : Prior t b o) where
   told_cast v n x q k (log d u) h = inr (carried o p (log d u) (sym k ∙ h))
   told_cast v n x q k (elect d u) h = absurd h
 
-  told_log : (y : Decision) (v : View) (x : Entry) → x.vote ≡ vote_in o → x.log ≡ logged y v → (w : Word) → Holds (some x) w
+  told_log : (y : Decision) (v : View) (x : Entry) → x.vote ≡ vote_in o → x.log ≡ logged_at y v → (w : Word) → Holds (some x) w
       → (word_in (Logged y v) ≡ some w) ⊎ Carried t b w
   unfolding Holds word_in
   told_log y v x q k (vote d) h = inr (carried o p (vote d) (rw q at h))
   told_log y v x q k (log d u) h =
-      let r : logged y v ≡ logged d (view_as u) = sym k ∙ h in
-      let a : y ≡ d = cc in
-      let c : v ≡ view_as u = cc in
-      inl (rw (a, c) refl)
+      let r : (y ≡ d) × (v ≡ view_as u) = logged_eq (sym k ∙ h) in
+      inl (rw (r.0, r.1) refl)
   told_log y v x q k (elect d u) h = absurd h
 
   told_kept : (x : Entry) → x.vote ≡ vote_in o → x.log ≡ log_in o → (w : Word) → Holds (some x) w → Carried t b w
@@ -106,13 +104,13 @@ fresh {x = x} {b = b} (casts v c o p n r cl) = record {
     go (inr q) = inl (upright_by o p (rw q tt))
 fresh {b = b} (logs_first l o q k w p n) = record {
   owner = refl;
-  told = told_log o p (decision_of l.decision) (view_as 0) (record { body = b; vote = vote_in o; log = logged (decision_of l.decision) (view_as 0); view = view_in o; decided = unsettled }) refl refl;
+  told = told_log o p (decision_of l.decision) (view_as 0) (record { body = b; vote = vote_in o; log = logged_at (decision_of l.decision) (view_as 0); view = view_in o; decided = unsettled }) refl refl;
   decided = λ d h. absurd (un_settled refl h);
   stood = λ w. inl (upright_by o p w.vote);
 }
 fresh {b = b} (takes l o q w p c n) = record {
   owner = refl;
-  told = told_log o p (decision_of l.decision) (view_as l.view) (record { body = b; vote = vote_in o; log = logged (decision_of l.decision) (view_as l.view); view = view_as l.view; decided = unsettled }) refl refl;
+  told = told_log o p (decision_of l.decision) (view_as l.view) (record { body = b; vote = vote_in o; log = logged_at (decision_of l.decision) (view_as l.view); view = view_as l.view; decided = unsettled }) refl refl;
   decided = λ d h. absurd (un_settled refl h);
   stood = λ w. inl (upright_by o p w.vote);
 }

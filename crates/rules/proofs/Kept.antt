@@ -7,7 +7,7 @@ use mathlib.Core.Option.{Option, some}
 use mathlib.Core.List.{List}
 use native.Mathlib.Omega.{arith}
 use lib.Dec.{T, eqb, eqb→eq}
-use Rattle.rules.specs.Answers.{Decision, commit, settled, Log, logged, unlogged, log_view, view_as}
+use Rattle.rules.specs.Answers.{Decision, commit, settled, Log, logged_at, unlogged, log_view, view_as}
 use Rattle.rules.specs.Bodies.{Body, stamp_of}
 use Rattle.rules.specs.Table.{Entry, Box, find, put}
 use Rattle.rules.specs.Calls.{Act, Change, nothing, puts, raises, raises_low, cast_act, log_act, decide_act}
@@ -30,7 +30,7 @@ put_cases s e t = go (decide_t (eqb (stamp_of e.body) s))
 
 -- a log that was given is the one that is held, or has given way to one of a higher view
 unfoldable pub Tops : Log → Decision → ℕ → Type 0
-Tops y d v = (y ≡ logged d (view_as v)) ⊎ (v < (log_view y).0)
+Tops y d v = (y ≡ logged_at d (view_as v)) ⊎ (v < (log_view y).0)
 
 pub tops_logged : (y : Log) (d : Decision) (v : ℕ) → Tops y d v → y ≡ unlogged → ⊥
 unfolding Tops

@@ -9,7 +9,7 @@ use mathlib.Core.List.{List, [], ◌∷◌, Memᴰ as In}
 use native.Mathlib.Omega.{arith}
 use lib.Dec.{T, eqb, eqb→eq, eqb_refl, leb, leb→le, le→leb, ltb, lt→ltb}
 use Rattle.terms.specs.Choice.{pick, any}
-use Rattle.terms.specs.Checks.{or_else, if_less, if_same}
+use Rattle.terms.specs.Checks.{passed, or_else, if_less, if_same}
 use Rattle.terms.specs.Group.{boxes}
 use Rattle.records.specs.declared.Pair.{Pair}
 use Rattle.records.specs.Vl.{Vl}
@@ -82,12 +82,12 @@ even_build p d lo (suc m) c =
     pick_elim (λ (l : List Pair). any answer_odd l ≡ false) (p lo) (λ _. rw c (even_build p d (suc lo) m c)) (λ _. even_build p d (suc lo) m c)
 
 -- the codes are in order, and say what they were made of
-kind_code : (k : Kind) → code_wrong (kind_number k) ≡ 0
+kind_code : (k : Kind) → code_wrong (kind_number k) ≡ passed
 unfolding code_wrong or_else if_same if_less
 kind_code votes = refl
 kind_code logs = refl
 
-decision_code : (d : Decision) → code_wrong (decision_number d) ≡ 0
+decision_code : (d : Decision) → code_wrong (decision_number d) ≡ passed
 unfolding code_wrong or_else if_same if_less
 decision_code commit = refl
 decision_code abort = refl

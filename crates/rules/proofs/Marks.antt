@@ -1,5 +1,5 @@
 -- The read marks along a trace: 512 of them, none falls, and an RD that is answered raises its own.
-use Prim.Native.Nat.{ℕ, zero, suc, ◌≤◌, ◌<◌, max}
+use Prim.Native.Nat.{ℕ, ◌≤◌, ◌<◌, max}
 use mathlib.Core.Bool.{not}
 use mathlib.Core.Path.{◌≡◌, refl, ◌∙◌, ap}
 use mathlib.Core.Logic.{◌⊎◌, inl, inr}
@@ -8,11 +8,12 @@ use native.Mathlib.Omega.{arith}
 use lib.Dec.{T, eqb, eqb→eq}
 use lib.ListN.{length, get_or, set, length-replicate}
 use lib.Seq.{get_or-set_same, get_or-set_other}
-use Rattle.terms.specs.Checks.{if_less, ahead}
+use Rattle.terms.specs.Checks.{Check, passed, if_less, ahead}
 use Rattle.records.specs.Contents.{largest_key}
 use Rattle.records.specs.declared.Mark.TheVariants.{PR, LG, DC, RD, IV, LD}
-use Rattle.records.specs.declared.Marked.{Marked}
-use Rattle.records.specs.declared.Marked.TheVariants.{Is, Refused as Unmarked}
+use Rattle.std.specs.Prelude.{Result, Ok, Err}
+use Rattle.terms.specs.declared.Refusal.{Refusal}
+use Rattle.records.specs.declared.Mark.{Mark}
 use Rattle.records.specs.Messages.{due_refusal, mark_of, rd_key, rd_stamp}
 use Rattle.rules.specs.Table.{Box, Told, empty, limit}
 use Rattle.rules.specs.Calls.{Act, Change, guarded, look_act, nothing, old_wrong, puts, raises, raises_low, rd_rule}
@@ -61,10 +62,10 @@ pub record Looks (a : Act) (x : Box) (m : List ℕ) : Type 0 where
   pub is : a ≡ look_act x (rd_key m) (rd_stamp m)
   pub key : rd_key m ≤ largest_key
 
-found_guard : (n : ℕ) (a : Act) → T (is_found (guarded n a).answer) → (n ≡ 0) × T (is_found a.answer)
+found_guard : (c : Check) (a : Act) → T (is_found (guarded c a).answer) → (c ≡ passed) × T (is_found a.answer)
 unfolding guarded is_found
-found_guard zero a h = (refl, h)
-found_guard (suc n) a h = absurd h
+found_guard (Ok _) a h = (refl, h)
+found_guard (Err r) a h = absurd h
 
 module _ (told : Told) (x : Box) (m : List ℕ) where
   looks_rd : T (is_found (due_act RD told x m).answer) → Looks (due_act RD told x m) x m
@@ -81,15 +82,15 @@ module _ (told : Told) (x : Box) (m : List ℕ) where
         key = rd_key_lem told.f m u.0;
       }
 
-  looks_marked : (k : Marked) → T (is_rd k) → T (is_found (marked_act k told x m).answer) → Looks (marked_act k told x m) x m
+  looks_marked : (k : Result Mark Refusal) → T (is_rd k) → T (is_found (marked_act k told x m).answer) → Looks (marked_act k told x m) x m
   unfolding is_rd marked_act
-  looks_marked (Is RD) h g = looks_rd g
-  looks_marked (Is PR) h g = absurd h
-  looks_marked (Is LG) h g = absurd h
-  looks_marked (Is DC) h g = absurd h
-  looks_marked (Is IV) h g = absurd h
-  looks_marked (Is LD) h g = absurd h
-  looks_marked (Unmarked n) h g = absurd h
+  looks_marked (Ok RD) h g = looks_rd g
+  looks_marked (Ok PR) h g = absurd h
+  looks_marked (Ok LG) h g = absurd h
+  looks_marked (Ok DC) h g = absurd h
+  looks_marked (Ok IV) h g = absurd h
+  looks_marked (Ok LD) h g = absurd h
+  looks_marked (Err r) h g = absurd h
 
   looks_by : (way : EntryPoint) → T (is_rd (mark_by way m)) → T (is_found (act_by way told x m).answer) → Looks (act_by way told x m) x m
   unfolding act_by mark_by is_rd

@@ -7,6 +7,7 @@ use mathlib.Core.Option.{Option, some, none}
 use mathlib.Core.List.{List, map, Memᴰ as In}
 use native.Mathlib.Omega.{arith}
 use lib.Dec.{T, eqb, eqb→eq, eqb_refl}
+use Rattle.terms.specs.Checks.{passed}
 use Rattle.records.specs.declared.Read.{Read}
 use Rattle.records.specs.Tx.{read_key, read_version}
 use Rattle.records.specs.Vl.{Vl}
@@ -16,10 +17,10 @@ use Rattle.records.specs.Views.{Views, ballot_pair}
 use Rattle.records.specs.Contents.{list_wrong, boxes_wrong, largest_key}
 use Rattle.records.specs.declared.Mark.{Mark}
 use Rattle.records.specs.declared.Mark.TheVariants.{LG, DC, LD}
-use Rattle.records.specs.declared.Marked.TheVariants.{Is}
+use Rattle.std.specs.Prelude.{Ok}
 use Rattle.rules.specs.Act.{EntryPoint, mark_by}
 use Rattle.rules.specs.Answers.{Decision, commit, abort, votes, Settled, settled, unsettled, Vote, unvoted, waiting, vote_commit, vote_abort, Answer}
-use Rattle.rules.specs.Answers.{Log, View, logged, unlogged, log_view, view_as}
+use Rattle.rules.specs.Answers.{Log, LoggedDecision, View, logged_at, unlogged, log_view, view_as}
 use Rattle.rules.specs.Bodies.{Body, stamp_of, reads_of, writes_key}
 use Rattle.rules.specs.Lists.{kind_of, decision_of, for_logging, for_proof, tally, meets}
 use Rattle.rules.specs.Table.{Entry, Box, Told, find, folded_at, vote_in, log_in, view_in, live}
@@ -47,13 +48,18 @@ settled_eq p q = cc
 pub abort_commit : {o : Settled} → o ≡ settled abort → o ≡ settled commit → ⊥
 abort_commit p q = let z : ◌≡◌ {A = ℕ} 0 1 = cc in omega arith
 
-pub un_logged : {y : Log} {d : Decision} {v : View} → y ≡ unlogged → y ≡ logged d v → ⊥
+pub un_logged : {y : Log} {d : Decision} {v : View} → y ≡ unlogged → y ≡ logged_at d v → ⊥
 un_logged p q = let z : ◌≡◌ {A = ℕ} 0 1 = cc in omega arith
+
+pub logged_eq : {d d' : Decision} {v w : View} → logged_at d v ≡ logged_at d' w → (d ≡ d') × (v ≡ w)
+logged_eq {d = d} {d' = d'} {v = v} {w = w} p =
+    let e : ◌≡◌ {A = LoggedDecision} (record { decision = d; view = v }) (record { decision = d'; view = w }) = cc in
+    (ap (λ (y : LoggedDecision). y.decision) e, ap (λ (y : LoggedDecision). y.view) e)
 
 -- the words that an entry holds; an election answer is not held
 unfoldable pub Holds : Option Entry → Word → Type 0
 Holds o (vote d) = cast (vote_in o) ≡ settled d
-Holds o (log d v) = log_in o ≡ logged d (view_as v)
+Holds o (log d v) = log_in o ≡ logged_at d (view_as v)
 Holds o (elect d v) = ⊥
 
 unfoldable pub stands : Vote → Bool
@@ -135,7 +141,7 @@ pub record Prior (t : List Entry) (b : Body) (o : Option Entry) : Type 0 where
 
 -- a list that is in order and reaches a threshold
 pub record Listing (f : ℕ) (l : Vl) (need : ℕ) : Type 0 where
-  pub formed : list_wrong f l ≡ 0
+  pub formed : list_wrong f l ≡ passed
   pub enough : T (meets need l)
 
 -- the messages that carry a list of votes, or of logs
@@ -146,22 +152,22 @@ pub data Listed : Mark → Type 0 where
 -- a message that was read without refusal and carries a list: its body and its list
 pub record Brings (f : ℕ) (way : EntryPoint) (m : List ℕ) (b : Body) (l : Vl) : Type 0 where
   pub mark : Mark
-  pub marked : mark_by way m ≡ Is mark
-  pub read : due_refusal mark f m ≡ 0
+  pub marked : mark_by way m ≡ Ok mark
+  pub read : due_refusal mark f m ≡ passed
   pub carries : Listed mark
   pub body : tx_part m ≡ b
   pub list : list_behind m ≡ l
 
 -- a leader's decision that was read without refusal: its body and its election answers
 pub record Leads (f : ℕ) (way : EntryPoint) (m : List ℕ) (b : Body) (l : Views) : Type 0 where
-  pub marked : mark_by way m ≡ Is LD
-  pub read : due_refusal LD f m ≡ 0
+  pub marked : mark_by way m ≡ Ok LD
+  pub read : due_refusal LD f m ≡ passed
   pub body : tx_part m ≡ b
   pub answers : views_behind EL m ≡ l
 
 -- that carries the majority of election answers of its view
 pub record Leading (f : ℕ) (l : Views) : Type 0 where
-  pub formed : boxes_wrong f (map ballot_pair l.ballots) ≡ 0
+  pub formed : boxes_wrong f (map ballot_pair l.ballots) ≡ passed
   pub views : (p : Ballot) → In p l.ballots → ballot_view p ≡ l.view
   pub most : majority f ≤ tally l.decision (map ballot_pair l.ballots)
 
@@ -191,7 +197,7 @@ pub data Move (f : ℕ) (x : Box) (way : EntryPoint) (m : List ℕ) (b : Body) :
   takes : (l : Views) (o : Option Entry) → Leads f way m b l → Leading f l → Prior x.table b o → (view_in o).0 ≤ l.view → (log_view (log_in o)).0 < l.view
       → Move f x way m b (led_act b l o)
   -- an election answer of what is logged, at a view not below the current one
-  elects : (told : Told) (v : ℕ) (e : Entry) (d : Decision) (u : View) → Prior x.table b (some e) → e.log ≡ logged d u → (e.view).0 ≤ v
+  elects : (told : Told) (v : ℕ) (e : Entry) (d : Decision) (u : View) → Prior x.table b (some e) → e.log ≡ logged_at d u → (e.view).0 ≤ v
       → Move f x way m b (elect_act told b e d v)
   -- a first decision
   decides : (l : Vl) (o : Option Entry) → Arrives f way m b l → Prior x.table b o → Move f x way m b (decide_act b (decision_of l.decision) o)

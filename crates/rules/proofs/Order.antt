@@ -1,5 +1,5 @@
 -- The claims of specs/Order.
-use Prim.Native.Nat.{ℕ, zero, suc, ◌+◌}
+use Prim.Native.Nat.{ℕ, suc, ◌+◌}
 use mathlib.Core.Bool.{Bool, true, false, not}
 use mathlib.Core.Path.{◌≡◌, refl, sym, ◌∙◌, ap}
 use mathlib.Core.Logic.{◌⊎◌, inl, inr}
@@ -8,7 +8,8 @@ use mathlib.Core.List.{List}
 use native.Mathlib.Omega.{arith}
 use lib.Dec.{T, leb, leb→le, le→leb, not_T}
 use lib.ListN.{length}
-use Rattle.terms.specs.Checks.{or_else}
+use Rattle.std.specs.Prelude.{Ok, Err}
+use Rattle.terms.specs.Checks.{Check, passed, or_else}
 use Rattle.terms.specs.Choice.{pick}
 use Rattle.terms.specs.declared.Refusal.{Refusal}
 use Rattle.terms.specs.declared.Refusal.TheVariants.{Full, TooFew}
@@ -74,13 +75,13 @@ unfolding dc_rule needing
 dc_takes told x b l = pick_elim TakesIn (meets _ l) (λ _. entry_takes told x b _ _) (λ _. refuse_takes _)
 
 -- a DC call, behind its checks: those of the message, then 18
-abbrev checked : Box → Call → ℕ
+abbrev checked : Box → Call → Check
 checked x c = or_else (due_refusal DC c.told.f c.message) (old_wrong x.low (stamp_in c))
 
-twice : (n m : ℕ) (a : Act) → guarded n (guarded m a) ≡ guarded (or_else n m) a
+twice : (n m : Check) (a : Act) → guarded n (guarded m a) ≡ guarded (or_else n m) a
 unfolding guarded or_else
-twice zero m a = refl
-twice (suc n) m a = refl
+twice (Ok _) m a = refl
+twice (Err r) m a = refl
 
 dc_act : (x : Box) (c : Call) → IsDC c
     → act_of x c ≡ guarded (told_wrong c.told) (guarded (checked x c) (dc_rule c.told x (tx_part c.message) (list_behind c.message)))
@@ -135,32 +136,32 @@ folds_still x c d = folds_by _ _ (act_takes x c d) x.table x.folds
 not_done : {A : Type 0} {r : Refusal} → Refused r ≡ Done → A
 not_done h = let z : ◌≡◌ {A = ℕ} 0 1 = cc in absurd (omega arith)
 
-unguarded : (n m : ℕ) (a : Act) → n ≡ 0 → m ≡ 0 → guarded n (guarded m a) ≡ a
+unguarded : (n m : Check) (a : Act) → n ≡ passed → m ≡ passed → guarded n (guarded m a) ≡ a
 unfolding guarded
 unguarded n m a p q = rw (p, q)
 
 -- what stands behind checks matters only where they pass
-behind_checks : (n m need : ℕ) (l : Vl) (a b : Act) → (n ≡ 0 → m ≡ 0 → T (meets need l) → a ≡ b)
+behind_checks : (n m : Check) (need : ℕ) (l : Vl) (a b : Act) → (n ≡ passed → m ≡ passed → T (meets need l) → a ≡ b)
     → guarded n (guarded m (needing need l a)) ≡ guarded n (guarded m (needing need l b))
 unfolding guarded needing
-behind_checks zero zero need l a b h = go (meets need l) (λ k. h refl refl k)
+behind_checks (Ok _) (Ok _) need l a b h = go (meets need l) (λ k. h refl refl k)
   where
     go : (t : Bool) → (T t → a ≡ b) → pick t a (refuse (TooFew (lacking need l))) ≡ pick t b (refuse (TooFew (lacking need l)))
     go true k = k tt
     go false k = refl
-behind_checks zero (suc m) need l a b h = refl
-behind_checks (suc n) m need l a b h = refl
+behind_checks (Ok _) (Err r) need l a b h = refl
+behind_checks (Err r) m need l a b h = refl
 
 -- and what is taken has passed them
-passed : (n m need : ℕ) (l : Vl) (a : Act) → (guarded n (guarded m (needing need l a))).answer ≡ Done → (n ≡ 0) × (m ≡ 0) × T (meets need l)
+have_passed : (n m : Check) (need : ℕ) (l : Vl) (a : Act) → (guarded n (guarded m (needing need l a))).answer ≡ Done → (n ≡ passed) × (m ≡ passed) × T (meets need l)
 unfolding guarded needing
-passed zero zero need l a h = (refl, refl, go (meets need l) h)
+have_passed (Ok _) (Ok _) need l a h = (refl, refl, go (meets need l) h)
   where
     go : (t : Bool) → (pick t a (refuse (TooFew (lacking need l)))).answer ≡ Done → T t
     go true k = tt
     go false k = not_done k
-passed zero (suc m) need l a h = not_done h
-passed (suc n) m need l a h = not_done h
+have_passed (Ok _) (Err r) need l a h = not_done h
+have_passed (Err r) m need l a h = not_done h
 
 roomy : (told : Told) (x : Box) (a : Act) → (room_for told x a).answer ≡ Done → T (not (is_full told x))
 unfolding room_for
@@ -191,7 +192,7 @@ module _ (x : Box) (c : Call) (d : IsDC c) (new : find (stamp_in c) x.table ≡ 
   fresh = decide_act (tx_part c.message) (said_in c) none
 
   -- taken, where its checks pass and there is room
-  is_taken : told_wrong c.told ≡ 0 → checked x c ≡ 0 → Enough c → T (not (is_full c.told x))
+  is_taken : told_wrong c.told ≡ passed → checked x c ≡ passed → Enough c → T (not (is_full c.told x))
       → act_of x c ≡ fresh
   unfolding dc_rule needing dc_by_entry room_for
   is_taken n m k r =
@@ -199,16 +200,16 @@ module _ (x : Box) (c : Call) (d : IsDC c) (new : find (stamp_in c) x.table ≡ 
       ∙ (rw new (pick_false (is_full c.told x) (refuse Full) fresh r))
 
   -- refused with 13, where they pass and there is none
-  is_refused : told_wrong c.told ≡ 0 → checked x c ≡ 0 → Enough c → T (is_full c.told x)
+  is_refused : told_wrong c.told ≡ passed → checked x c ≡ passed → Enough c → T (is_full c.told x)
       → act_of x c ≡ refuse Full
   unfolding dc_rule needing dc_by_entry room_for
   is_refused n m k r =
       dc_act x c d ∙ unguarded _ _ _ n m ∙ pick_true (meets _ (list_behind c.message)) _ _ k
       ∙ (rw new (pick_true (is_full c.told x) (refuse Full) fresh r))
 
-  checks_pass : reply x c ≡ Done → (told_wrong c.told ≡ 0) × (checked x c ≡ 0) × Enough c
+  checks_pass : reply x c ≡ Done → (told_wrong c.told ≡ passed) × (checked x c ≡ passed) × Enough c
   unfolding reply dc_rule
-  checks_pass h = passed _ _ _ (list_behind c.message) _ (sym (ap (λ (a : Act). a.answer) (dc_act x c d)) ∙ h)
+  checks_pass h = have_passed _ _ _ (list_behind c.message) _ (sym (ap (λ (a : Act). a.answer) (dc_act x c d)) ∙ h)
 
   has_room : reply x c ≡ Done → T (not (is_full c.told x))
   unfolding reply
@@ -292,11 +293,11 @@ module _ (x : Box) (p q : Call) (dp : IsDC p) (dq : IsDC q) (apart : stamp_in p 
   unfolding dc_rule dc_by_entry room_for reply decide_act
   act_after room =
       dc_act y q dq
-      ∙ ap (λ (n : ℕ). guarded (told_wrong q.told) (guarded n (dc_rule q.told y (tx_part q.message) (list_behind q.message)))) checked_y
+      ∙ ap (λ (n : Check). guarded (told_wrong q.told) (guarded n (dc_rule q.told y (tx_part q.message) (list_behind q.message)))) checked_y
       ∙ behind_checks _ _ _ _ _ _ (λ n m k. rw find_y (by n m k (find (stamp_in q) x.table) refl))
       ∙ sym (dc_act x q dq)
     where
-      by : told_wrong q.told ≡ 0 → checked x q ≡ 0 → Enough q → (o : Option Entry) → find (stamp_in q) x.table ≡ o
+      by : told_wrong q.told ≡ passed → checked x q ≡ passed → Enough q → (o : Option Entry) → find (stamp_in q) x.table ≡ o
           → dc_by_entry q.told y (tx_part q.message) (said_in q) o ≡ dc_by_entry q.told x (tx_part q.message) (said_in q) o
       by n m k (some e) r = refl
       by n m k none r =

@@ -6,7 +6,7 @@ use native.Mathlib.Omega.{arith}
 use lib.ListN.{length, length-set}
 use Rattle.terms.specs.declared.Refusal.{Refusal}
 use Rattle.records.specs.declared.Mark.{Mark}
-use Rattle.records.specs.declared.Marked.TheVariants.{Is}
+use Rattle.std.specs.Prelude.{Ok}
 use Rattle.records.specs.Messages.{mark_of}
 use Rattle.rules.specs.Answers.{Refused, Version}
 use Rattle.rules.specs.Bodies.{Body}
@@ -19,7 +19,7 @@ use Rattle.rules.proofs.Folds.{folds_long}
 use Rattle.rules.proofs.Deeds.{Deed, deed, idles, lifts, looks, moves}
 
 -- the entry point for any message does what the one for its mark does
-pub act_due : (told : Told) (x : Box) (m : List ℕ) (k : Mark) → mark_of m ≡ Is k → act receive told x m ≡ act (due (Is k)) told x m
+pub act_due : (told : Told) (x : Box) (m : List ℕ) (k : Mark) → mark_of m ≡ Ok k → act receive told x m ≡ act (due (Ok k)) told x m
 unfolding act act_by mark_by due_mark
 act_due told x m k e = rw e
 

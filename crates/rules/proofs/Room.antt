@@ -9,6 +9,7 @@ use mathlib.Core.List.{List, [], ◌∷◌}
 use native.Mathlib.Omega.{arith}
 use lib.Dec.{T, eqb, ltb, nleb→lt}
 use lib.ListN.{length}
+use Rattle.terms.specs.Checks.{Check, passed}
 use Rattle.terms.proofs.Checks.{first_none, rest_none, not_less}
 use Rattle.records.specs.Vl.{Vl}
 use Rattle.records.specs.declared.Ballot.{Ballot}
@@ -17,8 +18,8 @@ use Rattle.records.specs.Views.{Views}
 use Rattle.records.specs.Contents.{largest_key, rd_wrong}
 use Rattle.records.specs.declared.Mark.{Mark}
 use Rattle.records.specs.declared.Mark.TheVariants.{PR, LG, DC, RD, IV, LD}
-use Rattle.records.specs.declared.Marked.{Marked}
-use Rattle.records.specs.declared.Marked.TheVariants.{Is, Refused as Unmarked}
+use Rattle.std.specs.Prelude.{Result, Ok, Err}
+use Rattle.terms.specs.declared.Refusal.{Refusal}
 use Rattle.records.specs.Messages.{contents_wrong, due_refusal, rd_key, rd_stamp}
 use Rattle.rules.specs.Answers.{Decision, commit, abort, Log, logged, unlogged, Settled, settled, unsettled, Vote, unvoted, waiting, vote_commit, vote_abort}
 use Rattle.rules.specs.Bodies.{Body, stamp_of, same_body}
@@ -48,13 +49,13 @@ FitsBy K L told x b (raises_low l) = L l
 FitsBy K L told x b (puts e) = (e.body ≡ b) × (find (stamp_of b) x.table ≡ none → length x.table < told.capacity)
 
 abbrev pub FitsIn : Told → Box → Body → Change → Type 0
-FitsIn told x b c = FitsBy (λ k. k ≤ largest_key) (λ l. low_wrong x l ≡ 0) told x b c
+FitsIn told x b c = FitsBy (λ k. k ≤ largest_key) (λ l. low_wrong x l ≡ passed) told x b c
 
 unfoldable pub Fit : (ℕ → Type 0) → (ℕ → Type 0) → Told → Box → Body → Act → Type 0
 Fit K L told x b a = FitsBy K L told x b a.change
 
 abbrev pub Fits : Told → Box → Body → Act → Type 0
-Fits told x b a = Fit (λ k. k ≤ largest_key) (λ l. low_wrong x l ≡ 0) told x b a
+Fits told x b a = Fit (λ k. k ≤ largest_key) (λ l. low_wrong x l ≡ passed) told x b a
 
 module _ (K L : ℕ → Type 0) (told : Told) (x : Box) (b : Body) where
   room_fits : (a : Act) → ((length x.table < told.capacity) → Fit K L told x b a) → Fit K L told x b (room_for told x a)
@@ -65,7 +66,7 @@ module _ (K L : ℕ → Type 0) (told : Told) (x : Box) (b : Body) where
   unfolding needing Fit FitsBy
   need_fits need l a h = pick_elim (Fit K L told x b) (meets need l) (λ _. h) (λ _. tt)
 
-  pub guarded_fits : (n : ℕ) (a : Act) → (n ≡ 0 → Fit K L told x b a) → Fit K L told x b (guarded n a)
+  pub guarded_fits : (c : Check) (a : Act) → (c ≡ passed → Fit K L told x b a) → Fit K L told x b (guarded c a)
   unfolding Fit FitsBy
   guarded_fits n a h = guarded_elim (Fit K L told x b) n a h (λ _. tt)
 
@@ -94,7 +95,7 @@ module _ (K L : ℕ → Type 0) (told : Told) (x : Box) (b : Body) where
   lg_by_lem l (some e) p = pick_elim (Fit K L told x b) (same_body e.body b) (λ _. by_decision e.decided) (λ _. tt)
     where
       by_log : (y : Log) → Fit K L told x b (lg_by_log told b l e y)
-      by_log (logged d v) = tt
+      by_log (logged y) = tt
       by_log unlogged = need_fits _ l _ (refl, λ q. absurd (none_some q p))
 
       by_decision : (d : Settled) → Fit K L told x b (lg_by_decision told b l e d)
@@ -131,7 +132,7 @@ module _ (K L : ℕ → Type 0) (told : Told) (x : Box) (b : Body) where
     where
       by_log : (y : Log) → Fit K L told x b (iv_by_log told b ps e y)
       by_log unlogged = tt
-      by_log (logged d v) =
+      by_log (logged y) =
           pick_elim (Fit K L told x b) (ltb largest_view (next_view told.f (e.view).0 ps)) (λ _. tt) (λ _. (refl, λ q. absurd (none_some q p)))
 
       by_decision : (d : Settled) → Fit K L told x b (iv_by_decision told b ps e d)
@@ -170,13 +171,13 @@ module _ (K L : ℕ → Type 0) (told : Told) (x : Box) (b : Body) where
   unfolding unless_old
   old_fits a h = guarded_fits _ a (λ _. h)
 
-pub rd_key_lem : (f : ℕ) (m : List ℕ) → due_refusal RD f m ≡ 0 → rd_key m ≤ largest_key
+pub rd_key_lem : (f : ℕ) (m : List ℕ) → due_refusal RD f m ≡ passed → rd_key m ≤ largest_key
 unfolding due_refusal contents_wrong rd_wrong
 rd_key_lem f m e = not_less _ _ _ (first_none _ _ (rest_none _ _ (rest_none _ _ (rest_none _ _ e))))
 
 module _ (told : Told) (x : Box) (m : List ℕ) where
   -- no message raises a low mark, so whatever is asked of one
-  pub rule_fits : (L : ℕ → Type 0) (k : Mark) → due_refusal k told.f m ≡ 0 → Fit (λ n. n ≤ largest_key) L told x (tx_part m) (rule k told x m)
+  pub rule_fits : (L : ℕ → Type 0) (k : Mark) → due_refusal k told.f m ≡ passed → Fit (λ n. n ≤ largest_key) L told x (tx_part m) (rule k told x m)
   unfolding rule
   rule_fits L PR h = old_fits _ L told x (tx_part m) _ (pr_fits _ L told x (tx_part m))
   rule_fits L LG h = old_fits _ L told x (tx_part m) _ (lg_fits _ L told x (tx_part m) (list_behind m))
@@ -185,10 +186,10 @@ module _ (told : Told) (x : Box) (m : List ℕ) where
   rule_fits L LD h = old_fits _ L told x (tx_part m) _ (ld_fits _ L told x (tx_part m) (views_behind EL m))
   rule_fits L RD h = rd_fits _ L told x (tx_part m) (rd_key m) (rd_stamp m) (rd_key_lem told.f m h)
 
-  marked_fits : (k : Marked) → Fits told x (tx_part m) (marked_act k told x m)
+  marked_fits : (k : Result Mark Refusal) → Fits told x (tx_part m) (marked_act k told x m)
   unfolding marked_act due_act Fit FitsBy
-  marked_fits (Is k) = guarded_fits _ _ told x (tx_part m) _ _ (rule_fits _ k)
-  marked_fits (Unmarked n) = tt
+  marked_fits (Ok k) = guarded_fits _ _ told x (tx_part m) _ _ (rule_fits _ k)
+  marked_fits (Err n) = tt
 
   way_fits : (way : EntryPoint) → Fits told x (tx_part m) (act_by way told x m)
   unfolding act_by low_rule Fit FitsBy

@@ -2,7 +2,6 @@
 use Prim.Native.Nat.{ℕ}
 use Rattle.terms.specs.Checks.{or_else, when, if_less, if_same, if_other}
 use Rattle.terms.specs.Group.{group_wrong, capacity_wrong}
-use Rattle.terms.specs.Refusals.{refusal_of}
 use Rattle.records.specs.Numbers.{num_at}
 use Rattle.records.specs.Tx.{tx_of, tx_bytes, read_at, write_at}
 use Rattle.records.specs.Views.{ballot_from, ballot_at, views_of, ballot_bytes, led_bytes, views_bytes}
@@ -35,7 +34,7 @@ use Rattle.rules.specs.Cases.{aborts, logs0, lg, dc, iv, ld, logs_at, ballots_of
 use Rattle.rules.specs.Vectors.{group, marked, lent, at_first, viewed, entry, logs_in, elects, zeros, stores, run, held, wanted}
 
 unfoldable checks : ℕ
-unfolding or_else when if_less if_same if_other refusal_of group_wrong capacity_wrong
+unfolding or_else when if_less if_same if_other group_wrong capacity_wrong
 checks = 0
 
 unfoldable bytes : ℕ

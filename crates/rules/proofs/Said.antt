@@ -8,7 +8,7 @@ use native.Mathlib.Omega.{arith}
 use Rattle.records.specs.Vl.{Vl}
 use Rattle.records.specs.Views.{Views}
 use Rattle.rules.specs.Answers.{Decision, commit, votes, Vote, Settled, settled, unsettled}
-use Rattle.rules.specs.Answers.{Log, View, logged, unlogged, log_view, view_as}
+use Rattle.rules.specs.Answers.{Log, View, logged_at, unlogged, log_view, view_as}
 use Rattle.rules.specs.Bodies.{Body, stamp_of}
 use Rattle.rules.specs.Lists.{kind_of, decision_of, for_logging}
 use Rattle.rules.specs.Table.{Entry, Box, find, vote_in, log_in, view_in}
@@ -17,7 +17,7 @@ use Rattle.rules.specs.Fallback.{elect_act}
 use Rattle.rules.specs.Act.{table_after, EntryPoint}
 use Rattle.rules.specs.System.{Word, vote, log, elect, cast, vote_word, word_in}
 use Rattle.rules.proofs.Laws.{find_put_same}
-use Rattle.rules.proofs.Moves.{none_some, some_eq, settled_eq, un_settled, un_logged, Holds, Ready, Prior, Listing, Brings, Leads, Leading}
+use Rattle.rules.proofs.Moves.{none_some, some_eq, settled_eq, logged_eq, un_settled, un_logged, Holds, Ready, Prior, Listing, Brings, Leads, Leading}
 use Rattle.rules.proofs.Moves.{Move, quiet, again, casts, logs_first, takes, elects, decides, replaces}
 use Rattle.rules.proofs.Kept.{Tops, tops_logged, Keeps, holds_keeps, Kept}
 
@@ -36,7 +36,7 @@ pub data Said (f : ℕ) (x : Box) (way : EntryPoint) (m : List ℕ) (b : Body) (
       → Listing f l (for_logging f (decision_of l.decision)) → Prior x.table b o → log_in o ≡ unlogged → Said f x way m b w
   by_leader : (l : Views) (o : Option Entry) → log (decision_of l.decision) l.view ≡ w → Leads f way m b l → Leading f l → Prior x.table b o
       → (view_in o).0 ≤ l.view → (log_view (log_in o)).0 < l.view → Said f x way m b w
-  by_log : (v : ℕ) (e : Entry) (d : Decision) (u : View) → elect d v ≡ w → Prior x.table b (some e) → e.log ≡ logged d u → Said f x way m b w
+  by_log : (v : ℕ) (e : Entry) (d : Decision) (u : View) → elect d v ≡ w → Prior x.table b (some e) → e.log ≡ logged_at d u → Said f x way m b w
 
 pub said : {f : ℕ} {x : Box} {way : EntryPoint} {m : List ℕ} {b : Body} {a : Act} → Move f x way m b a → (w : Word) → word_in a.answer ≡ some w → Said f x way m b w
 unfolding word_in cast_act log_act elect_act decide_act
@@ -155,8 +155,8 @@ log_top {d = d} {d' = d'} {u = u} {v = v} x k =
     let i : x.entry ≡ y.entry = some_eq refl y.is in
     go (sym x.holds ∙ ap (λ (e : Entry). e.log) i) y.keeps
   where
-    go : {z : Log} → logged d (view_as u) ≡ z → (z ≡ logged d' (view_as v)) ⊎ (v < (log_view z).0) → ((d ≡ d') × (u ≡ v)) ⊎ (v < u)
-    go p (inl q) = let r = p ∙ q in inl (cc, ap (λ (y : Log). (log_view y).0) r)
+    go : {z : Log} → logged_at d (view_as u) ≡ z → (z ≡ logged_at d' (view_as v)) ⊎ (v < (log_view z).0) → ((d ≡ d') × (u ≡ v)) ⊎ (v < u)
+    go p (inl q) = let r = logged_eq (p ∙ q) in inl (r.0, ap (λ (y : View). y.0) r.1)
     go p (inr q) = inr (omega (arith, q, ap (λ (y : Log). (log_view y).0) p))
 
 -- one decision for each view
@@ -169,7 +169,7 @@ log_once {x = x₀} {b = b} {d = d} {d' = d'} {v = v} s k = go (log_cases s)
     same (inl q) = q.0
     same (inr q) = absurd (omega (arith, q))
 
-    above : {y : Log} → (log_view y).0 < v → (y ≡ logged d' (view_as v)) ⊎ (v < (log_view y).0) → d ≡ d'
+    above : {y : Log} → (log_view y).0 < v → (y ≡ logged_at d' (view_as v)) ⊎ (v < (log_view y).0) → d ≡ d'
     above l (inl q) = absurd (omega (arith, l, ap (λ (y : Log). (log_view y).0) q))
     above l (inr q) = absurd (omega (arith, l, q))
 

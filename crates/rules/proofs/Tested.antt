@@ -7,6 +7,7 @@ use mathlib.Core.Option.{Option, some, none}
 use mathlib.Core.List.{Memᴰ as In}
 use native.Mathlib.Omega.{arith}
 use lib.Dec.{T, eqb, eqb→eq, leb, nleb→lt, nltb→le, not_T}
+use Rattle.terms.specs.Checks.{passed}
 use Rattle.terms.specs.Choice.{any}
 use Rattle.terms.proofs.Checks.{first_none, rest_none, when_none}
 use Rattle.records.specs.declared.Read.{Read}
@@ -28,7 +29,7 @@ not_waiting : {A : Type 0} → ◌≡◌ {A = Vote} waiting vote_commit → A
 not_waiting p = let z : ◌≡◌ {A = ℕ} 0 1 = cc in absurd (omega arith)
 
 -- 5: the keys of a transaction that is read without refusal
-keys_of : (b : Body) → tx_wrong (tx_of b) ≡ 0 → (r : Read) → In r (reads_of b) → read_key r ≤ largest_key
+keys_of : (b : Body) → tx_wrong (tx_of b) ≡ passed → (r : Read) → In r (reads_of b) → read_key r ≤ largest_key
 unfolding tx_wrong reads_of
 keys_of b h r m = past (decide_t (read_wide r)) (when_none _ _ (first_none _ _ (rest_none _ _ h)))
   where
@@ -37,7 +38,7 @@ keys_of b h r m = past (decide_t (read_wide r)) (when_none _ _ (first_none _ _ (
     past (inr k) n = nltb→le largest_key (read_key r) k
 
 -- 7: what a transaction that is read without refusal names
-below_of : (b : Body) → tx_wrong (tx_of b) ≡ 0 → (r : Read) → In r (reads_of b) → read_version r < stamp_of b
+below_of : (b : Body) → tx_wrong (tx_of b) ≡ passed → (r : Read) → In r (reads_of b) → read_version r < stamp_of b
 unfolding tx_wrong reads_of stamp_of
 below_of b h r m =
     past (decide_t (leb (stamp_of b) (read_version r)))
@@ -76,10 +77,10 @@ settled_of_lem x r =
     P : Status → Type 0
     P s = (T (is_bad s) → ⊥) → (T (is_pending s) → ⊥) → Names x r
 
-ready_abort : (x : Box) (b : Body) (n : Reason) → tx_wrong (tx_of b) ≡ 0 → Ready x b (vote_abort n)
+ready_abort : (x : Box) (b : Body) (n : Reason) → tx_wrong (tx_of b) ≡ passed → Ready x b (vote_abort n)
 ready_abort x b n h = record { below = below_of b h; settled = λ p. not_commit n p }
 
-pub ready_waiting : (x : Box) (b : Body) → tx_wrong (tx_of b) ≡ 0 → Ready x b (waiting_rule x b)
+pub ready_waiting : (x : Box) (b : Body) → tx_wrong (tx_of b) ≡ passed → Ready x b (waiting_rule x b)
 unfolding waiting_rule
 ready_waiting x b h =
     pick_elim (Ready x b) (any (λ r. is_bad (status x r)) (reads_of b))
@@ -97,11 +98,11 @@ pub record First (x : Box) (b : Body) (v : Vote) : Type 0 where
   pub ready : Ready x b v
   pub clear : T (stands v) → Clear x b
 
-first_abort : (x : Box) (b : Body) (n : Reason) → tx_wrong (tx_of b) ≡ 0 → First x b (vote_abort n)
+first_abort : (x : Box) (b : Body) (n : Reason) → tx_wrong (tx_of b) ≡ passed → First x b (vote_abort n)
 unfolding stands
 first_abort x b n h = record { ready = ready_abort x b n h; clear = λ s. absurd s }
 
-clear_of : (x : Box) (b : Body) → tx_wrong (tx_of b) ≡ 0 → T (not (test3 x b)) → T (not (test4 x b)) → T (not (test5 x b)) → Clear x b
+clear_of : (x : Box) (b : Body) → tx_wrong (tx_of b) ≡ passed → T (not (test3 x b)) → T (not (test4 x b)) → T (not (test5 x b)) → Clear x b
 unfolding test3 test4 fold_above
 clear_of x b w h k n = record {
   under = λ e m l u. not_any (λ y. live y && undercut b y.body) x.table none_under e m (both (live e) (undercut b e.body) l u);
@@ -117,7 +118,7 @@ clear_of x b w h k n = record {
     none_under : T (not (any (λ e. live e && undercut b e.body) x.table))
     none_under = nor_r (any (fold_above x) (reads_of b)) (any (λ e. live e && undercut b e.body) x.table) h
 
-pub first_of : (told : Told) (x : Box) (b : Body) → tx_wrong (tx_of b) ≡ 0 → First x b (first_vote told x b)
+pub first_of : (told : Told) (x : Box) (b : Body) → tx_wrong (tx_of b) ≡ passed → First x b (first_vote told x b)
 unfolding first_vote
 first_of told x b h =
     pick_elim P (test1 told b) (λ _. first_abort x b Ahead h)

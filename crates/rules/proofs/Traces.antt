@@ -7,7 +7,7 @@ use mathlib.Core.List.Memᴰ.{head as here}
 use mathlib.Core.List.Memᴰ.{tail as there}
 use mathlib.Core.List.{List, [], ◌∷◌, map, Memᴰ as In}
 use native.Mathlib.Omega.{arith}
-use lib.Dec.{T, eqb}
+use lib.Dec.{T}
 use lib.ListN.{replicate}
 use Rattle.terms.specs.Group.{boxes, abort_proof}
 use Rattle.terms.specs.declared.Refusal.TheVariants.{Election, Order}
@@ -18,9 +18,10 @@ use Rattle.records.specs.Contents.{list_wrong}
 use Rattle.records.specs.declared.Mark.{Mark}
 use Rattle.records.specs.declared.Mark.TheVariants.{PR as marked_pr, LG as marked_lg, DC as marked_dc, RD as marked_rd, IV as marked_iv, LD as marked_ld}
 use Rattle.records.specs.declared.ViewMark.TheVariants.{EL}
-use Rattle.records.specs.declared.Marked.{Marked}
+use Rattle.std.specs.Prelude.{Result, Ok, Err, is_ok}
+use Rattle.terms.specs.Checks.{order}
+use Rattle.terms.specs.declared.Refusal.{Refusal}
 use Rattle.terms.specs.declared.Refusal.TheVariants.{Mark as OtherMark}
-use Rattle.records.specs.declared.Marked.TheVariants.{Is, Refused as Unmarked}
 use Rattle.rules.specs.Answers.{Decided, Decision, Done, Elected, Kind, Logged, Refused, abort, commit, logs, view_as, votes}
 use Rattle.rules.specs.Bodies.{Body}
 use Rattle.rules.specs.Lists.{kind_of, decision_of, bit, meets}
@@ -90,16 +91,16 @@ module _ (f : ℕ) (faulty : ℕ → Bool) where
   honest_test : List Event → EntryPoint → List ℕ → Bool
   honest_test es way m = test_by (mark_by way m)
     where
-      test_by : Marked → Bool
-      test_by (Is k) = not (eqb (due_refusal k f m) 0) || carries_test es k m
-      test_by (Unmarked n) = true
+      test_by : Result Mark Refusal → Bool
+      test_by (Ok k) = not (is_ok (due_refusal k f m)) || carries_test es k m
+      test_by (Err r) = true
 
   honest_by : (es : List Event) (way : EntryPoint) (m : List ℕ) → T (honest_test es way m) → Honest f faulty es way m
   unfolding HonestBy honest_test
-  honest_by es way m h k q z = go (or_cases (not (eqb (due_refusal k f m) 0)) (carries_test es k m) (rw q at h))
+  honest_by es way m h k q z = go (or_cases (not (is_ok (due_refusal k f m))) (carries_test es k m) (rw q at h))
     where
-      go : T (not (eqb (due_refusal k f m) 0)) ⊎ T (carries_test es k m) → Carries f faulty (given_in f es) k m
-      go (inl n) = absurd (no_both (eqb (due_refusal k f m) 0) (rw z tt) n)
+      go : T (not (is_ok (due_refusal k f m))) ⊎ T (carries_test es k m) → Carries f faulty (given_in f es) k m
+      go (inl n) = absurd (no_both (is_ok (due_refusal k f m)) (rw z tt) n)
       go (inr y) = carries_by es k m y
 
   pub fair_test : List Event → Bool
@@ -145,7 +146,7 @@ few = omega arith
 
 record BusyTests : Type 0 where
   fair : T (fair_test 1 liar busy)
-  other_mark : answer_to 1 (at (due (Is marked_lg)) 0 (PR (writes 50 3))) (each (due (Is marked_pr)) 0 4 (PR (writes 50 3)) []) ≡ Refused OtherMark
+  other_mark : answer_to 1 (at (due (Ok marked_lg)) 0 (PR (writes 50 3))) (each (due (Ok marked_pr)) 0 4 (PR (writes 50 3)) []) ≡ Refused OtherMark
   written : T (provable 1 liar busy (tx_bytes (writes 50 3)) commit)
   was_read : T (provable 1 liar busy (tx_bytes (reads 60 3 50)) commit)
   other : T (provable 1 liar busy (tx_bytes (writes 55 3)) abort)
@@ -177,7 +178,7 @@ record IncidentTests : Type 0 where
   fair : T (fair_test 1 liar incident)
   answers : T (meets (abort_proof 1) doubled)
   backed : T (backed_test 1 liar incident (tx_bytes correction) doubled)
-  unformed : list_wrong 1 doubled ≡ 6
+  unformed : list_wrong 1 doubled ≡ Err order
   refused : answer_to 1 (at receive 0 (dc correction doubled)) incident ≡ Refused Order
   commits : T (provable 1 liar incident (tx_bytes correction) commit)
   no_abort : T (not (provable 1 liar incident (tx_bytes correction) abort))
@@ -213,7 +214,7 @@ record RescueTests : Type 0 where
   no_abort : T (not (provable 1 liar (torn 50) (tx_bytes (writes 50 3)) abort))
   still_no_commit : T (not (provable 1 liar (invoked 50 0 (torn 50)) (tx_bytes (writes 50 3)) commit))
   still_no_abort : T (not (provable 1 liar (invoked 50 0 (torn 50)) (tx_bytes (writes 50 3)) abort))
-  moves : answer_to 1 (at (due (Is marked_iv)) 3 (iv (writes 50 3) (seen 0 4 0))) (torn 50) ≡ Elected abort (view_as 1) 3
+  moves : answer_to 1 (at (due (Ok marked_iv)) 3 (iv (writes 50 3) (seen 0 4 0))) (torn 50) ≡ Elected abort (view_as 1) 3
   takes : answer_to 1 (at receive 3 (elected 50 3 1)) (invoked 50 0 (torn 50)) ≡ Logged commit (view_as 1)
   commits : T (provable 1 liar rescued (tx_bytes (writes 50 3)) commit)
   done : answer_to 1 (at receive 0 proved) rescued ≡ Done

@@ -1,18 +1,18 @@
 -- Boxes that no call tells apart: reordered tables, equal read marks, low marks and folds.
-use Prim.Native.Nat.{ℕ, zero, suc}
+use Prim.Native.Nat.{ℕ, suc}
 use mathlib.Core.Bool.{Bool, true, false, not, ◌&&◌, ◌||◌}
 use mathlib.Core.Path.{◌≡◌, refl, ◌∙◌, ap}
 use mathlib.Core.Option.{Option, some, none}
 use mathlib.Core.List.{List, [], ◌∷◌}
 use lib.Dec.{eqb, ltb, leb}
 use lib.ListN.{get_or}
-use Rattle.terms.specs.Checks.{ahead, if_less, or_else, undecided, when}
+use Rattle.terms.specs.Checks.{Check, ahead, if_less, or_else, undecided, when}
 use Rattle.terms.specs.Choice.{pick, any, tab}
 use Rattle.terms.specs.declared.Refusal.TheVariants.{Full}
 use Rattle.records.specs.declared.Mark.{Mark}
 use Rattle.records.specs.declared.Mark.TheVariants.{PR, LG, DC, RD, IV, LD}
-use Rattle.records.specs.declared.Marked.{Marked}
-use Rattle.records.specs.declared.Marked.TheVariants.{Is, Refused as Unmarked}
+use Rattle.std.specs.Prelude.{Result, Ok, Err}
+use Rattle.terms.specs.declared.Refusal.{Refusal}
 use Rattle.records.specs.declared.Read.{Read}
 use Rattle.records.specs.declared.ViewMark.TheVariants.{VS, EL}
 use Rattle.records.specs.Cutting.{tx_part}
@@ -54,10 +54,10 @@ pick_apart : (t : Bool) (a c z : Act) → apart_in a ≡ apart_in c → apart_in
 pick_apart true a c z h = h
 pick_apart false a c z h = refl
 
-guarded_apart : (n : ℕ) (a c : Act) → apart_in a ≡ apart_in c → apart_in (guarded n a) ≡ apart_in (guarded n c)
+guarded_apart : (k : Check) (a c : Act) → apart_in a ≡ apart_in c → apart_in (guarded k a) ≡ apart_in (guarded k c)
 unfolding guarded
-guarded_apart zero a c h = h
-guarded_apart (suc n) a c h = refl
+guarded_apart (Ok _) a c h = h
+guarded_apart (Err r) a c h = refl
 
 room_apart : (told : Told) (x : Box) (a c : Act) → apart_in a ≡ apart_in c → apart_in (room_for told x a) ≡ apart_in (room_for told x c)
 unfolding room_for
@@ -216,10 +216,10 @@ module _ {x y : Box} (w : Twins x y) where
   rule_twins IV told m = old_apart (tx_part m) _ _ (ap apart_in (iv_twins told (tx_part m) (views_behind VS m)))
   rule_twins LD told m = old_apart (tx_part m) _ _ (ap apart_in (ld_twins told (tx_part m) (views_behind EL m)))
 
-  marked_twins : (k : Marked) (told : Told) (m : List ℕ) → apart_in (marked_act k told x m) ≡ apart_in (marked_act k told y m)
+  marked_twins : (k : Result Mark Refusal) (told : Told) (m : List ℕ) → apart_in (marked_act k told x m) ≡ apart_in (marked_act k told y m)
   unfolding marked_act due_act
-  marked_twins (Is k) told m = guarded_apart _ _ _ (rule_twins k told m)
-  marked_twins (Unmarked n) told m = refl
+  marked_twins (Ok k) told m = guarded_apart _ _ _ (rule_twins k told m)
+  marked_twins (Err n) told m = refl
 
   way_twins : (way : EntryPoint) (told : Told) (m : List ℕ) → apart_in (act_by way told x m) ≡ apart_in (act_by way told y m)
   unfolding act_by

@@ -1,12 +1,11 @@
 -- What any bytes do that reach a box, and the raising of its low mark: 14, then the reading, then the rules; and what the box holds afterwards.
 use Rattle.std.specs.Prelude.{ℕ, max, List, get_or, set}
-use Rattle.terms.specs.Checks.{or_else, mark}
+use Rattle.terms.specs.Checks.{Check, or_else, mark}
 use Rattle.terms.specs.Group.{capacity_wrong, group_wrong}
-use Rattle.terms.specs.Refusals.{refusal_of}
 use Rattle.records.specs.declared.Mark.{Mark}
 use Rattle.records.specs.declared.Mark.TheVariants.{PR, LG, DC, RD, IV, LD}
-use Rattle.records.specs.declared.Marked.{Marked}
-use Rattle.records.specs.declared.Marked.TheVariants.{Is, Refused as Unmarked}
+use Rattle.std.specs.Prelude.{Result, Ok, Err}
+use Rattle.terms.specs.declared.Refusal.{Refusal}
 use Rattle.records.specs.declared.ViewMark.TheVariants.{VS, EL}
 use Rattle.records.specs.Cutting.{tx_part}
 use Rattle.records.specs.Messages.{due_refusal, list_behind, mark_of, rd_key, rd_stamp, views_behind}
@@ -18,7 +17,7 @@ use Rattle.rules.specs.Fallback.{iv_rule, ld_rule}
 use Rattle.rules.specs.Low.{above, folds_up_to, low_rule}
 
 -- 14: "f not 1 to 5, or capacity not 1 to 255". "Order: 14, 16; then cutting": 16 is about a lent table, and is asked where one is lent
-unfoldable pub told_wrong : Told → ℕ
+unfoldable pub told_wrong : Told → Check
 told_wrong told = or_else (group_wrong told.f) (capacity_wrong told.capacity)
 
 -- A11: "18 old, for PR, LG, DC, RD or a fallback message with a stamp at or below L .., the first state refusal"
@@ -39,26 +38,26 @@ unfoldable pub due_act : Mark → Told → Box → List ℕ → Act
 due_act k told x m = guarded (due_refusal k told.f m) (rule k told x m)
 
 -- by the mark that it is said to have, or the refusal of that
-unfoldable pub marked_act : Marked → Told → Box → List ℕ → Act
-marked_act (Is k) told x m = due_act k told x m
-marked_act (Unmarked n) told x m = refuse (refusal_of n)
+unfoldable pub marked_act : Result Mark Refusal → Told → Box → List ℕ → Act
+marked_act (Ok k) told x m = due_act k told x m
+marked_act (Err r) told x m = refuse r
 
 -- how a box is called: by the entry point for any message, by the one where a certain mark is due, or, A11, to raise its low mark, which takes no
 -- message
 pub data EntryPoint : Type 0 where
   receive : EntryPoint
-  due : Marked → EntryPoint
+  due : Result Mark Refusal → EntryPoint
   raising : ℕ → EntryPoint
 
 -- "mark is not the one due": where none of the six is due, all is refused with 2
-unfoldable pub due_mark : Marked → Marked
-due_mark (Is k) = Is k
-due_mark (Unmarked n) = Unmarked mark
+unfoldable pub due_mark : Result Mark Refusal → Result Mark Refusal
+due_mark (Ok k) = Ok k
+due_mark (Err r) = Err mark
 
-unfoldable pub mark_by : EntryPoint → List ℕ → Marked
+unfoldable pub mark_by : EntryPoint → List ℕ → Result Mark Refusal
 mark_by receive m = mark_of m
 mark_by (due k) m = due_mark k
-mark_by (raising l) m = Unmarked mark
+mark_by (raising l) m = Err mark
 
 -- a message by its mark, or a low mark
 unfoldable pub act_by : EntryPoint → Told → Box → List ℕ → Act

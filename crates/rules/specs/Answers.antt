@@ -1,5 +1,8 @@
 -- What a box answers: for every case of each enum the paper's number and values.
-use Rattle.std.specs.Prelude.{ℕ, List, [], ◌∷◌}
+use Rattle.std.specs.Prelude.{ℕ, List, [], ◌∷◌, Option}
+pub use Rattle.std.specs.Prelude.{None as unsettled, Some as settled}
+pub use Rattle.std.specs.Prelude.{None as unlogged, Some as logged}
+pub use Rattle.std.specs.Prelude.{None as unvisited, Some as visited}
 use Rattle.terms.specs.Refusals.{number_of, lacking_of}
 pub use Rattle.terms.specs.declared.Decision.{Decision}
 pub use Rattle.terms.specs.declared.Decision.TheVariants.{Commit as commit, Abort as abort}
@@ -10,16 +13,11 @@ pub use Rattle.rules.specs.declared.Reason.{Reason}
 pub use Rattle.rules.specs.declared.Reason.TheVariants.{Ahead, NoVersion, Overwritten, Undercuts, ReadMark, Dependency}
 pub use Rattle.rules.specs.declared.Vote.{Vote}
 pub use Rattle.rules.specs.declared.Vote.TheVariants.{None as unvoted, Commit as vote_commit, Abort as vote_abort, Waiting as waiting}
-pub use Rattle.rules.specs.declared.Settled.{Settled}
-pub use Rattle.rules.specs.declared.Settled.TheVariants.{None as unsettled, Is as settled}
 pub use Rattle.rules.specs.declared.Version.{Version}
-pub use Rattle.rules.specs.declared.Visited.{Visited}
-pub use Rattle.rules.specs.declared.Visited.TheVariants.{None as unvisited, Is as visited}
 pub use Rattle.rules.specs.declared.Answer.{Answer}
 pub use Rattle.rules.specs.declared.Answer.TheVariants.{Voted, Decided, Logged, Done, Found, Refused, Elected, Raised}
 pub use Rattle.terms.specs.declared.View.{View}
-pub use Rattle.rules.specs.declared.Log.{Log}
-pub use Rattle.rules.specs.declared.Log.TheVariants.{None as unlogged, Is as logged}
+pub use Rattle.rules.specs.declared.Logged.{Logged as LoggedDecision}
 
 -- "An abort vote carries one of six reasons": the five tests' numbers, and "abort, reason 6"
 abbrev pub reason_number : Reason → ℕ
@@ -44,7 +42,10 @@ vote_reason waiting = 0
 vote_reason vote_commit = 0
 vote_reason (vote_abort r) = reason_number r
 
--- "decision or none": its code
+-- "decision or none", and its code
+abbrev pub Settled : Type 0
+Settled = Option Decision
+
 abbrev pub settled_number : Settled → ℕ
 settled_number unsettled = 0
 settled_number (settled d) = decision_number d
@@ -53,16 +54,26 @@ settled_number (settled d) = decision_number d
 abbrev pub view_as : ℕ → View
 view_as v = record { 0 = v }
 
--- "logged decision or none": its code; A5: "the view of its logged decision", "where nothing is logged, the logged view counts as 0"
+-- "logged decision or none", the case of one that was logged in a view, and its code; A5: "the view of its logged decision", "where nothing is logged,
+-- the logged view counts as 0"
+abbrev pub Log : Type 0
+Log = Option LoggedDecision
+
+abbrev pub logged_at : Decision → View → Log
+logged_at d v = logged (record { decision = d; view = v })
+
 abbrev pub log_number : Log → ℕ
 log_number unlogged = 0
-log_number (logged d v) = decision_number d
+log_number (logged y) = decision_number y.decision
 
 abbrev pub log_view : Log → View
 log_view unlogged = view_as 0
-log_view (logged d v) = v
+log_view (logged y) = y.view
 
 -- A6: a number of entries, told or not: "carry no number" is not 0
+abbrev pub Visited : Type 0
+Visited = Option ℕ
+
 abbrev pub visited_told : Visited → ℕ
 visited_told unvisited = 0
 visited_told (visited n) = 1

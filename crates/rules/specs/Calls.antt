@@ -1,16 +1,15 @@
 -- PR, LG, DC and RD: what each answers and stores, once the message is read. Refusals 9 to 13, 15 and 18 stand here.
-use Rattle.std.specs.Prelude.{ℕ, zero, suc, Bool, true, false, ◌&&◌, List, [], ◌∷◌, eqb, ltb, leb, length}
+use Rattle.std.specs.Prelude.{ℕ, Bool, true, false, ◌&&◌, List, [], ◌∷◌, eqb, ltb, leb, length, Ok, Err}
 use Rattle.std.proofs.Math.Option.{Option, some, none}
 use Rattle.terms.specs.Choice.{pick}
-use Rattle.terms.specs.Checks.{if_less, when, ahead, old}
-use Rattle.terms.specs.Refusals.{refusal_of}
+use Rattle.terms.specs.Checks.{Check, if_less, when, ahead, old}
 use Rattle.terms.specs.declared.Refusal.{Refusal}
 use Rattle.terms.specs.declared.Refusal.TheVariants.{OtherBody, TooFew, Contradiction, Full}
 use Rattle.records.specs.declared.Write.{Write}
 use Rattle.records.specs.Tx.{write_key, write_value}
 use Rattle.records.specs.Vl.{Vl}
 use Rattle.rules.specs.Answers.{Answer, Decided, Decision, Done, Found, Logged, Refused, Settled, Version, Voted, abort, commit, settled, unsettled}
-use Rattle.rules.specs.Answers.{Log, View, logged, unlogged, view_as}
+use Rattle.rules.specs.Answers.{Log, View, logged, logged_at, unlogged, view_as}
 use Rattle.rules.specs.Answers.{Vote, unvisited, unvoted, visited, vote_abort, vote_commit, waiting}
 use Rattle.rules.specs.Bodies.{Body, same_body, stamp_of, writes_key, writes_of}
 use Rattle.rules.specs.Lists.{decision_of, for_logging, for_proof, kind_of, lacking, meets}
@@ -37,13 +36,13 @@ keep a = record { answer = a; change = nothing }
 abbrev pub refuse : Refusal → Act
 refuse r = keep (Refused r)
 
--- a check in front: 0 passes
-unfoldable pub guarded : ℕ → Act → Act
-guarded zero a = a
-guarded (suc n) a = refuse (refusal_of (suc n))
+-- a check in front
+unfoldable pub guarded : Check → Act → Act
+guarded (Ok _) a = a
+guarded (Err r) a = refuse r
 
 -- A11: "18 old, for .. a stamp at or below L and for an L not above the present one, the first state refusal"
-unfoldable pub old_wrong : ℕ → ℕ → ℕ
+unfoldable pub old_wrong : ℕ → ℕ → Check
 old_wrong low s = when (leb s low) old
 
 -- 13: "a new entry is needed and the table is at capacity"; "Capacity counts every entry"
@@ -95,7 +94,7 @@ pr_rule told x b = pr_by_entry told x b (find (stamp_of b) x.table)
 -- with the view of the log, and the current view that is left
 unfoldable pub log_act : Body → Decision → View → View → Option Entry → Act
 log_act b d v current o =
-    record { answer = Logged d v; change = puts (record { body = b; vote = vote_in o; log = logged d v; view = current; decided = unsettled }) }
+    record { answer = Logged d v; change = puts (record { body = b; vote = vote_in o; log = logged_at d v; view = current; decided = unsettled }) }
 
 -- A5: "A log from an LG has view 0"
 abbrev pub first_log : Body → Decision → Option Entry → Act
@@ -103,7 +102,7 @@ first_log b d o = log_act b d (view_as 0) (view_in o) o
 
 -- "Already logged: that same log. Then 11"; A5: it "is taken only if nothing is logged"
 unfoldable pub lg_by_log : Told → Body → Vl → Entry → Log → Act
-lg_by_log told b l e (logged d v) = keep (Logged d v)
+lg_by_log told b l e (logged y) = keep (Logged y.decision y.view)
 lg_by_log told b l e unlogged = needing (for_logging told.f (decision_of l.decision)) l (first_log b (decision_of l.decision) (some e))
 
 -- "Decided: Decided."

@@ -2,7 +2,7 @@
 use Rattle.std.specs.Prelude.{ℕ, ◌≡◌, List, [], ◌∷◌, ◌++◌}
 use Rattle.terms.specs.declared.Refusal.TheVariants.{Full, Old}
 use Rattle.records.specs.declared.Mark.TheVariants.{DC as marked_dc}
-use Rattle.records.specs.declared.Marked.TheVariants.{Is}
+use Rattle.std.specs.Prelude.{Ok}
 use Rattle.rules.specs.Answers.{Answer, Decided, Done, NoVersion, Raised, Refused, abort, commit, settled, unsettled, unvoted, vote_commit, votes}
 use Rattle.rules.specs.Answers.{waiting}
 use Rattle.rules.specs.Table.{Box, Entry}
@@ -29,7 +29,7 @@ committing capacity =
 
 unfoldable pub aborting : ℕ → Call
 aborting capacity =
-    record { entry = due (Is marked_dc); told = record { f = 1; capacity = capacity; clock = 0; delta = 3 }; message = DC (writes 65 5) votes abort 4 }
+    record { entry = due (Ok marked_dc); told = record { f = 1; capacity = capacity; clock = 0; delta = 3 }; message = DC (writes 65 5) votes abort 4 }
 
 unfoldable pub committed : Entry
 committed = entry (writes 70 5) unvoted unsettled (settled commit)

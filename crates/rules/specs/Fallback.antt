@@ -64,8 +64,8 @@ elect_act told b e d v =
 -- "sends its election answer only if it has logged": "22 where the box holds no log for this body, then 24 where the new view would pass 65,535"
 unfoldable pub iv_by_log : Told → Body → List Ballot → Entry → Log → Act
 iv_by_log told b ps e unlogged = refuse NotLogged
-iv_by_log told b ps e (logged d v) =
-    pick (ltb largest_view (next_view told.f e.view.0 ps)) (refuse LastView) (elect_act told b e d (next_view told.f e.view.0 ps))
+iv_by_log told b ps e (logged y) =
+    pick (ltb largest_view (next_view told.f e.view.0 ps)) (refuse LastView) (elect_act told b e y.decision (next_view told.f e.view.0 ps))
 
 -- "A box that has decided answers Decided to both messages."
 unfoldable pub iv_by_decision : Told → Body → List Ballot → Entry → Settled → Act

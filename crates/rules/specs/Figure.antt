@@ -2,7 +2,7 @@
 use Rattle.std.specs.Prelude.{ℕ, ◌+◌, ◌*◌, ◌≤◌, Bool, true, false, ◌≡◌, List, T, length}
 use Rattle.std.proofs.Math.Option.{some}
 use Rattle.records.specs.declared.Mark.TheVariants.{PR}
-use Rattle.records.specs.declared.Marked.TheVariants.{Is}
+use Rattle.std.specs.Prelude.{Ok}
 use Rattle.records.specs.Cutting.{tx_part}
 use Rattle.rules.specs.Answers.{Answer, Decided, Done, Elected, Found, Logged, Raised, Refused, Settled, Visited, Vote, Voted}
 use Rattle.rules.specs.Answers.{settled, unsettled, unvisited, unvoted, visited, vote_abort, vote_commit, waiting}
@@ -36,7 +36,7 @@ answered unsettled unvoted = false
 -- a message that is taken for a PR, by its own mark or since a PR is due: any bytes, any numbers beside them, any table
 module _ (told : Told) (x : Box) (p : EntryPoint) (m : List ℕ) where
   abbrev pub IsPR : Type 0
-  IsPR = mark_by p m ≡ Is PR
+  IsPR = mark_by p m ≡ Ok PR
 
   abbrev pub said : Answer
   said = (act p told x m).answer

@@ -1,7 +1,7 @@
 -- A11, "Let old entries go": raising the low mark, what it folds and what it drops. Refusal 19 stands here.
 use Rattle.std.specs.Prelude.{ℕ, suc, Bool, ◌&&◌, List, [], ◌∷◌, leb, ltb}
 use Rattle.std.proofs.Math.Option.{Option, some, none}
-use Rattle.terms.specs.Checks.{or_else, when, undecided}
+use Rattle.terms.specs.Checks.{Check, or_else, when, undecided}
 use Rattle.terms.specs.Choice.{any, pick, tab}
 use Rattle.rules.specs.Answers.{Raised, Version}
 use Rattle.rules.specs.Bodies.{stamp_of}
@@ -17,7 +17,7 @@ unfoldable pub open_up_to : ℕ → Entry → Bool
 open_up_to l e = up_to l e && is_undecided e.decided
 
 -- "18 .. for an L not above the present one"; "19 undecided, after 18"
-unfoldable pub low_wrong : Box → ℕ → ℕ
+unfoldable pub low_wrong : Box → ℕ → Check
 low_wrong x l = or_else (old_wrong x.low l) (when (any (open_up_to l) x.table) undecided)
 
 -- "A low mark L may be raised"

@@ -3,7 +3,7 @@ use Rattle.std.specs.Prelude.{ℕ, ◌+◌, ◌≤◌, ◌≡◌, List, [], ◌�
 use Rattle.std.proofs.Math.Option.{none}
 use Rattle.terms.specs.declared.Refusal.TheVariants.{Full}
 use Rattle.records.specs.declared.Mark.TheVariants.{DC}
-use Rattle.records.specs.declared.Marked.TheVariants.{Is}
+use Rattle.std.specs.Prelude.{Ok}
 use Rattle.records.specs.Cutting.{tx_part}
 use Rattle.rules.specs.Answers.{Answer, Done, Refused, Version, apart_from_number}
 use Rattle.rules.specs.Bodies.{stamp_of}
@@ -18,7 +18,7 @@ pub record Call : Type 0 where
 
 -- "DC calls": a message that is taken for a DC, by its own mark or since a DC is due
 abbrev pub IsDC : Call → Type 0
-IsDC c = mark_by c.entry c.message ≡ Is DC
+IsDC c = mark_by c.entry c.message ≡ Ok DC
 
 -- the stamp of its transaction
 abbrev pub stamp_in : Call → ℕ

@@ -3,8 +3,9 @@ use Rattle.std.specs.Prelude.{ℕ, ◌+◌, ◌*◌, ◌≤◌, ◌<◌, Bool, t
 use Rattle.terms.specs.Choice.{any}
 use Rattle.terms.specs.Group.{boxes}
 use Rattle.records.specs.declared.Mark.TheVariants.{PR, LG, DC, RD, IV, LD}
-use Rattle.records.specs.declared.Marked.{Marked}
-use Rattle.records.specs.declared.Marked.TheVariants.{Is, Refused as Unmarked}
+use Rattle.std.specs.Prelude.{Result, Ok, Err}
+use Rattle.terms.specs.declared.Refusal.{Refusal}
+use Rattle.records.specs.declared.Mark.{Mark}
 use Rattle.records.specs.Messages.{rd_key, rd_stamp}
 use Rattle.rules.specs.Answers.{Answer, Decided, Done, Elected, Found, Logged, Raised, Refused, Voted, commit}
 use Rattle.rules.specs.Bodies.{Body, same_body, stamp_of, writes_key}
@@ -31,14 +32,14 @@ ever_held x b [] = holds b (x.held [])
 ever_held x b (e ∷ es) = holds b (x.held (e ∷ es)) || ever_held x b es
 
 -- "an RD"
-unfoldable pub is_rd : Marked → Bool
-is_rd (Is RD) = true
-is_rd (Is PR) = false
-is_rd (Is LG) = false
-is_rd (Is DC) = false
-is_rd (Is IV) = false
-is_rd (Is LD) = false
-is_rd (Unmarked n) = false
+unfoldable pub is_rd : Result Mark Refusal → Bool
+is_rd (Ok RD) = true
+is_rd (Ok PR) = false
+is_rd (Ok LG) = false
+is_rd (Ok DC) = false
+is_rd (Ok IV) = false
+is_rd (Ok LD) = false
+is_rd (Err n) = false
 
 -- "of a key at stamp s"
 unfoldable pub asks : ℕ → ℕ → Event → Bool

@@ -14,7 +14,8 @@ use Rattle.records.specs.declared.ViewMark.TheVariants.{EL}
 use Rattle.records.specs.Contents.{list_wrong}
 use Rattle.records.specs.declared.Mark.{Mark}
 use Rattle.records.specs.declared.Mark.TheVariants.{PR, LG, DC, RD, IV, LD}
-use Rattle.records.specs.declared.Marked.TheVariants.{Is}
+use Rattle.std.specs.Prelude.{Ok}
+use Rattle.terms.specs.Checks.{passed}
 use Rattle.records.specs.Cutting.{tx_part}
 use Rattle.records.specs.Messages.{due_refusal, list_behind, views_behind}
 use Rattle.rules.specs.Answers.{Answer, Decided, Decision, Done, Elected, Found, Kind, Logged, Raised, Refused, Voted, abort, commit, logs, votes}
@@ -141,7 +142,7 @@ module _ (f : ℕ) (faulty : ℕ → Bool) where
 
   -- asked of a message only if it is read without refusal
   unfoldable pub HonestBy : Given → EntryPoint → List ℕ → Type 0
-  HonestBy given p m = (k : Mark) → mark_by p m ≡ Is k → due_refusal k f m ≡ 0 → Carries given k m
+  HonestBy given p m = (k : Mark) → mark_by p m ≡ Ok k → due_refusal k f m ≡ passed → Carries given k m
 
   abbrev pub Honest : List Event → EntryPoint → List ℕ → Type 0
   Honest es p m = HonestBy (given_in f es) p m
@@ -155,7 +156,7 @@ module _ (f : ℕ) (faulty : ℕ → Bool) where
   pub record ProofBy (given : Given) (b : Body) (d : Decision) : Type 0 where
     pub list : Vl
     pub names : decision_of list.decision ≡ d
-    pub formed : list_wrong f list ≡ 0
+    pub formed : list_wrong f list ≡ passed
     pub enough : T (meets (for_proof f (kind_of list.kind) (decision_of list.decision)) list)
     pub backed : BackedBy given b list
 

@@ -3,7 +3,8 @@ use Rattle.std.specs.Prelude.{ℕ, zero, suc, ◌+◌, Bool, ◌≡◌, T, eqb, 
 use mathlib.Core.List.{List, [], ◌∷◌, ◌++◌, map, Memᴰ as In}
 use Rattle.terms.specs.Group.{abort_proof}
 use Rattle.terms.specs.declared.Refusal.TheVariants.{Election, Mark as OtherMark, Order}
-use Rattle.records.specs.declared.Marked.TheVariants.{Is}
+use Rattle.std.specs.Prelude.{Ok, Err}
+use Rattle.terms.specs.Checks.{order, passed}
 use Rattle.records.specs.declared.Mark.TheVariants.{PR as marked_pr, LG as marked_lg, DC as marked_dc, RD as marked_rd, IV as marked_iv, LD as marked_ld}
 use Rattle.records.specs.declared.Pair.{Pair}
 use Rattle.records.specs.Tx.{Tx, tx_bytes}
@@ -35,16 +36,16 @@ with_liar i n d = pairs i n d ++ pairs 5 1 d
 -- box 4 has key 4 read at 80 and votes abort on 70, so that 70 commits by logs only. The liar stands on both sides of 70, and in every list.
 -- Every entry point is called; where box 0 is due an LG it gets a PR and refuses it
 unfoldable pub busy_first : List Event
-busy_first = at (due (Is marked_lg)) 0 (PR (writes 50 3)) ∷ each (due (Is marked_pr)) 0 4 (PR (writes 50 3)) []
+busy_first = at (due (Ok marked_lg)) 0 (PR (writes 50 3)) ∷ each (due (Ok marked_pr)) 0 4 (PR (writes 50 3)) []
 
 unfoldable pub busy_then : List Event → List Event
 busy_then before =
-    each (due (Is marked_dc)) 0 5 (dc (writes 70 4) (list logs commit (with_liar 0 4 commit)))
+    each (due (Ok marked_dc)) 0 5 (dc (writes 70 4) (list logs commit (with_liar 0 4 commit)))
     (each receive 4 1 (lg (writes 70 4) (list votes abort (with_liar 4 1 abort)))
-    (each (due (Is marked_lg)) 0 4 (lg (writes 70 4) (list votes commit (with_liar 0 4 commit)))
+    (each (due (Ok marked_lg)) 0 4 (lg (writes 70 4) (list votes commit (with_liar 0 4 commit)))
     (each receive 0 5 (PR (writes 70 4))
-    (each (due (Is marked_rd)) 4 1 (RD 4 80)
-    (each (due (Is marked_pr)) 0 5 (PR (writes 55 3))
+    (each (due (Ok marked_rd)) 4 1 (RD 4 80)
+    (each (due (Ok marked_pr)) 0 5 (PR (writes 55 3))
     (each receive 0 5 (PR (reads 60 3 50))
     (each receive 0 5 (dc (writes 50 3) (list votes commit (with_liar 0 5 commit)))
     (each receive 4 1 (PR (writes 50 3)) before))))))))
@@ -54,7 +55,7 @@ busy = busy_then busy_first
 
 pub record Busy : Type 0 where
   pub fair : Fair 1 liar busy
-  pub other_mark : answer_to 1 (at (due (Is marked_lg)) 0 (PR (writes 50 3))) (each (due (Is marked_pr)) 0 4 (PR (writes 50 3)) []) ≡ Refused OtherMark
+  pub other_mark : answer_to 1 (at (due (Ok marked_lg)) 0 (PR (writes 50 3))) (each (due (Ok marked_pr)) 0 4 (PR (writes 50 3)) []) ≡ Refused OtherMark
   pub writer_commits : Proof 1 liar busy (tx_bytes (writes 50 3)) commit
   pub reader_commits : Proof 1 liar busy (tx_bytes (reads 60 3 50)) commit
   pub other_aborts : Proof 1 liar busy (tx_bytes (writes 55 3)) abort
@@ -90,7 +91,7 @@ pub record Incident : Type 0 where
   pub answers : T (meets (abort_proof 1) doubled)
   pub backed : Backed 1 liar incident (tx_bytes correction) doubled
   -- but it names a box twice, and a box that gets it refuses it
-  pub unformed : list_wrong 1 doubled ≡ 6
+  pub unformed : list_wrong 1 doubled ≡ Err order
   pub refused : answer_to 1 (at receive 0 (dc correction doubled)) incident ≡ Refused Order
   -- so the correction has a commit proof and no abort proof
   pub commits : Proof 1 liar incident (tx_bytes correction) commit
@@ -100,7 +101,7 @@ pub record Incident : Type 0 where
 abbrev pub NamedOnce : Type 0
 NamedOnce =
     (f : ℕ) (l : Vl) (before after : List Pair) (p q : Pair)
-    → l.pairs ≡ before ++ (p ∷ after) → In q after → p.number ≡ q.number → list_wrong f l ≡ 0 → ⊥
+    → l.pairs ≡ before ++ (p ∷ after) → In q after → p.number ≡ q.number → list_wrong f l ≡ passed → ⊥
 
 -- ---- A5: box 4 has key 3 read at 90 and votes abort. The gateway shows the votes for commit to boxes 0 to 2, with the liar's, and those for
 -- abort to 3 and 4, with the liar's; then it dies
@@ -120,7 +121,7 @@ elected s leader v = ld (writes s 3) leader commit v (elections 0 3 commit v ++ 
 
 -- ---- a dead gateway's transaction is finished: the leader of view 1 of 50 is box 3
 unfoldable pub rescued : List Event
-rescued = each (due (Is marked_ld)) 0 5 (elected 50 3 1) (invoked 50 0 (torn 50))
+rescued = each (due (Ok marked_ld)) 0 5 (elected 50 3 1) (invoked 50 0 (torn 50))
 
 -- five logs of view 1
 unfoldable pub proved : List ℕ
@@ -137,7 +138,7 @@ pub record Rescue : Type 0 where
   pub stuck : (d : Decision) → Proof 1 liar (torn 50) (tx_bytes (writes 50 3)) d → ⊥
   pub still_stuck : (d : Decision) → Proof 1 liar (invoked 50 0 (torn 50)) (tx_bytes (writes 50 3)) d → ⊥
   -- the boxes move to view 1, whose leader is box 3, and take its decision, box 3 over its own log
-  pub moves : answer_to 1 (at (due (Is marked_iv)) 3 (iv (writes 50 3) (seen 0 4 0))) (torn 50) ≡ Elected abort (view_as 1) 3
+  pub moves : answer_to 1 (at (due (Ok marked_iv)) 3 (iv (writes 50 3) (seen 0 4 0))) (torn 50) ≡ Elected abort (view_as 1) 3
   pub takes : answer_to 1 (at receive 3 (elected 50 3 1)) (invoked 50 0 (torn 50)) ≡ Logged commit (view_as 1)
   -- so that there is a proof, and every box decides
   pub commits : Proof 1 liar rescued (tx_bytes (writes 50 3)) commit

@@ -4,7 +4,7 @@ use Rattle.terms.specs.declared.Refusal.TheVariants.{Ahead as AheadOfClock, Code
 use Rattle.terms.specs.declared.Refusal.TheVariants.{Election, LastView, NotLogged, Passed, Range, Short, Trailing}
 use Rattle.records.specs.Tx.{Tx, tx_bytes}
 use Rattle.rules.specs.Answers.{Answer, Decided, Decision, Done, Elected, Logged, Refused, Settled, Vote, abort, commit, logs, settled, unsettled, unvoted, votes, waiting}
-use Rattle.rules.specs.Answers.{Log, logged, unlogged, view_as}
+use Rattle.rules.specs.Answers.{Log, logged_at, unlogged, view_as}
 use Rattle.rules.specs.Answers.{Ahead, Dependency, NoVersion, Overwritten, ReadMark, Undercuts, vote_abort, vote_commit}
 use Rattle.rules.specs.Table.{Box, Told, Entry, empty, no_version}
 use Rattle.rules.specs.Act.{after}
@@ -26,7 +26,7 @@ lent table sent due = record { told = line; start = marked table 0; sent = map g
 -- a log of view 0, or none
 unfoldable pub at_first : Settled → Log
 at_first unsettled = unlogged
-at_first (settled d) = logged d (view_as 0)
+at_first (settled d) = logged_at d (view_as 0)
 
 -- with the view of its log, and a current view
 unfoldable pub viewed : Tx → Vote → Log → ℕ → Settled → Entry
@@ -402,36 +402,36 @@ storings =
     0
     -- A5: an IV changes the current view only
     ∷ stores [] (PR (writes 50 3) ∷ LG (writes 50 3) abort 2 ∷ PR (writes 60 3) ∷ iv (writes 50 3) (seen 0 4 0) ∷ [])
-    (viewed (writes 50 3) vote_commit (logged abort (view_as 0)) 1 unsettled ∷ entry (writes 60 3) vote_commit unsettled unsettled ∷ [])
+    (viewed (writes 50 3) vote_commit (logged_at abort (view_as 0)) 1 unsettled ∷ entry (writes 60 3) vote_commit unsettled unsettled ∷ [])
     0
     -- a decision that is taken: log and both views, in its place; and a new entry, with vote none
     ∷ stores []
     (PR (writes 50 3) ∷ LG (writes 50 3) commit 4 ∷ ld (writes 60 3) 1 commit 1 (elections 0 5 commit 1)
     ∷ ld (writes 50 3) 4 abort 2 (elections 0 5 abort 2) ∷ [])
-    (viewed (writes 50 3) vote_commit (logged abort (view_as 2)) 2 unsettled ∷ viewed (writes 60 3) unvoted (logged commit (view_as 1)) 1 unsettled ∷ [])
+    (viewed (writes 50 3) vote_commit (logged_at abort (view_as 2)) 2 unsettled ∷ viewed (writes 60 3) unvoted (logged_at commit (view_as 1)) 1 unsettled ∷ [])
     0
     -- a log from an LG: view 0, beside the current view
     ∷ stores (viewed (writes 50 3) unvoted unlogged 3 unsettled ∷ []) (LG (writes 50 3) commit 4 ∷ [])
-    (viewed (writes 50 3) unvoted (logged commit (view_as 0)) 3 unsettled ∷ [])
+    (viewed (writes 50 3) unvoted (logged_at commit (view_as 0)) 3 unsettled ∷ [])
     0
     -- a PR leaves the views, a new vote and a waiting one; so does a DC that is taken
     ∷ stores
-    (viewed (writes 50 3) unvoted (logged abort (view_as 2)) 5 unsettled ∷ viewed (reads 60 3 50) waiting (logged commit (view_as 3)) 4 unsettled ∷ [])
+    (viewed (writes 50 3) unvoted (logged_at abort (view_as 2)) 5 unsettled ∷ viewed (reads 60 3 50) waiting (logged_at commit (view_as 3)) 4 unsettled ∷ [])
     (PR (writes 50 3) ∷ PR (reads 60 3 50) ∷ dc (writes 50 3) (logs_at 2 abort (pairs 0 5 abort)) ∷ PR (reads 60 3 50) ∷ [])
-    (viewed (writes 50 3) vote_commit (logged abort (view_as 2)) 5 (settled abort)
-    ∷ viewed (reads 60 3 50) (vote_abort Dependency) (logged commit (view_as 3)) 4 unsettled
+    (viewed (writes 50 3) vote_commit (logged_at abort (view_as 2)) 5 (settled abort)
+    ∷ viewed (reads 60 3 50) (vote_abort Dependency) (logged_at commit (view_as 3)) 4 unsettled
     ∷ [])
     0
     -- a body in the place of another has none
-    ∷ stores (viewed (writes 50 3) vote_commit (logged abort (view_as 2)) 5 unsettled ∷ []) (DC (writes 50 4) votes commit 6 ∷ [])
+    ∷ stores (viewed (writes 50 3) vote_commit (logged_at abort (view_as 2)) 5 unsettled ∷ []) (DC (writes 50 4) votes commit 6 ∷ [])
     (entry (writes 50 4) unvoted unsettled (settled commit) ∷ [])
     0
     -- 9, 21, 22, 23 and 24 change nothing
     ∷ stores
-    (viewed (writes 50 3) vote_commit (logged abort (view_as 2)) 5 unsettled ∷ entry (writes 60 3) vote_commit unsettled unsettled ∷ [])
+    (viewed (writes 50 3) vote_commit (logged_at abort (view_as 2)) 5 unsettled ∷ entry (writes 60 3) vote_commit unsettled unsettled ∷ [])
     (iv (writes 50 4) (seen 0 4 7) ∷ ld (writes 50 3) 0 commit 4 (elections 0 5 commit 4) ∷ iv (writes 60 3) (seen 0 4 7)
     ∷ ld (writes 50 3) 3 commit 7 (elections 0 4 commit 7) ∷ iv (writes 50 3) (seen 0 4 65535) ∷ ld (writes 50 4) 3 commit 7 (elections 0 5 commit 7) ∷ [])
-    (viewed (writes 50 3) vote_commit (logged abort (view_as 2)) 5 unsettled ∷ entry (writes 60 3) vote_commit unsettled unsettled ∷ [])
+    (viewed (writes 50 3) vote_commit (logged_at abort (view_as 2)) 5 unsettled ∷ entry (writes 60 3) vote_commit unsettled unsettled ∷ [])
     0
     ∷ []
 

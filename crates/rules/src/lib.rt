@@ -8,7 +8,7 @@ ghost use Rattle.rules.specs.Fallback.{leader_of};
 use terms::{Decision, Group, Refusal, Stamp, View};
 
 // Why a box votes abort: a test's number, or 6 for the waiting rule.
-#[derive(Clone, Copy)]
+#[derive(Clone, Copy, PartialEq, Eq)]
 pub enum Reason {
     Ahead,
     NoVersion,
@@ -34,8 +34,8 @@ impl Reason {
     }
 }
 
-// A vote, or none; its numbers are those that a tally takes.
-#[derive(Clone, Copy)]
+// A vote, or none; its numbers are those that a tally takes. It stays an enum, and no Option of a vote that is cast: docs/FORMS.md binds that form.
+#[derive(Clone, Copy, PartialEq, Eq)]
 pub enum Vote {
     None,
     Commit,
@@ -69,56 +69,36 @@ impl Vote {
     }
 }
 
-// A decision, or none.
-#[derive(Clone, Copy)]
-pub enum Settled {
-    None,
-    Is(Decision),
+// The code of a decision or none, in an entry: 0 none, 1 commit, 2 abort.
+pub fn settled_number(decided: Option<Decision>) -> u8
+    ensures { result ≡ settled_number decided }
+{
+    decided.map_or(0, |d| d.number())
 }
 
-impl Settled {
-    // Its code in an entry: 0 none, 1 commit, 2 abort.
-    pub fn number(self) -> u8
-        ensures { result ≡ settled_number self }
-    {
-        match self {
-            Settled::None => 0,
-            Settled::Is(d) => d.number(),
-        }
-    }
+// A decision that was logged, and its view.
+#[derive(Clone, Copy, PartialEq, Eq)]
+pub struct Logged {
+    pub decision: Decision,
+    pub view: View,
 }
 
-// A decision that was logged and its view, or none.
-#[derive(Clone, Copy)]
-pub enum Log {
-    None,
-    Is(Decision, View),
+// The code of a logged decision or none, in an entry: 0 none, 1 commit, 2 abort.
+pub fn log_number(log: Option<Logged>) -> u8
+    ensures { result ≡ log_number log }
+{
+    log.map_or(0, |l| l.decision.number())
 }
 
-impl Log {
-    // Its code in an entry: 0 none, 1 commit, 2 abort.
-    pub fn number(self) -> u8
-        ensures { result ≡ log_number self }
-    {
-        match self {
-            Log::None => 0,
-            Log::Is(d, _) => d.number(),
-        }
-    }
-
-    // Its view: 0 where nothing is logged.
-    pub fn view(self) -> View
-        ensures { result ≡ log_view self }
-    {
-        match self {
-            Log::None => View(0),
-            Log::Is(_, v) => v,
-        }
-    }
+// The view of a logged decision: 0 where nothing is logged.
+pub fn log_view(log: Option<Logged>) -> View
+    ensures { result ≡ log_view log }
+{
+    log.map_or(View(0), |l| l.view)
 }
 
 // What stands at a key: the stamp of its writer and the value written; 0 and 0 where there is none.
-#[derive(Clone, Copy)]
+#[derive(Clone, Copy, PartialEq, Eq)]
 pub struct Version {
     pub stamp: Stamp,
     pub value: u64,
@@ -133,39 +113,26 @@ pub struct Told {
     pub delta: u64,
 }
 
-// The entries that a PR visited, or no number: a vote that was cast before carries none.
-#[derive(Clone, Copy)]
-pub enum Visited {
-    None,
-    Is(usize),
+// Whether a PR's answer tells how many entries it visited: 0 no, 1 yes.
+pub fn visited_told(visited: Option<usize>) -> u8
+    ensures { result ≡ visited_told visited }
+{
+    visited.is_some() as u8
 }
 
-impl Visited {
-    // Whether a number is told: 0 no, 1 yes.
-    pub fn told(self) -> u8
-        ensures { result ≡ visited_told self }
-    {
-        match self {
-            Visited::None => 0,
-            Visited::Is(_) => 1,
-        }
-    }
-
-    // The number; 0 where none is told.
-    pub fn number(self) -> usize
-        ensures { result ≡ visited_number self }
-    {
-        match self {
-            Visited::None => 0,
-            Visited::Is(n) => n,
-        }
-    }
+// The number of entries visited; 0 where none is told.
+pub fn visited_number(visited: Option<usize>) -> usize
+    ensures { result ≡ visited_number visited }
+{
+    visited.unwrap_or(0)
 }
 
 // What a box answers. PR: Voted or Decided; LG and LD: Logged or Decided; DC: Done; RD: Found; IV: Elected or Decided; raising the low mark: Raised; every call: Refused.
+// An enum and no Result: a refusal is one of the answers, and C is told which it is by a number, 6 for the refusal.
 #[derive(Clone, Copy)]
 pub enum Answer {
-    Voted(Vote, Visited),
+    // The entries that the PR visited, or no number: a vote that was cast before carries none.
+    Voted(Vote, Option<usize>),
     Decided(Decision),
     Logged(Decision, View),
     Done,

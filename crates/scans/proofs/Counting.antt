@@ -4,7 +4,7 @@ use native.Mathlib.Omega.{arith}
 use mathlib.Core.Path.{◌≡◌, refl, sym, ◌∙◌}
 use mathlib.Core.List.{List}
 use mathlib.Core.Bool.{Bool, true, false, ◌&&◌}
-use borrow.Author.Tests.{lt-ltb, le-ltb, eqb-true, eqb-false}
+use borrow.Author.Tests.{lt-ltb, le-ltb}
 use lib.Dec.{eqb, ltb}
 use lib.ListN.{length}
 use Rattle.terms.specs.Choice.{pick, any}
@@ -14,7 +14,7 @@ use Rattle.records.specs.Tx.{r_count, w_count, read_at, write_at, writes_from, r
 use Rattle.rules.specs.declared.Reason.TheVariants.{Overwritten, ReadMark, Undercuts}
 use Rattle.rules.specs.declared.Told.{Told}
 use Rattle.rules.specs.declared.Vote.{Vote}
-use Rattle.rules.specs.declared.Vote.TheVariants.{Waiting as waiting, Commit as vote_commit, Abort as vote_abort}
+use Rattle.rules.specs.declared.Vote.TheVariants.{Waiting as waiting, Abort as vote_abort}
 use Rattle.rules.specs.Bodies.{Body, reads_of, stamp_of, writes_key, writes_of}
 use Rattle.rules.specs.Table.{Box, Entry, live}
 use Rattle.rules.specs.Tests.{fold_above, is_folded, is_low, names, test1, test2, test3, test4, test5, waiting_rule, first_vote}
@@ -22,11 +22,10 @@ use Rattle.rules.specs.Visits.{fails3, fails4, new_last, test_visits, visits2, v
 use Rattle.rules.proofs.Visits.{four_most, three_most, two_most, visits3_all, visits4_all, waiting_as_test2, waiting_most as eight_waiting, waiting_new_last}
 use Rattle.table.specs.Table.{row_tx, entry_of}
 use Rattle.table.proofs.Bodies.{body_stamp, body_reads, body_writes_key, reads_are, writes_are}
-use Rattle.scans.specs.Scans.{below, entries_only, marks_only, named_all}
-use Rattle.scans.specs.Visits.{read_below, later_vote, later_visits, vote_after}
+use Rattle.scans.specs.Scans.{below, entries_only, marks_only}
+use Rattle.scans.specs.Visits.{read_below, later_vote, later_visits}
 use Rattle.scans.proofs.Outcomes.{any_same, any_never, and_yes, and_no, and_true, and_false}
 use Rattle.scans.proofs.Outcomes.{unmarked, marks_2, marks_3, marks_4, marks_5, marks_wait}
-use Rattle.scans.proofs.Naming.{then_waits, then_commits}
 
 -- ---- one key and one row
 module _ (b : Body) (r : List ℕ) (p : Read) where
@@ -156,16 +155,6 @@ module _ (x : Box) (b : Body) (n g : ℕ) (w : Vote) (l : length x.table ≡ n) 
       by false true q u v i j = omega arith
       by false false true u v i j = omega arith
       by false false false u v i j = omega arith
-
--- what test 2 passed is the vote of the waiting rule
-module _ (x : Box) (b : Body) (what : ℕ) (e : what ≡ named_all x false (reads_of b)) (h : what ≡ 2 → ⊥) where
-  pub after_is : vote_after what ≡ waiting_rule x b
-  unfolding vote_after
-  after_is = by (eqb what 1) refl
-    where
-      by : (c : Bool) → eqb what 1 ≡ c → pick c waiting vote_commit ≡ waiting_rule x b
-      by true q = then_waits x b e h (eqb-true what 1 q)
-      by false q = then_commits x b e h (eqb-false what 1 q)
 
 -- ---- the first vote and its number, by tests 1 and 2
 module _ (told : Told) (x : Box) (b : Body) where

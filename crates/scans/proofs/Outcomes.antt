@@ -5,7 +5,7 @@ use mathlib.Core.Path.{◌≡◌, refl, sym, ◌∙◌}
 use mathlib.Core.List.{List, [], ◌∷◌}
 use mathlib.Core.Bool.{Bool, true, false, ◌&&◌, ◌||◌, false≢true}
 use mathlib.Core.Option.{some}
-use borrow.Author.Tests.{lt-ltb, le-ltb, ltb-false}
+use borrow.Author.Tests.{lt-ltb, le-ltb, ltb-true, ltb-false}
 use lib.Dec.{ltb}
 use lib.ListN.{get_or}
 use Rattle.terms.specs.Choice.{any}
@@ -103,14 +103,21 @@ module _ (x : Box) (b : Body) where
 
 -- ---- test 1
 module _ (s : ℕ) (told : Told) where
-  pub ahead_clock : s ≤ told.clock → false ≡ ltb (limit told) s
-  ahead_clock h = sym (le-ltb (limit told) s (omega arith))
-
-  pub ahead_yes : told.delta < s - told.clock → true ≡ ltb (limit told) s
+  ahead_yes : told.delta < s - told.clock → true ≡ ltb (limit told) s
   ahead_yes h = sym (lt-ltb (limit told) s (omega arith))
 
-  pub ahead_no : s - told.clock ≤ told.delta → false ≡ ltb (limit told) s
+  ahead_no : s - told.clock ≤ told.delta → false ≡ ltb (limit told) s
   ahead_no h = sym (le-ltb (limit told) s (omega arith))
+
+  pub ahead_clock : s ≤ told.clock → ltb told.clock s ≡ ltb (limit told) s
+  ahead_clock h = le-ltb told.clock s h ∙ sym (le-ltb (limit told) s (omega arith))
+
+  pub ahead_delta : ltb told.delta (s - told.clock) ≡ ltb (limit told) s
+  ahead_delta = by (ltb told.delta (s - told.clock)) refl
+    where
+      by : (c : Bool) → ltb told.delta (s - told.clock) ≡ c → c ≡ ltb (limit told) s
+      by true e = ahead_yes (ltb-true _ _ e)
+      by false e = ahead_no (ltb-false _ _ e)
 
 -- ---- tests 3 and 4
 module _ (b : Body) (r : Read) where

@@ -2,11 +2,12 @@
 use Prim.Native.Nat.{ℕ, suc, ◌+◌, ◌-◌, ◌<◌, ◌≤◌, zero-le}
 use native.Mathlib.Omega.{arith}
 use native.Mathlib.Nat.{sub-zero}
-use mathlib.Core.Path.{◌≡◌, refl}
+use mathlib.Core.Path.{◌≡◌, refl, ap, sym, ◌∙◌}
 use mathlib.Core.List.{List, [], ◌∷◌}
-use mathlib.Core.Bool.{Bool, true, false, ◌||◌}
+use mathlib.Core.Bool.{Bool, true, false, ◌||◌, true≢false}
 use borrow.Author.Tests.{le-leb, lt-leb}
 use lib.Dec.{eqb}
+use Rattle.std.specs.Prelude.{Option, Some, None, is_some}
 use lib.ListN.{length}
 use Rattle.terms.specs.Choice.{pick, tab, any}
 use Rattle.terms.proofs.Scans.{tab_length}
@@ -14,9 +15,10 @@ use Rattle.records.specs.declared.Read.{Read}
 use Rattle.records.specs.Tx.{read_version}
 use Rattle.rules.specs.Bodies.{stamp_of}
 use Rattle.rules.specs.Table.{Entry}
-use Rattle.rules.specs.Visits.{through, look_up, version_up, key_by_key}
-use Rattle.rules.proofs.Visits.{look_most as any_look_most}
+use Rattle.rules.specs.Visits.{through, unless, look_up, version_up, key_by_key}
+use Rattle.rules.proofs.Visits.{look_most as any_look_most, through_all}
 use Rattle.table.specs.Table.{entries, entry_at, place}
+use Rattle.scans.specs.Visits.{fails_up_to, up_to}
 
 -- ---- a look-up, by the place that it gives
 module _ (s : ℕ) where
@@ -125,17 +127,45 @@ module _ {P : Entry → Bool} {f : ℕ → Entry} {n : ℕ} where
     unfolding through
     counted h = let e : n - i ≡ suc (n - (i + 1)) = omega arith in rw e
 
-    pub pass_found : i < n → P (f i) ≡ true → (true ≡ A) × (i + 1 ≡ W)
-    pass_found h p = (rw (onward h, p) at r.same, let s = rw (counted h, p) at r.count in omega arith)
+    pub pass_found : i < n → P (f i) ≡ true → Some (i + 1) ≡ fails_up_to A W
+    pass_found h p =
+        let a : true ≡ A = rw (onward h, p) at r.same in
+        let s = rw (counted h, p) at r.count in
+        let w : i + 1 ≡ W = omega arith in
+        rw (← a, w)
 
     pub pass_go : i < n → P (f i) ≡ false → Pass P f n A W (i + 1)
     pass_go h p =
         let s = rw (counted h, p) at r.count in
         record { within = omega arith; same = rw (onward h, p) at r.same; count = omega arith }
 
-    pub pass_end : n ≤ i → (false ≡ A) × (n ≡ W)
-    unfolding through
+    pub pass_end : n ≤ i → None ≡ fails_up_to A W
     pass_end h =
         let e : n - i ≡ 0 = omega arith in
-        let s = rw e at r.count in
-        (rw e at r.same, omega arith)
+        let a : false ≡ A = rw e at r.same in
+        rw (← a)
+
+-- whether one was found
+pub found_any : {o : Option ℕ} (P : Entry → Bool) (es : List Entry) → o ≡ up_to P es → is_some o ≡ any P es
+found_any P es e = ap is_some e ∙ by (any P es)
+  where
+    by : (a : Bool) → is_some (fails_up_to a (through P es)) ≡ a
+    by true = refl
+    by false = refl
+
+-- where a test fails at one key, and where it passes
+pub stops_at : (a : Bool) {w y : ℕ} → Some y ≡ fails_up_to a w → (a ≡ true) × (y ≡ w)
+stops_at true {w} e = (refl, ap (λ (o : Option ℕ). elim o [ None ↦ w | Some z ↦ z ]) e)
+stops_at false e = absurd (true≢false (ap is_some e))
+
+pub goes_on : (a : Bool) (w : ℕ) → None ≡ fails_up_to a w → a ≡ false
+goes_on true w e = absurd (true≢false (sym (ap is_some e)))
+goes_on false w e = refl
+
+-- where it passes, every row is gone through
+pub all_rows : (P : Entry → Bool) (t : List ℕ) (n : ℕ) → any P (entries t n) ≡ false → n ≡ through P (entries t n)
+all_rows P t n h = sym (through_all P (entries t n) h ∙ tab_length (entry_at t) 0 n)
+
+pub all_unless : (c : Bool) (P : Entry → Bool) (t : List ℕ) (n : ℕ) → (c || any P (entries t n)) ≡ false → n ≡ unless c (through P (entries t n))
+all_unless true P t n h = absurd (true≢false h)
+all_unless false P t n h = all_rows P t n h

@@ -6,7 +6,8 @@ use mathlib.Core.Path.{◌≡◌, refl, ap, ◌∙◌}
 use mathlib.Core.List.{List, ◌∷◌}
 use mathlib.Core.Bool.{Bool, true, false, ◌&&◌}
 use mathlib.Core.Option.{Option, some, none}
-use borrow.Author.Tests.{lt-ltb, le-ltb, ltb-true, ltb-false, eq-eqb, ne_eqb}
+use Rattle.std.specs.Prelude.{Option as Maybe, Some, None, unwrap_or}
+use borrow.Author.Tests.{lt-ltb, le-ltb, eq-eqb, ne_eqb}
 use lib.Dec.{ltb, eqb}
 use lib.ListN.{get_or}
 use Rattle.terms.specs.Choice.{pick, tab}
@@ -15,7 +16,7 @@ use Rattle.terms.specs.declared.Stamp.{Stamp}
 use Rattle.records.specs.declared.Write.{Write}
 use Rattle.records.specs.Tx.{write_key, write_value}
 use Rattle.rules.specs.declared.Vote.{Vote}
-use Rattle.rules.specs.declared.Settled.TheVariants.{None as unsettled, Is as settled}
+use Rattle.rules.specs.Answers.{settled, unsettled}
 use Rattle.rules.specs.declared.Version.{Version}
 use Rattle.rules.specs.declared.Answer.TheVariants.{Found}
 use Rattle.rules.specs.Bodies.{stamp_of, writes_of, writes_key}
@@ -23,10 +24,9 @@ use Rattle.rules.specs.Table.{Entry, fold_at, live, live_by, no_version}
 use Rattle.rules.specs.Calls.{better, newest, value_at, version_of, version_or, is_committed, is_undecided, rd_answer}
 use Rattle.table.specs.Table.{row_tx, state_at, entry_with, entry_of, decided_at, folds_of}
 use Rattle.table.proofs.Bodies.{body_stamp, body_writes, body_writes_key}
-use Rattle.scans.specs.declared.Best.{Best}
 use Rattle.scans.specs.declared.Bests.{Bests}
 use Rattle.scans.specs.declared.Writers.{Writers}
-use Rattle.scans.specs.Scans.{over, committed, undecided, best_of, newer_by, next_bests, bests_of, writers_or}
+use Rattle.scans.specs.Scans.{over, above, committed, undecided, best_of, newer_by, next_bests, bests_of, writers_or}
 
 -- ---- the first write of a key: what is left from j on has the value of the whole, W
 pub record First (k : ℕ) (f : ℕ → Write) (n W j : ℕ) : Type 0 where
@@ -53,18 +53,18 @@ module _ {k : ℕ} {f : ℕ → Write} {n W : ℕ} where
     first_end h = let e : n - j ≡ 0 = omega arith in rw e at r.same
 
 -- ---- the newer of a row's entry and of what was newest behind it, by its outcomes
-module _ (k s : ℕ) (r : List ℕ) (x : Best) where
+module _ (k s : ℕ) (r : List ℕ) (x : Maybe Version) where
   pub newer_high : s ≤ stamp_of (row_tx r) → x ≡ newer_by k s (entry_of r) x
   unfolding newer_by
   newer_high h = rw (body_stamp r, le-ltb (stamp_of (row_tx r)) s h) (by (writes_key (entry_of r).body k))
     where
-      by : (w : Bool) → x ≡ pick (w && false) (pick (ltb (stamp_of (row_tx r) + 1) x.after) x (best_of k (some (entry_of r)))) x
+      by : (w : Bool) → x ≡ pick (w && false) (pick (above (stamp_of (row_tx r)) x) x (best_of k (some (entry_of r)))) x
       by true = refl
       by false = refl
 
-  pub newer_old : stamp_of (row_tx r) + 1 < x.after → x ≡ newer_by k s (entry_of r) x
+  pub newer_old : above (stamp_of (row_tx r)) x ≡ true → x ≡ newer_by k s (entry_of r) x
   unfolding newer_by
-  newer_old h = rw (body_stamp r, lt-ltb (stamp_of (row_tx r) + 1) x.after h) (by (writes_key (entry_of r).body k && ltb (stamp_of (row_tx r)) s))
+  newer_old h = rw (body_stamp r, h) (by (writes_key (entry_of r).body k && ltb (stamp_of (row_tx r)) s))
     where
       by : (w : Bool) → x ≡ pick w x x
       by true = refl
@@ -74,10 +74,10 @@ module _ (k s : ℕ) (r : List ℕ) (x : Best) where
   unfolding newer_by
   newer_lacks d = rw (body_writes_key r k, d)
 
-  pub newer_new : {v : Stamp} {w : ℕ} → stamp_of (row_tx r) < s → x.after ≤ stamp_of (row_tx r) + 1 → writes_key (row_tx r) k ≡ true
-      → v.0 ≡ stamp_of (row_tx r) → w ≡ value_at k (writes_of (row_tx r)) → record { after = v.0 + 1; value = w } ≡ newer_by k s (entry_of r) x
+  pub newer_new : {v : Stamp} {w : ℕ} → stamp_of (row_tx r) < s → above (stamp_of (row_tx r)) x ≡ false → writes_key (row_tx r) k ≡ true
+      → v.0 ≡ stamp_of (row_tx r) → w ≡ value_at k (writes_of (row_tx r)) → Some (record { stamp = v; value = w }) ≡ newer_by k s (entry_of r) x
   unfolding newer_by best_of
-  newer_new h l d m q = rw (body_writes_key r k, d, body_stamp r, lt-ltb (stamp_of (row_tx r)) s h, le-ltb (stamp_of (row_tx r) + 1) x.after l, body_writes r, ← m, q)
+  newer_new h l d m q = rw (body_writes_key r k, d, body_stamp r, lt-ltb (stamp_of (row_tx r)) s h, l, body_writes r, ← m, q)
 
 -- ---- one row more, by its outcomes
 module _ (r : List ℕ) where
@@ -116,12 +116,12 @@ module _ (r : List ℕ) where
       by false = refl
 
 module _ (k s : ℕ) (r : List ℕ) (x : Bests) where
-  pub next_committed : {y : Best} → get_or r decided_at 0 ≡ 1 → y ≡ newer_by k s (entry_of r) x.committed → record { committed = y; undecided = x.undecided } ≡ next_bests k s (entry_of r) x
+  pub next_committed : {y : Maybe Version} → get_or r decided_at 0 ≡ 1 → y ≡ newer_by k s (entry_of r) x.committed → record { committed = y; undecided = x.undecided } ≡ next_bests k s (entry_of r) x
   unfolding next_bests
   next_committed e p = rw (is_committed_lem r e, is_closed r e, p)
 
   module _ (h : get_or r decided_at 0 ≡ 1 → ⊥) where
-    pub next_open : {y : Best} → live (entry_of r) ≡ true → y ≡ newer_by k s (entry_of r) x.undecided → record { committed = x.committed; undecided = y } ≡ next_bests k s (entry_of r) x
+    pub next_open : {y : Maybe Version} → live (entry_of r) ≡ true → y ≡ newer_by k s (entry_of r) x.undecided → record { committed = x.committed; undecided = y } ≡ next_bests k s (entry_of r) x
     unfolding next_bests
     next_open l p = rw (not_committed r h, is_open r h l, p)
 
@@ -130,24 +130,17 @@ module _ (k s : ℕ) (r : List ℕ) (x : Bests) where
     next_dead l = rw (not_committed r h, not_open r l)
 
 -- ---- an entry more in front
-higher : (m n : ℕ) → ltb (m + 1) (n + 1) ≡ ltb m n
-higher m n = by (ltb m n) refl
-  where
-    by : (c : Bool) → ltb m n ≡ c → ltb (m + 1) (n + 1) ≡ c
-    by true e = let h = ltb-true m n e in lt-ltb (m + 1) (n + 1) (omega arith)
-    by false e = let h = ltb-false m n e in le-ltb (m + 1) (n + 1) (omega arith)
-
 module _ (k s : ℕ) (e : Entry) where
   choose : (b : Bool) (o : Entry) → pick b (best_of k (some o)) (best_of k (some e)) ≡ best_of k (pick b (some o) (some e))
   choose true o = refl
   choose false o = refl
 
-  by : (b c : Bool) (o : Option Entry) → pick b (pick c (pick (ltb (stamp_of e.body + 1) (best_of k o).after) (best_of k o) (best_of k (some e))) (best_of k o)) (best_of k o) ≡ best_of k (pick (b && c) (better e o) o)
+  by : (b c : Bool) (o : Option Entry) → pick b (pick c (pick (above (stamp_of e.body) (best_of k o)) (best_of k o) (best_of k (some e))) (best_of k o)) (best_of k o) ≡ best_of k (pick (b && c) (better e o) o)
   unfolding better best_of
   by false c o = refl
   by true false o = refl
-  by true true none = rw (le-ltb (stamp_of e.body + 1) 0 zero-le)
-  by true true (some o) = rw (higher (stamp_of e.body) (stamp_of o.body)) (choose (ltb (stamp_of e.body) (stamp_of o.body)) o)
+  by true true none = refl
+  by true true (some o) = choose (ltb (stamp_of e.body) (stamp_of o.body)) o
 
   best_more : (p : Entry → Bool) (es : List Entry) → pick (p e) (newer_by k s e (best_of k (newest p k s es))) (best_of k (newest p k s es)) ≡ best_of k (newest p k s (e ∷ es))
   unfolding newest newer_by
@@ -163,7 +156,7 @@ pub record Newer (k s : ℕ) (f : ℕ → Entry) (n : ℕ) (x : Bests) (i : ℕ)
   pub is : x ≡ bests_of k s (tab f i (n - i))
 
 module _ {k s : ℕ} {f : ℕ → Entry} {n : ℕ} where
-  pub newer_begin : Newer k s f n (record { committed = record { after = 0; value = 0 }; undecided = record { after = 0; value = 0 } }) n
+  pub newer_begin : Newer k s f n (record { committed = None; undecided = None }) n
   unfolding newest bests_of best_of
   newer_begin = let e : n - n ≡ 0 = omega arith in record { within = omega arith; is = rw e }
 
@@ -180,30 +173,15 @@ module _ {k s : ℕ} {f : ℕ → Entry} {n : ℕ} where
   newer_end {x} {i} w h = let z : i ≡ 0 = omega arith in rw (z, sub-zero) at w.is
 
 -- ---- what the writers found wrote
-after_is : {x y : Best} → x ≡ y → x.after ≡ y.after
-after_is e = rw e
+or_is : (k : ℕ) (g : Version) (o : Option Entry) → unwrap_or (best_of k o) g ≡ version_or k g o
+unfolding best_of version_or
+or_is k g none = refl
+or_is k g (some e) = refl
 
-module _ (k : ℕ) (x : Best) (g : Version) where
-  pub or_none : x.after ≡ 0 → (o : Option Entry) → x ≡ best_of k o → g ≡ version_or k g o
-  unfolding best_of version_or
-  or_none z none e = refl
-  or_none z (some y) e = let q = after_is e in absurd (omega arith)
-
-  pub or_some : (x.after ≡ 0 → ⊥) → (o : Option Entry) → x ≡ best_of k o
-      → ◌≡◌ {A = Version} (record { stamp = record { 0 = x.after - 1 }; value = x.value }) (version_or k g o)
-  unfolding best_of version_or
-  or_some z none e = absurd (z (after_is e))
-  or_some z (some y) e = let d : stamp_of y.body + 1 - 1 ≡ stamp_of y.body = omega arith in rw (e, d)
-
-pub writers_are : (g d : Version) (k s : ℕ) (es : List Entry) (x : Bests) (c u : Version) → x ≡ bests_of k s es → d ≡ no_version
-    → ((j : ℕ) (o : Option Entry) → x.committed ≡ best_of j o → c ≡ version_or j g o)
-    → ((j : ℕ) (o : Option Entry) → x.undecided ≡ best_of j o → u ≡ version_or j d o)
-    → record { committed = c; undecided = u } ≡ writers_or g k s es
+pub writers_are : (g d : Version) (k s : ℕ) (es : List Entry) (x : Bests) → x ≡ bests_of k s es → d ≡ no_version
+    → record { committed = unwrap_or x.committed g; undecided = unwrap_or x.undecided d } ≡ writers_or g k s es
 unfolding bests_of writers_or version_of
-writers_are g d k s es x c u e z p q =
-    let a : x.committed ≡ best_of k (newest committed k s es) = rw e in
-    let b : x.undecided ≡ best_of k (newest undecided k s es) = rw e in
-    rw (p k (newest committed k s es) a, q k (newest undecided k s es) b, z)
+writers_are g d k s es x e z = rw (e, z, or_is k g (newest committed k s es), or_is k no_version (newest undecided k s es))
 
 -- ---- what RD answers
 pub found_is : (h : List ℕ) (k s : ℕ) (es : List Entry) (g : Version) (x : Writers) → g ≡ fold_at (folds_of h) k → x ≡ writers_or g k s es

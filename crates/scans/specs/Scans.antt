@@ -1,7 +1,7 @@
 -- What the scans say: the tests at one read and at one entry, and what the newest writers wrote.
-use Rattle.std.specs.Prelude.{ℕ, ◌+◌, Bool, ◌&&◌, ◌||◌, List, [], eqb, ltb, get_or}
+use Rattle.std.specs.Prelude.{ℕ, Bool, false, ◌&&◌, List, [], ◌∷◌, Option as Maybe, Some, None, eqb, ltb, get_or}
 use Rattle.std.proofs.Math.Option.{Option, some, none}
-use Rattle.terms.specs.Choice.{pick, any}
+use Rattle.terms.specs.Choice.{pick}
 use Rattle.records.specs.declared.Read.{Read}
 use Rattle.records.specs.declared.Write.{Write}
 use Rattle.records.specs.Tx.{read_key, read_version, write_key}
@@ -11,11 +11,12 @@ use Rattle.rules.specs.declared.Vote.TheVariants.{Waiting as waiting, Commit as 
 use Rattle.rules.specs.Bodies.{Body, stamp_of, writes_key, writes_of}
 use Rattle.rules.specs.declared.Version.{Version}
 use Rattle.rules.specs.Table.{Box, Entry, box_with, find, fold_at, live, no_version}
-use Rattle.rules.specs.Tests.{Status, bad, pending, fine, is_bad, is_folded, is_low, is_pending, live_writer, names_none, undercut, status_of, status}
+use Rattle.rules.specs.Tests.{Status, bad, pending, fine, is_folded, is_low, is_pending, live_writer, undercut, status_of}
 use Rattle.rules.specs.Calls.{newest, value_at, version_of, version_or, is_committed, is_undecided}
 use Rattle.table.specs.Table.{box_from}
-use Rattle.scans.specs.declared.Best.{Best}
 use Rattle.scans.specs.declared.Bests.{Bests}
+use Rattle.scans.specs.declared.Standing.{Standing}
+use Rattle.scans.specs.declared.Standing.TheVariants.{Fine, Pending, Bad}
 use Rattle.scans.specs.declared.Writers.{Writers}
 
 -- tests 2 and 3, the waiting rule and RD look at low mark, folds and entries, and not at the read marks
@@ -50,34 +51,47 @@ hit4 b e = live e && undercut e.body b
 unfoldable pub marked : List ℕ → ℕ → Write → Bool
 marked ms s w = ltb s (get_or ms (write_key w) 0)
 
--- ---- the waiting rule
-abbrev pub status_number : Status → ℕ
-status_number fine = 0
-status_number pending = 1
-status_number bad = 2
+-- ---- what a version read is to test 2 and to the waiting rule
+abbrev pub standing_of : Status → Standing
+standing_of fine = Fine
+standing_of pending = Pending
+standing_of bad = Bad
 
--- the waiting rule over the reads that are left, d where a bad version stood before them, w where an undecided one did
-unfoldable pub wait_by : Box → Bool → Bool → List Read → Vote
-wait_by x d w rs =
-    pick (d || any (λ r. is_bad (status x r)) rs) (vote_abort Dependency)
-    (pick (w || any (λ r. is_pending (status x r)) rs) waiting vote_commit)
+-- the worse of two
+abbrev pub worse : Standing → Standing → Standing
+worse Bad s = Bad
+worse Pending Bad = Bad
+worse Pending Pending = Pending
+worse Pending Fine = Pending
+worse Fine s = s
 
--- A11: a version at or below the low mark, by the folds alone: 0 where it is 0 or its key's folded one, else 2
-unfoldable pub low_number : List Version → Read → ℕ
-low_number folds r = pick (eqb (read_version r) 0) 0 (pick (eqb (fold_at folds (read_key r)).stamp.0 (read_version r)) 0 2)
+-- the worst of all reads, d what stood before them
+unfoldable pub worst : (Read → Standing) → Standing → List Read → Standing
+worst f d [] = d
+worst f d (r ∷ rs) = worst f (worse d (f r)) rs
 
--- ---- test 2 and the waiting rule by one look-up: 2 where test 2 fails, else 1 where the version is undecided, else 0
-unfoldable pub named_by : ℕ → Option Entry → ℕ
-named_by k o = pick (live_writer k o) (pick (is_pending (status_of k o)) 1 0) 2
+-- "any bad: abort, reason 6. Else any undecided: wait. Else commit."
+abbrev pub vote_by : Standing → Vote
+vote_by Fine = vote_commit
+vote_by Pending = waiting
+vote_by Bad = vote_abort Dependency
 
-unfoldable pub named : Box → Read → ℕ
-named x r =
-    pick (eqb (read_version r) 0) 0
-    (pick (is_low x r) (pick (is_folded x r) 0 2) (named_by (read_key r) (find (read_version r) x.table)))
+-- A11: a version at or below the low mark, by the folds alone: fine where it is 0 or its key's folded one, else bad
+unfoldable pub low_standing : List Version → Read → Standing
+low_standing folds r = pick (eqb (read_version r) 0) Fine (pick (eqb (fold_at folds (read_key r)).stamp.0 (read_version r)) Fine Bad)
 
--- the same over the reads that are left, w where an undecided version stood before them
-unfoldable pub named_all : Box → Bool → List Read → ℕ
-named_all x w rs = pick (any (names_none x) rs) 2 (pick (w || any (λ r. is_pending (status x r)) rs) 1 0)
+-- a version read, as `by` says of the entry that has it, or of none
+unfoldable pub looked : (Option Entry → Standing) → Box → Read → Standing
+looked by x r =
+    pick (eqb (read_version r) 0) Fine
+    (pick (is_low x r) (pick (is_folded x r) Fine Bad) (by (find (read_version r) x.table)))
+
+-- test 2 and the waiting rule by one look-up: bad where test 2 fails, else as undecided as the version is
+unfoldable pub named_by : ℕ → Option Entry → Standing
+named_by k o = pick (live_writer k o) (pick (is_pending (status_of k o)) Pending Fine) Bad
+
+abbrev pub named : Box → Read → Standing
+named x r = looked (named_by (read_key r)) x r
 
 -- ---- the newest writers
 abbrev pub committed : Entry → Bool
@@ -86,16 +100,21 @@ committed e = is_committed e.decided
 abbrev pub undecided : Entry → Bool
 undecided e = is_undecided e.decided && live e
 
--- a writer that was found: one more than its stamp, and its value; 0 0 where there is none, which no writer gives, not one with stamp 0 either
-unfoldable pub best_of : ℕ → Option Entry → Best
-best_of k none = record { after = 0; value = 0 }
-best_of k (some e) = record { after = stamp_of e.body + 1; value = value_at k (writes_of e.body) }
+-- what a writer that was found wrote, or none
+unfoldable pub best_of : ℕ → Option Entry → Maybe Version
+best_of k none = None
+best_of k (some e) = Some (record { stamp = record { 0 = stamp_of e.body }; value = value_at k (writes_of e.body) })
+
+-- whether what was found is above a stamp
+abbrev pub above : ℕ → Maybe Version → Bool
+above s None = false
+above s (Some v) = ltb s v.stamp.0
 
 -- the newer of an entry and of what was newest behind it
-unfoldable pub newer_by : ℕ → ℕ → Entry → Best → Best
+unfoldable pub newer_by : ℕ → ℕ → Entry → Maybe Version → Maybe Version
 newer_by k s e x =
     pick (writes_key e.body k && ltb (stamp_of e.body) s)
-    (pick (ltb (stamp_of e.body + 1) x.after) x (best_of k (some e))) x
+    (pick (above (stamp_of e.body) x) x (best_of k (some e))) x
 
 -- both halves, one entry more in front
 unfoldable pub next_bests : ℕ → ℕ → Entry → Bests → Bests

@@ -2,6 +2,7 @@
 use mathlib.Core.Path.{refl, ap}
 use seplogic.Ra.Ura.{Ura}
 use types.Logic.{Logic}
+use denote.RattleType.{RattleType}
 use Rattle.settled.specs.Settled.{Settled}
 use Rattle.settled.proofs.Lemma.{settled, one, ◌&◌}
 use Rattle.arrays.specs.Arrays.{Fields, ListFields, TxFields, ViewFields}
@@ -40,3 +41,6 @@ module _ {M : Type 1} {𝓤 : Ura M} (𝓛 : Logic 𝓤) where
 
   pub put_list : Settled 𝓛 arrays.put_list.ended (arrays.put_list.spec 𝓛) (arrays.put_list.clauses 𝓛)
   put_list mem run = (refl, λ k o o'. settled 𝓤 (λ p q. refl & refl & ap (λ (x : ListFields). x.head) (one p q) & ap (λ (x : ListFields). x.numbers) (one p q) & ap (λ (x : ListFields). x.answers) (one p q) & refl))
+
+  pub refusal_number : (T : RattleType) → Settled 𝓛 (arrays.refusal_number.ended T) (arrays.refusal_number.spec T 𝓛) (arrays.refusal_number.clauses T 𝓛)
+  refusal_number T mem run = (refl, λ k o o'. settled 𝓤 (λ p q. one p q & refl))

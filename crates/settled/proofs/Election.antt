@@ -20,7 +20,7 @@ module _ {M : Type 1} {𝓤 : Ura M} (𝓛 : Logic 𝓤) where
   gather mem run = (refl, λ k o o'. settled 𝓤 (λ p q. one p q & refl))
 
   pub taller : Settled 𝓛 election.taller.ended (election.taller.spec 𝓛) (election.taller.clauses 𝓛)
-  taller mem run = (refl, λ k o o'. settled 𝓤 (λ p q. (λ i. record { wrong = one p.0 q.0 i; told = one p.1 q.1 i; views = one p.2 q.2 i }) & refl))
+  taller mem run = (refl, λ k o o'. settled 𝓤 (λ p q. one p.0 q.0 & refl))
 
   pub listed : Settled 𝓛 election.listed.ended (election.listed.spec 𝓛) (election.listed.clauses 𝓛)
   listed mem run = (refl, λ k o o'. settled 𝓤 (λ p q. one p q & refl))

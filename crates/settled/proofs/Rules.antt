@@ -16,19 +16,19 @@ module _ {M : Type 1} {𝓤 : Ura M} (𝓛 : Logic 𝓤) where
   pub vote_reason : Settled 𝓛 rules.Vote.reason.ended (rules.Vote.reason.spec 𝓛) (rules.Vote.reason.clauses 𝓛)
   vote_reason mem run = (refl, λ k o o'. settled 𝓤 (λ p q. one p q & refl))
 
-  pub settled_number : Settled 𝓛 rules.Settled.number.ended (rules.Settled.number.spec 𝓛) (rules.Settled.number.clauses 𝓛)
+  pub settled_number : Settled 𝓛 rules.settled_number.ended (rules.settled_number.spec 𝓛) (rules.settled_number.clauses 𝓛)
   settled_number mem run = (refl, λ k o o'. settled 𝓤 (λ p q. one p q & refl))
 
-  pub log_number : Settled 𝓛 rules.Log.number.ended (rules.Log.number.spec 𝓛) (rules.Log.number.clauses 𝓛)
+  pub log_number : Settled 𝓛 rules.log_number.ended (rules.log_number.spec 𝓛) (rules.log_number.clauses 𝓛)
   log_number mem run = (refl, λ k o o'. settled 𝓤 (λ p q. one p q & refl))
 
-  pub log_view : Settled 𝓛 rules.Log.view.ended (rules.Log.view.spec 𝓛) (rules.Log.view.clauses 𝓛)
+  pub log_view : Settled 𝓛 rules.log_view.ended (rules.log_view.spec 𝓛) (rules.log_view.clauses 𝓛)
   log_view mem run = (refl, λ k o o'. settled 𝓤 (λ p q. one p q & refl))
 
-  pub visited_told : Settled 𝓛 rules.Visited.told.ended (rules.Visited.told.spec 𝓛) (rules.Visited.told.clauses 𝓛)
+  pub visited_told : Settled 𝓛 rules.visited_told.ended (rules.visited_told.spec 𝓛) (rules.visited_told.clauses 𝓛)
   visited_told mem run = (refl, λ k o o'. settled 𝓤 (λ p q. one p q & refl))
 
-  pub visited_number : Settled 𝓛 rules.Visited.number.ended (rules.Visited.number.spec 𝓛) (rules.Visited.number.clauses 𝓛)
+  pub visited_number : Settled 𝓛 rules.visited_number.ended (rules.visited_number.spec 𝓛) (rules.visited_number.clauses 𝓛)
   visited_number mem run = (refl, λ k o o'. settled 𝓤 (λ p q. one p q & refl))
 
   pub leader_of : Settled 𝓛 rules.leader_of.ended (rules.leader_of.spec 𝓛) (rules.leader_of.clauses 𝓛)

@@ -1,19 +1,16 @@
 -- Whatever answers arrive, in whatever order and with whatever repeats: each box counts once, under its first valid answer.
-use Prim.Native.Nat.{ℕ, ◌^◌, ◌<◌}
-use mathlib.Core.Path.{◌≡◌, refl, sym, ◌∙◌}
-use mathlib.Core.Bool.{Bool, true, false, ◌&&◌}
-use mathlib.Core.List.{List, [], ◌∷◌}
-use lib.Dec.{eqb, eqb→eq}
+use Rattle.std.proofs.Common.{ℕ, ◌^◌, ◌<◌, ◌≡◌, refl, sym, ◌∙◌, Bool, true, false, not, ◌&&◌, List, [], ◌∷◌, eqb, is_err}
+use lib.Dec.{eqb→eq}
 use lib.Pow.{pow_pos}
-use borrow.Author.Tests.{eqb-false, lt-leb}
+use borrow.Author.Tests.{lt-leb}
 use Rattle.terms.specs.Choice.{pick}
-use Rattle.terms.specs.Checks.{if_less, if_same, table}
+use Rattle.terms.specs.Checks.{passed, if_less, if_same, table}
 use Rattle.terms.specs.Group.{boxes, group_wrong}
 use Rattle.terms.specs.declared.Decision.{Decision}
 use Rattle.terms.specs.declared.Decision.TheVariants.{Commit as commit, Abort as abort}
 use Rattle.terms.specs.declared.Kind.{Kind}
 use Rattle.terms.specs.declared.Kind.TheVariants.{Votes as votes, Logs as logs}
-use Rattle.terms.proofs.Checks.{pass, when_no}
+use Rattle.terms.proofs.Checks.{pass, when_no, no_refusal}
 use Rattle.terms.specs.Codes.{decision_number, kind_number}
 use Rattle.sheet.specs.declared.Sheet.{Sheet}
 use Rattle.sheet.specs.Masks.{has}
@@ -23,8 +20,16 @@ use Rattle.sheet.proofs.Masks.{count_same, has_none}
 use Rattle.sheet.proofs.Sheets.{after_joined, after_refused, after_repeat, off_aborts, off_commits, right_answer, right_box}
 use Rattle.sheet.proofs.Sound.{joins_on, joins_sound, joins_under, none_any, one_or_two}
 
+not_true : (b : Bool) → not b ≡ true → b ≡ false
+not_true true e = sym e
+not_true false e = refl
+
+not_false : (b : Bool) → not b ≡ false → b ≡ true
+not_false true e = refl
+not_false false e = sym e
+
 -- an answer on a sheet without a refusal is refused just where it is not valid
-module _ (s : Sheet) (f : ℕ) (a : Arrival) (sound : sheet_wrong f s ≡ 0) where
+module _ (s : Sheet) (f : ℕ) (a : Arrival) (sound : sheet_wrong f s ≡ passed) where
   abbrev after : Sheet
   after = sheet_after s f a.number a.answer
 
@@ -32,19 +37,19 @@ module _ (s : Sheet) (f : ℕ) (a : Arrival) (sound : sheet_wrong f s ≡ 0) whe
   unfolding answer_wrong
   wrong_is = sym (pass sound refl)
 
-  wrong_none : valid f a ≡ true → answer_wrong s f a.number a.answer ≡ 0
+  wrong_none : valid f a ≡ true → answer_wrong s f a.number a.answer ≡ passed
   unfolding valid
-  wrong_none v = wrong_is ∙ eqb→eq _ 0 (rw v tt)
+  wrong_none v = no_refusal _ (rw wrong_is (not_true _ v))
 
-  wrong_some : valid f a ≡ false → answer_wrong s f a.number a.answer ≡ 0 → ⊥
+  wrong_some : valid f a ≡ false → is_err (answer_wrong s f a.number a.answer) ≡ true
   unfolding valid
-  wrong_some v z = eqb-false _ 0 v (sym wrong_is ∙ z)
+  wrong_some v = rw wrong_is (not_false _ v)
 
   -- the sheet stays without a refusal
-  after_sound : sheet_wrong f after ≡ 0
+  after_sound : sheet_wrong f after ≡ passed
   after_sound = by (valid f a) refl (on s a.number) refl
     where
-      by : (v : Bool) → valid f a ≡ v → (o : Bool) → on s a.number ≡ o → sheet_wrong f after ≡ 0
+      by : (v : Bool) → valid f a ≡ v → (o : Bool) → on s a.number ≡ o → sheet_wrong f after ≡ passed
       by false v o h = rw (← after_refused s f _ _ (wrong_some v)) sound
       by true v true h = rw (← after_repeat s f _ _ (wrong_none v) h) sound
       by true v false h =
@@ -80,7 +85,7 @@ module _ (s : Sheet) (f : ℕ) (a : Arrival) (sound : sheet_wrong f s ≡ 0) whe
           rw (← after_joined s f _ _ z _ h refl, joins_on s a.number a.answer h b w, joins_under s a.number a.answer h d b w, q)
 
 -- a box that is on the sheet stays where it is; else its first valid answer puts it there
-pub box_counts : (f : ℕ) (d : Decision) (b : ℕ) (s : Sheet) (more : List Arrival) → sheet_wrong f s ≡ 0
+pub box_counts : (f : ℕ) (d : Decision) (b : ℕ) (s : Sheet) (more : List Arrival) → sheet_wrong f s ≡ passed
     → has (under d (sheet_from s f more)) b ≡ pick (on s b) (has (under d s) b) (eqb (first_of f b more) (decision_number d))
 unfolding sheet_from first_of
 box_counts f d b s [] sound = by (on s b) refl d
@@ -96,12 +101,12 @@ empty_on : (k : Kind) (view b : ℕ) → on (empty_sheet k view) b ≡ false
 unfolding on
 empty_on k view b = rw has_none
 
-empty_kind : (k : Kind) → (if_same (kind_number k) 0 table ≡ 0) × (if_less 2 (kind_number k) table ≡ 0)
+empty_kind : (k : Kind) → (if_same (kind_number k) 0 table ≡ passed) × (if_less 2 (kind_number k) table ≡ passed)
 unfolding if_same if_less
 empty_kind votes = (refl, refl)
 empty_kind logs = (refl, refl)
 
-empty_sound : (f : ℕ) (k : Kind) (view : ℕ) → group_wrong f ≡ 0 → sheet_wrong f (empty_sheet k view) ≡ 0
+empty_sound : (f : ℕ) (k : Kind) (view : ℕ) → group_wrong f ≡ passed → sheet_wrong f (empty_sheet k view) ≡ passed
 unfolding sheet_wrong sheet_damaged twice
 empty_sound f k view g =
     let low : 0 < 2 ^ boxes f = pow_pos (boxes f) in

@@ -1,18 +1,13 @@
 -- Laws of a list made from a mask: how it is filled, what it counts, and that a box takes it.
-use Prim.Native.Nat.{ℕ, zero, suc, ◌+◌, ◌≤◌}
-use native.Mathlib.Omega.{arith}
-use mathlib.Core.Path.{◌≡◌, refl}
-use mathlib.Core.List.{List, [], ◌∷◌, ◌++◌}
-use mathlib.Core.Bool.{Bool, true, false}
-use lib.Dec.{leb}
-use lib.ListN.{length}
+use Rattle.std.proofs.Common.{ℕ, zero, suc, ◌+◌, ◌≤◌, ◌≡◌, refl, sym, List, [], ◌∷◌, ◌++◌, length, Bool, true, false, true≢false, leb, Ok, Err, is_err, arith}
 use borrow.Author.Tests.{eq-eqb}
 use Rattle.terms.specs.Choice.{pick, any, falls}
+use Rattle.terms.specs.Checks.{Check, passed}
 use Rattle.records.specs.declared.Pair.{Pair}
 use Rattle.records.specs.declared.VoteList.{VoteList}
 use Rattle.records.specs.Vl.{held_list, no_list, view_of, zero_pair}
 use Rattle.records.specs.Contents.{answer_odd, pair_box}
-use Rattle.rules.specs.Lists.{bit, decision_of, tally}
+use Rattle.rules.specs.Lists.{bit, tally}
 use Rattle.rules.specs.System.{how_many}
 use Rattle.sheet.specs.Masks.{has}
 use Rattle.terms.specs.Group.{boxes}
@@ -20,8 +15,7 @@ use Rattle.terms.specs.declared.Decision.{Decision}
 use Rattle.sheet.specs.declared.Sheet.{Sheet}
 use Rattle.terms.specs.Codes.{decision_number}
 use Rattle.sheet.specs.Sheets.{sheet_wrong, under}
-use Rattle.sheet.specs.declared.Listing.{Listing}
-use Rattle.sheet.specs.Listing.{listed, list_for, list_by, list_from, listing_wrong, listing_by, listing_of}
+use Rattle.sheet.specs.Listing.{listed, list_for, list_by, list_from}
 use Rattle.sheet.proofs.Below.{Noted, below, below_length, below_no, below_none, below_rises, below_wide, below_yes}
 
 -- a box of a list, with the list's answer
@@ -52,36 +46,20 @@ noted_list kind view answer m n j v a h g = rw (g.counts, ← g.is, h)
 
 -- a list from a sheet, by the sheet's refusal
 module _ (s : Sheet) (f : ℕ) (d : Decision) where
-  pub list_refused : (sheet_wrong f s ≡ 0 → ⊥) → held_list (list_for 0 0 0 0 0) ≡ held_list (list_from s f d)
-  unfolding list_from list_by list_for listed no_list view_of
+  pub list_refused : is_err (sheet_wrong f s) ≡ true → held_list no_list ≡ held_list (list_from s f d)
+  unfolding list_from list_by
   list_refused = by (sheet_wrong f s)
     where
-      by : (y : ℕ) → (y ≡ 0 → ⊥) → held_list (list_for 0 0 0 0 0) ≡ held_list (list_by y s f d)
-      by zero n = absurd (n refl)
-      by (suc y) n = refl
+      by : (w : Check) → is_err w ≡ true → held_list no_list ≡ held_list (list_by w s f d)
+      by (Ok _) e = absurd (true≢false (sym e))
+      by (Err r) e = refl
 
-  pub list_is : sheet_wrong f s ≡ 0 → list_from s f d ≡ list_for s.kind s.view (decision_number d) (under d s) (boxes f)
+  pub list_is : sheet_wrong f s ≡ passed → list_from s f d ≡ list_for s.kind s.view (decision_number d) (under d s) (boxes f)
   unfolding list_from list_by
   list_is z = rw z
 
-  pub list_right : (l : VoteList) → sheet_wrong f s ≡ 0 → l ≡ held_list (list_for s.kind s.view (decision_number d) (under d s) (boxes f)) → l ≡ held_list (list_from s f d)
+  pub list_right : (l : VoteList) → sheet_wrong f s ≡ passed → l ≡ held_list (list_for s.kind s.view (decision_number d) (under d s) (boxes f)) → l ≡ held_list (list_from s f d)
   list_right l z e = rw (list_is z) e
-
--- the same by a decision's number
-module _ (s : Sheet) (f decision : ℕ) where
-  pub listing_refused : (n : ℕ) (l : VoteList) → n ≡ listing_wrong s f decision → (n ≡ 0 → ⊥) → l ≡ held_list (list_for 0 0 0 0 0)
-      → ◌≡◌ {A = Listing} (record { wrong = n; list = l }) (listing_of s f decision)
-  unfolding listing_of listing_by list_for listed no_list view_of
-  listing_refused n l e h p = by (listing_wrong s f decision) e
-    where
-      by : (m : ℕ) → n ≡ m → ◌≡◌ {A = Listing} (record { wrong = n; list = l }) (listing_by m s f decision)
-      by zero q = absurd (h q)
-      by (suc m) q = rw (q, p)
-
-  pub listing_right : (l : VoteList) → listing_wrong s f decision ≡ 0 → l ≡ held_list (list_from s f (decision_of decision))
-      → ◌≡◌ {A = Listing} (record { wrong = 0; list = l }) (listing_of s f decision)
-  unfolding listing_of listing_by
-  listing_right l z e = rw (z, e)
 
 pub tally_append : (d : ℕ) (xs ys : List Pair) → tally d (xs ++ ys) ≡ tally d xs + tally d ys
 unfolding tally

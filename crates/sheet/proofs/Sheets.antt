@@ -1,11 +1,8 @@
 -- Laws of a sheet: one for each outcome of its definitions.
-use Prim.Native.Nat.{ℕ, zero, suc, ◌-◌, ◌<◌, ◌≤◌}
-use native.Mathlib.Omega.{arith}
-use mathlib.Core.Path.{◌≡◌, refl, sym, ◌∙◌}
-use mathlib.Core.Bool.{Bool, true, false, ◌||◌}
+use Rattle.std.proofs.Common.{ℕ, ◌-◌, ◌<◌, ◌≤◌, ◌≡◌, refl, Bool, true, false, true≢false, ◌||◌, Ok, Err, is_err, sym, arith}
 use borrow.Author.Tests.{eq-eqb, ne_eqb, leb-false}
-use Rattle.terms.specs.Refusals.{refusal_of}
-use Rattle.terms.specs.Group.{boxes, group_wrong, commit_list, abort_list, commit_proof, abort_proof, log_proof}
+use Rattle.terms.specs.Checks.{Check, passed}
+use Rattle.terms.specs.Group.{boxes, commit_list, abort_list, commit_proof, abort_proof, log_proof}
 use Rattle.terms.proofs.Checks.{first_none, rest_none, when_none}
 use Rattle.terms.proofs.Groups.{group_small}
 use Rattle.records.specs.Contents.{code_wrong}
@@ -13,27 +10,11 @@ use Rattle.rules.specs.Lists.{kind_of}
 use Rattle.rules.specs.System.{how_many}
 use Rattle.sheet.specs.declared.Sheet.{Sheet}
 use Rattle.sheet.specs.declared.Reply.{Reply}
-use Rattle.sheet.specs.declared.Reply.TheVariants.{Votes, Logs, Repeat, Refused}
+use Rattle.sheet.specs.declared.Reply.TheVariants.{Votes, Logs, Repeat}
 use Rattle.sheet.specs.Masks.{has, with_box}
-use Rattle.sheet.specs.Sheets.{twice, on, joined, counted, lacking_on, lacking_by, sheet_wrong, answer_wrong, sheet_by, sheet_after, reply_by, reply_to}
+use Rattle.sheet.specs.Sheets.{on, joined, counted, lacking_on, lacking_by, sheet_wrong, answer_wrong, sheet_by, sheet_after, reply_by, reply_to}
 
 module _ (s : Sheet) (b : ℕ) where
-  pub twice_yes : (x : Bool) → has s.commits b ≡ true → x ≡ has s.aborts b → x ≡ twice s b
-  unfolding twice
-  twice_yes x h e = rw h e
-
-  pub twice_no : has s.commits b ≡ false → false ≡ twice s b
-  unfolding twice
-  twice_no h = rw h
-
-  pub on_commits : has s.commits b ≡ true → true ≡ on s b
-  unfolding on
-  on_commits h = rw h
-
-  pub on_aborts : (x : Bool) → has s.commits b ≡ false → x ≡ has s.aborts b → x ≡ on s b
-  unfolding on
-  on_aborts x h e = rw h e
-
   -- a box that is not on the sheet is under neither answer
   pub off_commits : on s b ≡ false → has s.commits b ≡ false
   unfolding on
@@ -80,13 +61,13 @@ module _ (f : ℕ) (s : Sheet) where
   lacking_logs r k e = rw (ne_eqb s.kind 1 k) e
 
 -- what a sheet without a refusal is
-pub sheet_group : (f : ℕ) (s : Sheet) (x : ℕ) → x ≡ sheet_wrong f s → x ≡ 0 → (1 ≤ f) × (f ≤ 5)
+pub sheet_group : (f : ℕ) (s : Sheet) → sheet_wrong f s ≡ passed → (1 ≤ f) × (f ≤ 5)
 unfolding sheet_wrong
-sheet_group f s x p z = group_small f (group_wrong f) refl (first_none _ _ (sym p ∙ z))
+sheet_group f s z = group_small f (first_none _ _ z)
 
 module _ (s : Sheet) (f number answer : ℕ) where
-  module _ (z : answer_wrong s f number answer ≡ 0) where
-    pub right_sheet : sheet_wrong f s ≡ 0
+  module _ (z : answer_wrong s f number answer ≡ passed) where
+    pub right_sheet : sheet_wrong f s ≡ passed
     unfolding answer_wrong
     right_sheet = first_none _ _ z
 
@@ -94,7 +75,7 @@ module _ (s : Sheet) (f number answer : ℕ) where
     unfolding answer_wrong
     right_box = leb-false (boxes f) number (when_none _ _ (first_none _ _ (rest_none _ _ z)))
 
-    pub right_answer : code_wrong answer ≡ 0
+    pub right_answer : code_wrong answer ≡ passed
     unfolding answer_wrong
     right_answer = rest_none _ _ (rest_none _ _ z)
 
@@ -116,25 +97,17 @@ module _ (s : Sheet) (f number answer : ℕ) where
     unfolding reply_to reply_by
     reply_lacking r h e = rw (z, h) e
 
+    -- an answer without one
+    pub small_box : (number < 26) × (f ≤ 5)
+    small_box =
+        let g = sheet_group f s right_sheet in
+        (omega (arith, g.1, right_box), g.1)
+
   -- "A refusal returns its number only. .. tally .. stay unchanged."
-  pub after_refused : (answer_wrong s f number answer ≡ 0 → ⊥) → s ≡ sheet_after s f number answer
+  pub after_refused : is_err (answer_wrong s f number answer) ≡ true → s ≡ sheet_after s f number answer
   unfolding sheet_after sheet_by
   after_refused = by (answer_wrong s f number answer)
     where
-      by : (y : ℕ) → (y ≡ 0 → ⊥) → s ≡ sheet_by y s number answer
-      by zero n = absurd (n refl)
-      by (suc y) n = refl
-
-  pub reply_refused : (answer_wrong s f number answer ≡ 0 → ⊥) → Refused (refusal_of (answer_wrong s f number answer)) ≡ reply_to s f number answer
-  unfolding reply_to reply_by
-  reply_refused = by (answer_wrong s f number answer)
-    where
-      by : (y : ℕ) → (y ≡ 0 → ⊥) → Refused (refusal_of y) ≡ reply_by y s f number answer
-      by zero n = absurd (n refl)
-      by (suc y) n = refl
-
--- and an answer without one
-pub small_box : (s : Sheet) (f number answer x : ℕ) → x ≡ answer_wrong s f number answer → x ≡ 0 → (number < 26) × (f ≤ 5)
-small_box s f number answer x p z =
-    let g = sheet_group f s _ refl (right_sheet s f number answer (sym p ∙ z)) in
-    (omega (arith, g.1, right_box s f number answer (sym p ∙ z)), g.1)
+      by : (w : Check) → is_err w ≡ true → s ≡ sheet_by w s number answer
+      by (Ok _) e = absurd (true≢false (sym e))
+      by (Err r) e = refl

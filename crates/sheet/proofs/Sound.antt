@@ -7,11 +7,11 @@ use mathlib.Core.Bool.{Bool, true, false, ◌&&◌, ◌||◌}
 use lib.Dec.{eqb, eqb→eq}
 use borrow.Author.Tests.{eqb-false, leb-false, lt-leb}
 use Rattle.terms.specs.Choice.{pick, tab, any}
-use Rattle.terms.specs.Checks.{if_same, if_less, table}
+use Rattle.terms.specs.Checks.{passed, if_same, if_less, table}
 use Rattle.terms.specs.Group.{boxes}
 use Rattle.terms.specs.declared.Decision.{Decision}
 use Rattle.terms.specs.declared.Decision.TheVariants.{Commit as commit, Abort as abort}
-use Rattle.terms.proofs.Checks.{pass, first_none, rest_none, when_none, when_no, not_less}
+use Rattle.terms.proofs.Checks.{pass, first_none, rest_none, when_none, when_no, not_less, not_passed}
 use Rattle.records.specs.Contents.{code_wrong}
 use Rattle.terms.specs.Codes.{decision_number}
 use Rattle.sheet.specs.declared.Sheet.{Sheet}
@@ -38,9 +38,9 @@ module _ (p : ℕ → Bool) where
       by false q false w h k = k h (let s : i ≡ b → ⊥ = eqb-false i b w in omega arith)
 
 -- an answer without refusal 8 is 1 or 2
-pub one_or_two : (a : ℕ) → code_wrong a ≡ 0 → (a ≡ 1) ⊎ (a ≡ 2)
+pub one_or_two : (a : ℕ) → code_wrong a ≡ passed → (a ≡ 1) ⊎ (a ≡ 2)
 unfolding code_wrong if_same
-one_or_two zero e = absurd (let z : ◌≡◌ {A = ℕ} 8 0 = first_none _ _ e in omega arith)
+one_or_two zero e = absurd (not_passed (first_none _ _ e))
 one_or_two (suc zero) e = inl refl
 one_or_two (suc (suc zero)) e = inr refl
 one_or_two (suc (suc (suc a))) e = absurd (let l : suc (suc (suc a)) ≤ 2 = not_less _ _ _ (rest_none _ _ e) in omega arith)
@@ -104,12 +104,12 @@ module _ (s : Sheet) (number answer : ℕ) (off : on s number ≡ false) where
   joins_fits abort n l (inr e) h = rw e (room number n s.aborts l h (clear s.aborts number (off_aborts s number off)))
 
   -- a sheet without a refusal stays one
-  module _ (f : ℕ) (sound : sheet_wrong f s ≡ 0) (l : number < boxes f) (w : (answer ≡ 1) ⊎ (answer ≡ 2)) where
-    damaged : sheet_damaged f s ≡ 0
+  module _ (f : ℕ) (sound : sheet_wrong f s ≡ passed) (l : number < boxes f) (w : (answer ≡ 1) ⊎ (answer ≡ 2)) where
+    damaged : sheet_damaged f s ≡ passed
     unfolding sheet_wrong
     damaged = rest_none _ _ sound
 
-    pub joins_sound : sheet_wrong f (joined s number answer) ≡ 0
+    pub joins_sound : sheet_wrong f (joined s number answer) ≡ passed
     unfolding sheet_wrong sheet_damaged
     joins_sound =
         let d₁ = rest_none _ _ damaged in

@@ -1,18 +1,14 @@
 -- What a sheet tells is what a box tells: the list from a sheet passes a box's checks, and lacks of each threshold what the reply says.
-use Prim.Native.Nat.{ℕ, zero, suc, ◌-◌, ◌<◌, ◌≤◌}
-use native.Mathlib.Omega.{arith}
-use mathlib.Core.Path.{◌≡◌, refl, ap, sym, ◌∙◌}
-use mathlib.Core.Bool.{Bool, true, false}
-use lib.Dec.{eqb}
-use lib.ListN.{length}
+use Rattle.std.proofs.Common.{ℕ, zero, suc, ◌-◌, ◌<◌, ◌≤◌, ◌≡◌, refl, ap, sym, ◌∙◌, Bool, true, false, eqb, length, Ok, Err, arith}
 use Rattle.terms.specs.Choice.{pick}
-use Rattle.terms.specs.Checks.{or_else, if_same, if_less, count as few, code}
+use Rattle.terms.specs.Checks.{Check, passed, or_else, if_same, if_less, count as few, code}
+use Rattle.terms.specs.declared.Refusal.{Refusal}
 use Rattle.terms.specs.Group.{boxes}
 use Rattle.terms.specs.declared.Decision.{Decision}
 use Rattle.terms.specs.declared.Decision.TheVariants.{Commit as commit, Abort as abort}
 use Rattle.terms.specs.declared.Kind.{Kind}
 use Rattle.terms.specs.declared.Kind.TheVariants.{Votes as votes, Logs as logs}
-use Rattle.terms.proofs.Checks.{pass, first_none, rest_none, when_no, same_no, less_no, not_less}
+use Rattle.terms.proofs.Checks.{pass, first_none, rest_none, when_no, same_no, less_no, not_less, not_passed}
 use Rattle.records.specs.declared.VoteList.{VoteList}
 use Rattle.records.specs.Vl.{held_list, list_in, no_list, view_of}
 use Rattle.records.specs.Contents.{answer_odd, code_wrong, count_wrong, list_wrong, log_list_wrong}
@@ -32,12 +28,12 @@ use Rattle.sheet.proofs.Sheets.{after_joined, reply_lacking, right_answer, right
 use Rattle.sheet.proofs.Sound.{joins_sound, one_or_two}
 
 -- what one check of a number shows, another shows too
-same_else : (a b n m : ℕ) → if_same a b (suc n) ≡ 0 → if_same a b m ≡ 0
+same_else : (a b : ℕ) (q r : Refusal) → if_same a b q ≡ passed → if_same a b r ≡ passed
 unfolding if_same
-same_else a b n m e = by (eqb a b) e
+same_else a b q r e = by (eqb a b) e
   where
-    by : (t : Bool) → pick t (suc n) 0 ≡ 0 → pick t m 0 ≡ 0
-    by true h = absurd (omega arith)
+    by : (t : Bool) → pick t (Err q) passed ≡ passed → pick t (Err r) passed ≡ passed
+    by true h = absurd (not_passed h)
     by false h = refl
 
 decision_known : (d : Decision) → decision_of (decision_number d) ≡ d
@@ -45,7 +41,7 @@ unfolding decision_of
 decision_known commit = refl
 decision_known abort = refl
 
-decision_right : (d : Decision) → code_wrong (decision_number d) ≡ 0
+decision_right : (d : Decision) → code_wrong (decision_number d) ≡ passed
 unfolding code_wrong or_else if_same if_less
 decision_right commit = refl
 decision_right abort = refl
@@ -65,8 +61,8 @@ some_proof f votes abort = omega arith
 some_proof f logs commit = omega arith
 some_proof f logs abort = omega arith
 
-module _ (s : Sheet) (f : ℕ) (sound : sheet_wrong f s ≡ 0) where
-  kind_right : code_wrong s.kind ≡ 0
+module _ (s : Sheet) (f : ℕ) (sound : sheet_wrong f s ≡ passed) where
+  kind_right : code_wrong s.kind ≡ passed
   unfolding code_wrong sheet_wrong sheet_damaged
   kind_right =
       let e = rest_none _ _ sound in
@@ -84,15 +80,15 @@ module _ (s : Sheet) (f : ℕ) (sound : sheet_wrong f s ≡ 0) where
   list_lacks need d = rw (list_is s f d sound, listed_tally (has (under d s)) (decision_number d) (boxes f))
 
   -- a list of one box or more has no refusal 3
-  pub list_count : (d : Decision) → 0 < counted f d s → count_wrong (length (list_from s f d).pairs) ≡ 0
+  pub list_count : (d : Decision) → 0 < counted f d s → count_wrong (length (list_from s f d).pairs) ≡ passed
   unfolding count_wrong counted
   list_count d h =
-      let g = sheet_group f s _ refl sound in
+      let g = sheet_group f s sound in
       let m : how_many (has (under d s)) (boxes f) ≤ boxes f = count_most (has (under d s)) (boxes f) in
       rw (list_counts d) (sym (pass (same_no _ 0 few (omega arith)) (sym (less_no 26 _ few (omega (arith, g.1))))))
 
   -- nor 8, 5 or 6
-  pub list_right : (d : Decision) → list_wrong f (list_from s f d) ≡ 0
+  pub list_right : (d : Decision) → list_wrong f (list_from s f d) ≡ passed
   unfolding list_wrong list_for
   list_right d =
       rw (list_is s f d sound)
@@ -104,7 +100,7 @@ module _ (s : Sheet) (f : ℕ) (sound : sheet_wrong f s ≡ 0) where
       (sym (when_no _ _ (listed_rises _ _ (boxes f)))))))))
 
   -- a list of votes may stand in an LG
-  pub list_logs : (d : Decision) → s.kind ≡ 1 → log_list_wrong f (list_from s f d) ≡ 0
+  pub list_logs : (d : Decision) → s.kind ≡ 1 → log_list_wrong f (list_from s f d) ≡ passed
   unfolding log_list_wrong list_for if_same
   list_logs d k = sym (pass (rw (list_is s f d sound, k)) (sym (list_right d)))
 
@@ -137,10 +133,10 @@ module _ (s : Sheet) (f : ℕ) (sound : sheet_wrong f s ≡ 0) where
   dc_lacks_lem d = ap (λ (need : ℕ). lacking need (list_from s f d)) (dc_need_lem d) ∙ list_lacks (for_proof f (kind_of s.kind) d) d
 
   -- a list that lacks none has a box: it passes every check of a box
-  pub lg_count : (d : Decision) → lg_lacks f (list_from s f d) ≡ 0 → count_wrong (length (list_from s f d).pairs) ≡ 0
+  pub lg_count : (d : Decision) → lg_lacks f (list_from s f d) ≡ 0 → count_wrong (length (list_from s f d).pairs) ≡ passed
   lg_count d h = list_count d (omega (arith, some_logging f d, lg_lacks_lem d, h))
 
-  pub dc_count : (d : Decision) → dc_lacks f (list_from s f d) ≡ 0 → count_wrong (length (list_from s f d).pairs) ≡ 0
+  pub dc_count : (d : Decision) → dc_lacks f (list_from s f d) ≡ 0 → count_wrong (length (list_from s f d).pairs) ≡ passed
   dc_count d h = list_count d (omega (arith, some_proof f (kind_of s.kind) d, dc_lacks_lem d, h))
 
   -- and then goes on; else it tells the number with 11
@@ -165,7 +161,7 @@ boxes_tell_the_same s f d a sound = (
 )
 
 -- the same of the reply to an answer that joins: it is of the sheet as it is then
-pub reply_tells : (s : Sheet) (f number answer : ℕ) → answer_wrong s f number answer ≡ 0 → on s number ≡ false
+pub reply_tells : (s : Sheet) (f number answer : ℕ) → answer_wrong s f number answer ≡ passed → on s number ≡ false
     → reply_to s f number answer ≡ boxes_tell (kind_of (sheet_after s f number answer).kind) f (sheet_after s f number answer)
 reply_tells s f number answer z off =
     let e : joined s number answer ≡ sheet_after s f number answer = after_joined s f number answer z _ off refl in
@@ -183,9 +179,9 @@ list_view : (s : Sheet) (f : ℕ) (d : Decision) → view_of (list_from s f d).k
 unfolding list_from list_by list_for no_list
 list_view s f d = by (sheet_wrong f s)
   where
-    by : (n : ℕ) → view_of (list_by n s f d).kind (list_by n s f d).view ≡ (list_by n s f d).view
-    by zero = view_once s.kind s.view
-    by (suc n) = view_none
+    by : (w : Check) → view_of (list_by w s f d).kind (list_by w s f d).view ≡ (list_by w s f d).view
+    by (Ok _) = view_once s.kind s.view
+    by (Err r) = view_none
 
 -- the struct that `list_from` returns holds that list
 pub list_held : (s : Sheet) (f : ℕ) (d : Decision) (l : VoteList) → l ≡ held_list (list_from s f d) → list_in l ≡ list_from s f d

@@ -1,6 +1,7 @@
 -- Answers that arrive one after another, in any order and with any repeats, and what a sheet counts of them.
-use Rattle.std.specs.Prelude.{ℕ, Bool, ◌&&◌, ◌≡◌, List, [], ◌∷◌, eqb}
+use Rattle.std.specs.Prelude.{ℕ, Bool, not, ◌&&◌, ◌≡◌, List, [], ◌∷◌, eqb, is_err}
 use Rattle.terms.specs.Choice.{pick}
+use Rattle.terms.specs.Checks.{passed}
 use Rattle.terms.specs.Group.{boxes, group_wrong}
 use Rattle.terms.specs.declared.Decision.{Decision}
 use Rattle.terms.specs.declared.Kind.{Kind}
@@ -20,7 +21,7 @@ sheet_from s f (a ∷ more) = sheet_from (sheet_after s f a.number a.answer) f m
 
 -- an answer that is not refused with 5 or 8
 unfoldable pub valid : ℕ → Arrival → Bool
-valid f a = eqb (given_wrong f a.number a.answer) 0
+valid f a = not (is_err (given_wrong f a.number a.answer))
 
 -- the first valid answer of box b; 0 where it has given none
 unfoldable pub first_of : ℕ → ℕ → List Arrival → ℕ
@@ -31,5 +32,5 @@ first_of f b (a ∷ more) = pick (valid f a && eqb a.number b) a.answer (first_o
 abbrev pub CountsBoxes : Type 0
 CountsBoxes =
     (f : ℕ) (k : Kind) (view : ℕ) (more : List Arrival) (d : Decision)
-    → group_wrong f ≡ 0
+    → group_wrong f ≡ passed
     → counted f d (sheet_from (empty_sheet k view) f more) ≡ how_many (λ b. eqb (first_of f b more) (decision_number d)) (boxes f)

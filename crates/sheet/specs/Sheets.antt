@@ -1,8 +1,8 @@
 -- "Tally": what a sheet is after an answer, and the reply.
-use Rattle.std.specs.Prelude.{ℕ, zero, suc, ◌-◌, ◌^◌, Bool, false, ◌&&◌, ◌||◌, ◌≡◌, List, [], ◌∷◌, eqb, leb}
+use Rattle.std.specs.Prelude.{ℕ, ◌-◌, ◌^◌, Bool, false, ◌&&◌, ◌||◌, ◌≡◌, List, [], ◌∷◌, eqb, leb, Ok, Err}
 use Rattle.terms.specs.Choice.{pick, tab, any}
-use Rattle.terms.specs.Checks.{or_else, when, if_less, if_same, range, table}
-use Rattle.terms.specs.Refusals.{number_of, refusal_of}
+use Rattle.terms.specs.Checks.{Check, passed, or_else, when, if_less, if_same, range, table}
+use Rattle.terms.specs.Refusals.{number_of}
 use Rattle.terms.specs.Codes.{kind_number}
 use Rattle.terms.specs.Group.{boxes, group_wrong}
 use Rattle.records.specs.Vl.{view_of}
@@ -38,7 +38,7 @@ unfoldable pub twice : Sheet → ℕ → Bool
 twice s b = has s.commits b && has s.aborts b
 
 -- 16: "in a lent tally sheet: a kind not 1 or 2, a box n or more, or a box under both answers"
-unfoldable pub sheet_damaged : ℕ → Sheet → ℕ
+unfoldable pub sheet_damaged : ℕ → Sheet → Check
 sheet_damaged f s =
     or_else (if_same s.kind 0 table)
     (or_else (if_less 2 s.kind table)
@@ -47,14 +47,14 @@ sheet_damaged f s =
     (when (any (twice s) (numbers (boxes f))) table))))
 
 -- "It checks 14, 16"
-unfoldable pub sheet_wrong : ℕ → Sheet → ℕ
+unfoldable pub sheet_wrong : ℕ → Sheet → Check
 sheet_wrong f s = or_else (group_wrong f) (sheet_damaged f s)
 
 -- "then box n or more (5), then answer not 1 or 2 (8)"
-abbrev pub given_wrong : ℕ → ℕ → ℕ → ℕ
+abbrev pub given_wrong : ℕ → ℕ → ℕ → Check
 given_wrong f number answer = or_else (when (leb (boxes f) number) range) (code_wrong answer)
 
-unfoldable pub answer_wrong : Sheet → ℕ → ℕ → ℕ → ℕ
+unfoldable pub answer_wrong : Sheet → ℕ → ℕ → ℕ → Check
 answer_wrong s f number answer = or_else (sheet_wrong f s) (given_wrong f number answer)
 
 -- "A box already on the sheet"
@@ -93,25 +93,25 @@ unfoldable pub lacking_on : ℕ → Sheet → Reply
 lacking_on f s = lacking_by (kind_of s.kind) f s
 
 -- "A refusal returns its number only. .. tally .. stay unchanged."; "A box already on the sheet then answers Repeat, sheet unchanged"
-unfoldable pub sheet_by : ℕ → Sheet → ℕ → ℕ → Sheet
-sheet_by zero s number answer = pick (on s number) s (joined s number answer)
-sheet_by (suc wrong) s number answer = s
+unfoldable pub sheet_by : Check → Sheet → ℕ → ℕ → Sheet
+sheet_by (Ok _) s number answer = pick (on s number) s (joined s number answer)
+sheet_by (Err r) s number answer = s
 
 unfoldable pub sheet_after : Sheet → ℕ → ℕ → ℕ → Sheet
 sheet_after s f number answer = sheet_by (answer_wrong s f number answer) s number answer
 
 -- the reply is of the sheet with the answer on it
-unfoldable pub reply_by : ℕ → Sheet → ℕ → ℕ → ℕ → Reply
-reply_by zero s f number answer = pick (on s number) Repeat (lacking_on f (joined s number answer))
-reply_by (suc wrong) s f number answer = Refused (refusal_of (suc wrong))
+unfoldable pub reply_by : Check → Sheet → ℕ → ℕ → ℕ → Reply
+reply_by (Ok _) s f number answer = pick (on s number) Repeat (lacking_on f (joined s number answer))
+reply_by (Err r) s f number answer = Refused r
 
 unfoldable pub reply_to : Sheet → ℕ → ℕ → ℕ → Reply
 reply_to s f number answer = reply_by (answer_wrong s f number answer) s f number answer
 
 -- what a sheet has reached as it is, with no answer given: 14, 16, or what is lacking, by the definition that a reply has
-unfoldable pub reached_by : ℕ → Sheet → ℕ → Reply
-reached_by zero s f = lacking_on f s
-reached_by (suc wrong) s f = Refused (refusal_of (suc wrong))
+unfoldable pub reached_by : Check → Sheet → ℕ → Reply
+reached_by (Ok _) s f = lacking_on f s
+reached_by (Err r) s f = Refused r
 
 unfoldable pub reached_of : Sheet → ℕ → Reply
 reached_of s f = reached_by (sheet_wrong f s) s f
@@ -119,5 +119,5 @@ reached_of s f = reached_by (sheet_wrong f s) s f
 -- the reply to an answer that joins is what the sheet has reached with it
 abbrev pub RepliesReached : Type 0
 RepliesReached =
-    (s : Sheet) (f number answer : ℕ) → answer_wrong s f number answer ≡ 0 → on s number ≡ false
+    (s : Sheet) (f number answer : ℕ) → answer_wrong s f number answer ≡ passed → on s number ≡ false
     → reply_to s f number answer ≡ reached_of (sheet_after s f number answer) f

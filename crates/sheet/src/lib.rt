@@ -1,5 +1,5 @@
 // The gateway's tally sheet: for one transaction and one kind, which box has answered what. Counts are always taken from the masks.
-#![tactic(auto)]
+#![tactic(auto, unfolding(terms::proofs::Checks::chain))]
 
 ghost use Rattle.std.specs.Prelude.{◌≡◌, false, ◌-◌, ◌<◌, ◌≤◌, ◌^◌, leb};
 ghost use Rattle.terms.specs.Choice.{any};
@@ -10,10 +10,10 @@ ghost use Rattle.sheet.specs.Masks.{has, with_box};
 ghost use Rattle.sheet.specs.Sheets.{twice, sheet_damaged, sheet_wrong, answer_wrong, on, joined, lacking_on, sheet_after, reply_to, reply_values, empty_sheet, numbers, under, reached_of};
 ghost use Rattle.sheet.specs.Listing.{list_for, list_from, listing_wrong, listing_of};
 
-use records::{Pair, VoteList};
-use terms::{Decision, Group, Kind, Refusal, View};
+use records::{NO_LIST, NO_PAIR, Pair, VoteList};
+use terms::{Check, Decision, Group, Kind, Refusal, View};
 
-// Bit b of a mask says that box b gave this answer. A sheet of logs is for one view.
+// Bit b of a mask says that box b gave this answer. A sheet of logs is for one view. Plain numbers: C lends a sheet, which may hold any, and 16 tells of it.
 #[derive(Clone, Copy)]
 pub struct Sheet {
     pub kind: u8,
@@ -38,19 +38,13 @@ pub struct LogsLacking {
     pub abort: u8,
 }
 
+// An enum and no Result: it tells three ways beside the refusal, and C is told which by a number, 4 for the refusal.
 #[derive(Clone, Copy)]
 pub enum Reply {
     Votes(VotesLacking),
     Logs(LogsLacking),
     Repeat,
     Refused(Refusal),
-}
-
-// The list from a sheet: the refusal's number or 0, and the list; none where it is refused.
-#[derive(Clone, Copy)]
-pub struct Listing {
-    pub wrong: u8,
-    pub list: VoteList,
 }
 
 impl Reply {
@@ -113,27 +107,21 @@ pub fn counted(m: u32, n: usize) -> usize
     requires { n ≤ 32 }
     ensures { result ≡ how_many (has m) n }
 {
-    let mut c = 0;
-    let mut i = 0;
-    while i < n {
-        if has_box(m, i) {
-            c += 1;
-            i += 1;
-        } else {
-            i += 1;
+    let mut boxes = 0;
+    for b in 0..n {
+        if has_box(m, b) {
+            boxes += 1;
         }
     }
-    c
+    boxes
 }
 
+#[tactic(auto, unfolding(crate::specs::Sheets::twice))]
 fn under_both(s: Sheet, b: usize) -> bool
     requires { b < 32 }
     ensures { result ≡ twice s b }
 {
-    if has_box(s.commits, b) {
-        return has_box(s.aborts, b);
-    }
-    false
+    has_box(s.commits, b) && has_box(s.aborts, b)
 }
 
 // Whether one of the first n boxes is under both answers.
@@ -141,12 +129,10 @@ fn both(s: Sheet, n: usize) -> bool
     requires { n ≤ 32 }
     ensures { result ≡ any (twice s) (numbers n) }
 {
-    let mut b = 0;
-    while b < n {
+    for b in 0..n {
         if under_both(s, b) {
             return true;
         }
-        b += 1;
     }
     false
 }
@@ -159,64 +145,47 @@ pub fn mask_wide(m: u32, n: usize) -> bool
     (1 << n) <= m
 }
 
-// 16 if a lent sheet is damaged, else 0: no check needs the one before it.
-fn sheet_damaged(s: Sheet, g: Group) -> u8
+// 16 where a lent sheet is damaged.
+#[tactic(auto, unfolding(terms::proofs::Checks::chain, crate::specs::Sheets::sheet_damaged))]
+fn sheet_damaged(s: Sheet, g: Group) -> Check
     requires { g.f ≤ 5 }
     ensures { result ≡ sheet_damaged g.f s }
 {
     let n = g.n();
-    terms::first(
-        terms::refuse_if(s.kind == 0, terms::TABLE),
-        terms::first(
-            terms::refuse_if(2 < s.kind, terms::TABLE),
-            terms::first(
-                terms::refuse_if(mask_wide(s.commits, n), terms::TABLE),
-                terms::first(
-                    terms::refuse_if(mask_wide(s.aborts, n), terms::TABLE),
-                    terms::refuse_if(both(s, n), terms::TABLE),
-                ),
-            ),
-        ),
-    )
+    terms::refuse_if(s.kind == 0, Refusal::Table)?;
+    terms::refuse_if(2 < s.kind, Refusal::Table)?;
+    terms::refuse_if(mask_wide(s.commits, n), Refusal::Table)?;
+    terms::refuse_if(mask_wide(s.aborts, n), Refusal::Table)?;
+    terms::refuse_if(both(s, n), Refusal::Table)
 }
 
 // 14, then 16.
-pub fn sheet_wrong(s: Sheet, f: u64) -> u8
+#[tactic(auto, using(terms::proofs::Groups::group_small), unfolding(terms::proofs::Checks::chain, crate::specs::Sheets::sheet_wrong))]
+pub fn sheet_wrong(s: Sheet, f: u64) -> Check
     ensures { result ≡ sheet_wrong f s }
 {
-    let wrong = terms::group_wrong(f);
-    if wrong != 0 {
-        return wrong;
-    }
+    terms::group_wrong(f)?;
     sheet_damaged(s, Group { f: f as u8 })
 }
 
 // 14, 16, then 5 and 8 of the answer: 14 stands in front, since n is worked out from f.
-pub fn answer_wrong(s: Sheet, f: u64, number: u64, answer: u64) -> u8
+#[tactic(auto, using(crate::proofs::Sheets::sheet_group), unfolding(terms::proofs::Checks::chain, crate::specs::Sheets::answer_wrong, records::specs::Contents::code_wrong))]
+pub fn answer_wrong(s: Sheet, f: u64, number: u64, answer: u64) -> Check
     ensures { result ≡ answer_wrong s f number answer }
 {
-    let wrong = sheet_wrong(s, f);
-    if wrong != 0 {
-        return wrong;
-    }
+    sheet_wrong(s, f)?;
     let n = Group { f: f as u8 }.n();
-    terms::first(
-        terms::refuse_if(n as u64 <= number, terms::RANGE),
-        terms::first(
-            terms::refuse_if(answer == 0, terms::CODE),
-            terms::refuse_if(2 < answer, terms::CODE),
-        ),
-    )
+    terms::refuse_if(n as u64 <= number, Refusal::Range)?;
+    terms::refuse_if(answer == 0, Refusal::Code)?;
+    terms::refuse_if(2 < answer, Refusal::Code)
 }
 
+#[tactic(auto, unfolding(crate::specs::Sheets::on))]
 pub fn on_sheet(s: Sheet, b: usize) -> bool
     requires { b < 32 }
     ensures { result ≡ on s b }
 {
-    if has_box(s.commits, b) {
-        return true;
-    }
-    has_box(s.aborts, b)
+    has_box(s.commits, b) || has_box(s.aborts, b)
 }
 
 // The box joins under its answer, and nothing else changes.
@@ -226,20 +195,10 @@ pub fn join(s: Sheet, b: usize, answer: u64) -> Sheet
 {
     if answer == 1 {
         let commits = with_box(s.commits, b);
-        return Sheet {
-            kind: s.kind,
-            view: s.view,
-            commits,
-            aborts: s.aborts,
-        };
+        return Sheet { commits, ..s };
     }
     let aborts = with_box(s.aborts, b);
-    Sheet {
-        kind: s.kind,
-        view: s.view,
-        commits: s.commits,
-        aborts,
-    }
+    Sheet { aborts, ..s }
 }
 
 // How many answers are lacking of a threshold; 0 where it is reached.
@@ -247,10 +206,7 @@ pub fn lacking(need: usize, count: usize) -> u8
     requires { need ≤ 26 }
     ensures { result ≡ need - count }
 {
-    if need <= count {
-        return 0;
-    }
-    (need - count) as u8
+    need.saturating_sub(count) as u8
 }
 
 // What is lacking of each of the kind's thresholds.
@@ -279,8 +235,7 @@ fn lacking_of(s: Sheet, g: Group) -> Reply
 pub fn added(s: Sheet, f: u64, number: u64, answer: u64) -> Sheet
     ensures { result ≡ sheet_after s f number answer }
 {
-    let wrong = answer_wrong(s, f, number, answer);
-    if wrong != 0 {
+    if answer_wrong(s, f, number, answer).is_err() {
         return s;
     }
     let b = number as usize;
@@ -291,12 +246,12 @@ pub fn added(s: Sheet, f: u64, number: u64, answer: u64) -> Sheet
 }
 
 // The reply to an answer, of the sheet before it.
+#[tactic(auto, using(crate::proofs::Sheets::small_box), unfolding(crate::specs::Sheets::reply_to, crate::specs::Sheets::reply_by))]
 pub fn reply_to(s: Sheet, f: u64, number: u64, answer: u64) -> Reply
     ensures { result ≡ reply_to s f number answer }
 {
-    let wrong = answer_wrong(s, f, number, answer);
-    if wrong != 0 {
-        return Reply::Refused(Refusal::of(wrong));
+    if let Err(why) = answer_wrong(s, f, number, answer) {
+        return Reply::Refused(why);
     }
     let b = number as usize;
     if on_sheet(s, b) {
@@ -306,12 +261,12 @@ pub fn reply_to(s: Sheet, f: u64, number: u64, answer: u64) -> Reply
 }
 
 // What a sheet has reached as it is: 14, 16, or what is lacking, as a reply tells it.
+#[tactic(auto, using(crate::proofs::Sheets::sheet_group), unfolding(crate::specs::Sheets::reached_of, crate::specs::Sheets::reached_by))]
 pub fn reached(s: Sheet, f: u64) -> Reply
     ensures { result ≡ reached_of s f }
 {
-    let refused = sheet_wrong(s, f);
-    if refused != 0 {
-        return Reply::Refused(Refusal::of(refused));
+    if let Err(why) = sheet_wrong(s, f) {
+        return Reply::Refused(why);
     }
     lacking_of(s, Group { f: f as u8 })
 }
@@ -330,23 +285,15 @@ fn list_of_mask(kind: u8, view: View, answer: u8, m: u32, n: usize) -> VoteList
     requires { n ≤ 26 }
     ensures { result ≡ held_list (list_for kind view.0 answer m n) }
 {
-    let z = Pair {
-        number: 0,
-        answer: 0,
-    };
-    let mut pairs = [z; 26];
+    let mut pairs = [NO_PAIR; 26];
     let mut count = 0;
-    let mut b = 0;
-    while b < n {
+    for b in 0..n {
         if has_box(m, b) {
             pairs[count] = Pair {
                 number: b as u8,
                 answer,
             };
             count += 1;
-            b += 1;
-        } else {
-            b += 1;
         }
     }
     VoteList {
@@ -372,9 +319,8 @@ fn mask_under(s: Sheet, decision: Decision) -> u32
 pub fn list_from(s: Sheet, f: u64, decision: Decision) -> VoteList
     ensures { result ≡ held_list (list_from s f decision) }
 {
-    let wrong = sheet_wrong(s, f);
-    if wrong != 0 {
-        return list_of_mask(0, View(0), 0, 0, 0);
+    if sheet_wrong(s, f).is_err() {
+        return NO_LIST;
     }
     let n = Group { f: f as u8 }.n();
     list_of_mask(
@@ -387,19 +333,17 @@ pub fn list_from(s: Sheet, f: u64, decision: Decision) -> VoteList
 }
 
 // 14, 16, then 8 of a decision's number.
-fn listing_wrong(s: Sheet, f: u64, decision: u64) -> u8
+#[tactic(auto, unfolding(terms::proofs::Checks::chain, crate::specs::Listing::listing_wrong, records::specs::Contents::code_wrong))]
+fn listing_wrong(s: Sheet, f: u64, decision: u64) -> Check
     ensures { result ≡ listing_wrong s f decision }
 {
-    terms::first(
-        sheet_wrong(s, f),
-        terms::first(
-            terms::refuse_if(decision == 0, terms::CODE),
-            terms::refuse_if(2 < decision, terms::CODE),
-        ),
-    )
+    sheet_wrong(s, f)?;
+    terms::refuse_if(decision == 0, Refusal::Code)?;
+    terms::refuse_if(2 < decision, Refusal::Code)
 }
 
 // The decision of a number that is 1 or 2.
+#[tactic(auto, unfolding(rules::specs::Lists::decision_of))]
 fn decision_of(number: u64) -> Decision
     ensures { result ≡ decision_of number }
 {
@@ -410,14 +354,10 @@ fn decision_of(number: u64) -> Decision
 }
 
 // The list of the boxes under a decision that is told by its number.
-pub fn list_by(s: Sheet, f: u64, decision: u64) -> Listing
+#[tactic(auto, unfolding(terms::proofs::Checks::chain, crate::specs::Listing::listing_of))]
+pub fn list_by(s: Sheet, f: u64, decision: u64) -> Result<VoteList, Refusal>
     ensures { result ≡ listing_of s f decision }
 {
-    let wrong = listing_wrong(s, f, decision);
-    if wrong != 0 {
-        let list = list_of_mask(0, View(0), 0, 0, 0);
-        return Listing { wrong, list };
-    }
-    let list = list_from(s, f, decision_of(decision));
-    Listing { wrong: 0, list }
+    listing_wrong(s, f, decision)?;
+    Ok(list_from(s, f, decision_of(decision)))
 }

@@ -1,20 +1,22 @@
 -- The rules of an entry, one law for each outcome as the code has it.
 use Prim.Native.Nat.{ℕ, ◌+◌}
-use mathlib.Core.Path.{◌≡◌}
+use mathlib.Core.Path.{◌≡◌, refl}
 use mathlib.Core.Bool.{Bool, true, false}
 use mathlib.Core.Option.{some, none}
+use denote.Enum.Bare.{sameb}
 use lib.Dec.{leb}
 use lib.ListN.{length}
 use Rattle.terms.specs.Choice.{pick}
+use Rattle.terms.specs.contracts.Decision.{the_type}
 use Rattle.terms.specs.declared.Decision.{Decision}
+use Rattle.terms.specs.declared.Decision.TheVariants.{Commit as commit, Abort as abort}
 use Rattle.terms.specs.declared.Refusal.TheVariants.{Full, Contradiction}
 use Rattle.records.specs.Vl.{Vl}
 use Rattle.rules.specs.declared.Answer.TheVariants.{Decided, Done, Logged, Refused, Voted}
 use Rattle.rules.specs.declared.Reason.{Reason}
-use Rattle.rules.specs.declared.Log.TheVariants.{None as unlogged, Is as logged}
-use Rattle.rules.specs.declared.Settled.TheVariants.{None as unsettled, Is as settled}
+use Rattle.rules.specs.Answers.{logged_at, settled, unlogged, unsettled}
 use Rattle.rules.specs.declared.Told.{Told}
-use Rattle.rules.specs.declared.Visited.TheVariants.{None as unvisited}
+use Rattle.rules.specs.Answers.{unvisited}
 use Rattle.rules.specs.declared.Vote.{Vote}
 use Rattle.rules.specs.declared.Vote.TheVariants.{None as unvoted, Commit as vote_commit, Abort as vote_abort, Waiting as waiting}
 use Rattle.rules.specs.Answers.{View, view_as}
@@ -87,7 +89,7 @@ module _ (i : ℕ) (told : Told) (x : Box) (b : Body) (l : Vl) where
   lg_open e h = rw h
 
 module _ (i : ℕ) (told : Told) (b : Body) (l : Vl) (e : State) where
-  pub lg_logged : (d : Decision) (v : View) → e.log ≡ logged d v → kept (Logged d v) ≡ step_by i (lg_by_log told b l (entry_with b e) e.log)
+  pub lg_logged : (d : Decision) (v : View) → e.log ≡ logged_at d v → kept (Logged d v) ≡ step_by i (lg_by_log told b l (entry_with b e) e.log)
   unfolding lg_by_log step_by change_by
   lg_logged d v h = rw h
 
@@ -107,16 +109,24 @@ module _ (i : ℕ) (told : Told) (x : Box) (b : Body) (d : Decision) (n : ℕ) (
   unfolding dc_by_entry room_for is_full
   dc_room h = rw (k, h)
 
+same_tells : (a b : Decision) → sameb the_type a b ≡ same_decision a b
+unfolding same_decision
+same_tells commit commit = refl
+same_tells commit abort = refl
+same_tells abort commit = refl
+same_tells abort abort = refl
+
 module _ (i : ℕ) (b : Body) (d : Decision) (e : State) where
   pub dc_takes : e.decided ≡ unsettled → put i (record { vote = e.vote; log = e.log; view = e.view; decided = settled d }) Done ≡ step_by i (dc_same b d (entry_with b e) e.decided)
   unfolding dc_same decide_act step_by change_by state_in entry_with
   dc_takes h = rw h
 
-  module _ (held : Decision) (h : e.decided ≡ settled held) where
-    pub dc_equal : same_decision held d ≡ true → kept Done ≡ step_by i (dc_same b d (entry_with b e) e.decided)
+  -- t is whether the two are the same, as the derive tells it
+  module _ (held : Decision) (h : e.decided ≡ settled held) (t : Bool) (q : t ≡ sameb the_type held d) where
+    pub dc_equal : t ≡ true → kept Done ≡ step_by i (dc_same b d (entry_with b e) e.decided)
     unfolding dc_same step_by change_by
-    dc_equal s = rw (h, s)
+    dc_equal s = rw (h, ← same_tells held d, ← q, s)
 
-    pub dc_opposite : same_decision held d ≡ false → kept (Refused Contradiction) ≡ step_by i (dc_same b d (entry_with b e) e.decided)
+    pub dc_opposite : t ≡ false → kept (Refused Contradiction) ≡ step_by i (dc_same b d (entry_with b e) e.decided)
     unfolding dc_same step_by change_by
-    dc_opposite s = rw (h, s)
+    dc_opposite s = rw (h, ← same_tells held d, ← q, s)

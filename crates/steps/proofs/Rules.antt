@@ -12,8 +12,7 @@ use Rattle.records.specs.declared.VoteList.{VoteList}
 use Rattle.records.specs.Vl.{Vl, list_in}
 use Rattle.records.specs.Views.{Views}
 use Rattle.rules.specs.declared.Answer.TheVariants.{Logged, Refused}
-use Rattle.rules.specs.declared.Log.TheVariants.{Is as logged}
-use Rattle.rules.specs.declared.Settled.TheVariants.{None as unsettled}
+use Rattle.rules.specs.Answers.{logged_at, unsettled}
 use Rattle.rules.specs.declared.Vote.{Vote}
 use Rattle.rules.specs.declared.Told.{Told}
 use Rattle.rules.specs.Answers.{View, view_as}
@@ -136,7 +135,7 @@ module _ (l : VoteList) (k need : ℕ) (t : k ≡ lacking need (list_in l)) wher
     lg_full c full y a = rw (← h, ← q, enough c _, y)
 
     pub lg_logs : k ≡ 0 → (full : Bool) → full ≡ false → (v : Vote) (w : View) (b : Body) (o : Option Entry) → vote_in o ≡ v → view_in o ≡ w
-        → put i (record { vote = v; log = logged d (view_as 0); view = w; decided = unsettled }) (Logged d (view_as 0))
+        → put i (record { vote = v; log = logged_at d (view_as 0); view = w; decided = unsettled }) (Logged d (view_as 0))
         ≡ step_by i (needing N (list_in l) (pick full (refuse Full) (first_log b (decision_of (list_in l).decision) o)))
     unfolding list_in log_act step_by change_by state_in
     lg_logs c full y v w b o s r = rw (← h, ← q, enough c _, y, s, r)

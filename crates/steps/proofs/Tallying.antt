@@ -1,84 +1,90 @@
--- The list's codes, and the loops that count its pairs and its ballots.
-use Prim.Native.Nat.{ℕ, zero, suc, ◌+◌, ◌-◌, ◌<◌, ◌≤◌, zero-le}
-use native.Mathlib.Omega.{arith}
-use native.Mathlib.Nat.{sub-zero, zero-add}
-use mathlib.Core.Path.{◌≡◌, refl}
-use mathlib.Core.Bool.{Bool, true, false}
-use mathlib.Core.List.{map}
-use mathlib.Core.Logic.{◌⊎◌, inl, inr}
+-- The list's codes, and what is counted of its pairs and its ballots.
+use Rattle.std.proofs.Common.{ℕ, zero, suc, ◌-◌, ◌<◌, ◌≤◌, arith, add-one, ◌≡◌, refl, ap, sym, ◌∙◌, Bool, IsTrue, ◌↔◌, rules, true, false, not, cond, ◌&&◌, ◌||◌, count_by, List, [], ◌∷◌, map, length, take, get_or, length-take, ◌⊎◌, inl, inr}
+use Rattle.std.proofs.lemmas.List.Sums.{sum_by-cons, count_by-le-length, list_all-from_AllPass, AllPass-from_list_all}
+use Rattle.std.specs.List.{list_all, AllPass}
 use lib.Dec.{eqb, leb}
 use Rattle.terms.specs.Choice.{tab}
+use Rattle.terms.proofs.Scans.{tab_map, tab_shift}
 use Rattle.records.specs.declared.Ballot.{Ballot}
 use Rattle.records.specs.declared.Pair.{Pair}
-use Rattle.records.specs.Views.{ballot_pair}
-use Rattle.records.specs.Vl.{Vl}
+use Rattle.records.specs.declared.VoteList.{VoteList}
+use Rattle.records.specs.declared.ViewList.{ViewList}
+use Rattle.records.specs.declared.ViewMark.{ViewMark}
+use Rattle.records.specs.declared.ViewMark.TheVariants.{VS, EL}
+use Rattle.records.specs.Views.{ballot_pair, ballots_in, own_ballot, views_in, zero_ballot}
+use Rattle.records.specs.Vl.{Vl, list_in, zero_pair}
 use Rattle.terms.specs.declared.Decision.{Decision}
 use Rattle.terms.specs.declared.Decision.TheVariants.{Commit as commit, Abort as abort}
 use Rattle.terms.specs.declared.Kind.{Kind}
 use Rattle.terms.specs.declared.Kind.TheVariants.{Votes as votes, Logs as logs}
 use Rattle.terms.specs.Group.{log_proof}
 use Rattle.rules.specs.Lists.{bit, tally, lacking, for_logging, for_proof}
-use Rattle.rules.specs.Fallback.{ballot_view, reach}
+use Rattle.rules.specs.Fallback.{one_view, reach}
 
--- after an `if`: by one branch or by the other
+-- after an arm of two patterns: by one or by the other
 pub by_branch : {A B C : Type 0} → A ⊎ B → (A → C) → (B → C) → C
 by_branch (inl a) f g = f a
 by_branch (inr b) f g = g b
 
--- how many of the n places from j on pass a test
-abbrev pub passing : (ℕ → Bool) → ℕ → ℕ → ℕ
-passing g j zero = 0
-passing g j (suc n) = bit (g j) + passing g (j + 1) n
+-- ---- the lists that structs hold, as the code has them: the front of an array
+tab_taken : {A : Type 0} (a : List A) (z : A) (n : ℕ) → n ≤ length a → tab (λ j. get_or a j z) 0 n ≡ take n a
+tab_taken a z zero h = refl
+tab_taken [] z (suc n) h = absurd (omega arith)
+tab_taken (x ∷ a) z (suc n) h = ap (λ (l : List _). x ∷ l) (tab_shift (λ j. get_or (x ∷ a) j z) (λ j. get_or a j z) 0 n (λ j. rw add-one) ∙ tab_taken a z n (omega arith))
 
--- what was found before j and what is found from j on are the whole, W
-pub record Counted (g : ℕ → Bool) (n W j found : ℕ) : Type 0 where
-  pub within : j ≤ n
-  pub small : found ≤ j
-  pub same : found + passing g j (n - j) ≡ W
+pub pairs_taken : (l : VoteList) → l.count ≤ length l.pairs → (list_in l).pairs ≡ take l.count l.pairs
+unfolding list_in
+pairs_taken l h = tab_taken l.pairs zero_pair l.count h
 
-module _ {g : ℕ → Bool} {n : ℕ} where
-  pub count_begin : Counted g n (passing g 0 n) 0 0
-  count_begin = record { within = zero-le; small = zero-le; same = rw (sub-zero, zero-add) }
+module _ (l : ViewList) (h : l.count ≤ length l.ballots) where
+  pub views_taken : (k : ViewMark) → (views_in k l).ballots ≡ map (own_ballot k) (take l.count l.ballots)
+  unfolding views_in
+  views_taken k = sym (tab_map (own_ballot k) (ballots_in l.ballots) 0 l.count) ∙ ap (map (own_ballot k)) (tab_taken l.ballots zero_ballot l.count h)
 
-  module _ {W j found : ℕ} (r : Counted g n W j found) where
-    step : j < n → passing g j (n - j) ≡ bit (g j) + passing g (j + 1) (n - (j + 1))
-    step h = let e : n - j ≡ suc (n - (j + 1)) = omega arith in rw e
+pub counted_small : {A : Type 0} (p : A → Bool) (a : List A) (n : ℕ) → n ≤ 26 → count_by p (take n a) ≤ 26
+counted_small p a n h = omega (arith, count_by-le-length p (take n a), length-take n a)
 
-    pub count_one : {x : ℕ} → j < n → g j ≡ true → x ≡ found + 1 → Counted g n W (j + 1) x
-    unfolding bit
-    count_one {x} h p a =
-        let q = rw (step h, p) at r.same in
-        let s = r.small in
-        record { within = omega arith; small = omega arith; same = omega arith }
+-- ---- the counts of the rules: of pairs by their answer, of ballots by theirs and by their view
+bit_cond : (t : Bool) → cond t 1 0 ≡ bit t
+unfolding bit
+bit_cond true = refl
+bit_cond false = refl
 
-    pub count_none : {x : ℕ} → j < n → g j ≡ false → x ≡ found → Counted g n W (j + 1) x
-    unfolding bit
-    count_none {x} h p a =
-        let q = rw (step h, p) at r.same in
-        let s = r.small in
-        record { within = omega arith; small = omega arith; same = omega arith }
-
-    pub count_end : n ≤ j → found ≡ W
-    count_end h =
-        let e : n - j ≡ 0 = omega arith in
-        let q = rw e at r.same in
-        omega arith
-
--- the counts of the rules: of pairs by their answer, of ballots by theirs and by their view
-pub tally_passing : (d : ℕ) (f : ℕ → Pair) (j n : ℕ) → passing (λ i. eqb (f i).answer d) j n ≡ tally d (tab f j n)
+pub tally_counts : (d : ℕ) (ps : List Pair) → count_by (λ p. eqb p.answer d) ps ≡ tally d ps
 unfolding tally
-tally_passing d f j zero = refl
-tally_passing d f j (suc n) = rw (tally_passing d f (j + 1) n)
+tally_counts d [] = refl
+tally_counts d (p ∷ ps) = sum_by-cons (λ x. cond (eqb x.answer d) 1 0) p ps ∙ (let b = bit_cond (eqb p.answer d) in let r = tally_counts d ps in cc)
 
-pub agree_passing : (d : ℕ) (f : ℕ → Ballot) (j n : ℕ) → passing (λ i. eqb (f i).answer d) j n ≡ tally d (map ballot_pair (tab f j n))
+pub agree_counts : (d : ℕ) (ps : List Ballot) → count_by (λ b. eqb b.answer d) ps ≡ tally d (map ballot_pair (map (own_ballot EL) ps))
 unfolding tally
-agree_passing d f j zero = refl
-agree_passing d f j (suc n) = rw (agree_passing d f (j + 1) n)
+agree_counts d [] = refl
+agree_counts d (p ∷ ps) = sum_by-cons (λ x. cond (eqb x.answer d) 1 0) p ps ∙ (let b = bit_cond (eqb p.answer d) in let r = agree_counts d ps in cc)
 
-pub reach_passing : (v : ℕ) (f : ℕ → Ballot) (j n : ℕ) → passing (λ i. leb v (ballot_view (f i))) j n ≡ reach v (tab f j n)
+pub reach_counts : (v : ℕ) (ps : List Ballot) → count_by (λ b. leb v b.view.0) ps ≡ reach v (map (own_ballot VS) ps)
 unfolding reach
-reach_passing v f j zero = refl
-reach_passing v f j (suc n) = rw (reach_passing v f (j + 1) n)
+reach_counts v [] = refl
+reach_counts v (p ∷ ps) = sum_by-cons (λ x. cond (leb v x.view.0) 1 0) p ps ∙ (let b = bit_cond (leb v p.view.0) in let r = reach_counts v ps in cc)
+
+-- ---- whether all ballots have a view
+not_or : (a b : Bool) → (a && not b) ≡ not (not a || b)
+not_or true b = refl
+not_or false b = refl
+
+one_view_all : (v : ℕ) (ps : List Ballot) → list_all (λ b. eqb b.view.0 v) ps ≡ one_view v (map (own_ballot EL) ps)
+unfolding one_view
+one_view_all v [] = refl
+one_view_all v (p ∷ ps) = let r = one_view_all v ps in rw r (not_or (eqb p.view.0 v) _)
+
+same_test : (t u : Bool) → (IsTrue t ↔ IsTrue u) → t ≡ u
+same_test true true h = refl
+same_test true false h = search rules
+same_test false true h = search rules
+same_test false false h = refl
+
+pub one_view_told : (t : Bool) (v : ℕ) (ps : List Ballot) → (IsTrue t ↔ AllPass (λ b. eqb b.view.0 v) ps) → t ≡ one_view v (map (own_ballot EL) ps)
+one_view_told t v ps h =
+    same_test t (list_all (λ b. eqb b.view.0 v) ps) (λ k. list_all-from_AllPass _ ps (h.0 k), λ k. h.1 (AllPass-from_list_all _ ps k))
+    ∙ one_view_all v ps
 
 -- how many are lacking of need, x being counted
 module _ (l : Vl) (x need : ℕ) (e : x ≡ tally l.decision l.pairs) where

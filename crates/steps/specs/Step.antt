@@ -1,5 +1,5 @@
 -- The rules' act as one step by value: what a call does to the rows of a table.
-use Rattle.std.specs.Prelude.{ℕ, suc, List, ◌≡◌}
+use Rattle.std.specs.Prelude.{ℕ, List, ◌≡◌, Option as Found, Some, None}
 use Rattle.std.proofs.Math.Option.{Option, some, none}
 use Rattle.terms.specs.Choice.{pick}
 use Rattle.terms.specs.declared.Decision.{Decision}
@@ -9,14 +9,10 @@ use Rattle.records.specs.Vl.{Vl}
 use Rattle.records.specs.Views.{Views}
 use Rattle.rules.specs.declared.Answer.{Answer}
 use Rattle.rules.specs.declared.Answer.TheVariants.{Voted, Refused}
-use Rattle.rules.specs.declared.Log.{Log}
-use Rattle.rules.specs.declared.Log.TheVariants.{None as unlogged}
-use Rattle.rules.specs.declared.Settled.TheVariants.{None as unsettled}
+use Rattle.rules.specs.Answers.{Log, unsettled}
 use Rattle.rules.specs.declared.Told.{Told}
-use Rattle.rules.specs.declared.Visited.TheVariants.{Is as visited}
+use Rattle.rules.specs.Answers.{visited}
 use Rattle.rules.specs.declared.Vote.{Vote}
-use Rattle.rules.specs.declared.Vote.TheVariants.{None as unvoted}
-use Rattle.rules.specs.Answers.{view_as}
 use Rattle.rules.specs.Bodies.{Body, same_body, stamp_of}
 use Rattle.rules.specs.Table.{Entry, Box, find, log_in, view_in, vote_in}
 use Rattle.rules.specs.Calls.{Act, Change, nothing, puts, raises, raises_low, pr_by_entry, pr_by_decision, lg_by_entry, lg_by_decision, dc_same, dc_other, dc_by_entry}
@@ -81,10 +77,10 @@ unfoldable pub dc_proved : Told → Box → Body → Decision → Step
 dc_proved told x b d = step_by (place (stamp_of b) x.table) (dc_by_entry told x b d (find (stamp_of b) x.table))
 
 -- ---- views
--- the view after one that was found; 0 where none was
-unfoldable pub above : Option ℕ → ℕ
-above none = 0
-above (some v) = suc v
+-- the view that was found, as the code has an option
+unfoldable pub found_view : Option ℕ → Found ℕ
+found_view none = None
+found_view (some v) = Some v
 
 unfoldable pub iv_by : ℕ → Told → Body → Views → Held → Step
 iv_by i told b l Not = kept (Refused NotLogged)
@@ -96,9 +92,6 @@ ld_by i told x b l Not = step_by i (ld_by_entry told x b l none)
 ld_by i told x b l (Same e) = step_by i (ld_by_decision told b l (entry_with b e) e.decided)
 ld_by i told x b l (Other e) = kept (Refused OtherBody)
 
--- what stands beside a body that is not held, and beside one that is or is not
-abbrev pub blank : State
-blank = record { vote = unvoted; log = unlogged; view = view_as 0; decided = unsettled }
-
+-- what stands beside a body that is or is not held
 abbrev pub Beside : Option Entry → State → Type 0
 Beside o e = (vote_in o ≡ e.vote) × (log_in o ≡ e.log) × (view_in o ≡ e.view)

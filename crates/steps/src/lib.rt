@@ -1,7 +1,7 @@
 // PR, LG, DC, RD, IV and LD over the rows of a table: what each does, as one step by value. One other function applies it.
 #![tactic(auto)]
 
-ghost use Rattle.std.specs.Prelude.{◌≡◌, List, ◌&&◌, map, ℕ, max, ◌≤◌, leb, ltb, length};
+ghost use Rattle.std.specs.Prelude.{◌≡◌, List, ◌&&◌, map, ℕ, max, ◌≤◌, leb, ltb, length, option_map};
 ghost use Rattle.std.proofs.Math.Option.{Option, some, none};
 ghost use Rattle.terms.specs.Choice.{pick};
 ghost use Rattle.terms.specs.declared.Refusal.TheVariants.{Full};
@@ -10,7 +10,7 @@ ghost use Rattle.records.specs.Vl.{list_in};
 ghost use Rattle.records.specs.Views.{ballot_pair, views_in};
 ghost use Rattle.records.specs.declared.ViewMark.TheVariants.{VS, EL};
 ghost use Rattle.rules.specs.declared.Answer.TheVariants.{Refused};
-ghost use Rattle.rules.specs.declared.Log.TheVariants.{Is as logged};
+ghost use Rattle.rules.specs.Answers.{logged_at};
 ghost use Rattle.rules.specs.declared.Version.{Version};
 ghost use Rattle.rules.specs.Answers.{View, log_view};
 ghost use Rattle.rules.specs.Bodies.{Body, stamp_of};
@@ -22,14 +22,22 @@ ghost use Rattle.rules.specs.Fallback.{reach, reached, next_view, iv_by_log, iv_
 ghost use Rattle.terms.specs.declared.Decision.TheVariants.{Commit as commit};
 ghost use Rattle.table.specs.Table.{Wf, WfRow, head_len, box_from, entry_of, entry_with, entries, place};
 ghost use Rattle.steps.specs.declared.Held.TheVariants.{Not, Same};
-ghost use Rattle.steps.specs.Step.{step_by, kept, put, cast_step, held_by, look_of, pr_by, lg_by, dc_proved, above, iv_by, ld_by, blank, Beside};
+ghost use Rattle.steps.specs.Step.{step_by, kept, put, cast_step, held_by, look_of, pr_by, lg_by, dc_proved, found_view, iv_by, ld_by, Beside};
 
 use records::{ViewList, VoteList};
-use rules::{Answer, Log, Settled, Told, Visited, Vote};
+use rules::{Answer, Logged, Told, Vote};
 use table::State;
 use terms::{Decision, Group, Key, Kind, Refusal, Stamp, View};
 
 const LARGEST_VIEW: usize = 65535;
+
+// What stands beside a body that is not held.
+const BLANK: State = State {
+    vote: Vote::None,
+    log: None,
+    view: View(0),
+    decided: None,
+};
 
 // What a call changes: nothing; row `i` becomes the message's body with this beside it; a key's read mark is raised to a stamp.
 #[derive(Clone, Copy)]
@@ -84,17 +92,10 @@ fn tally(l: VoteList) -> usize
     requires { l.count ≤ 26 }
     ensures { (result ≡ tally l.decision (list_in l).pairs) × (result ≤ 26) }
 {
-    let n = l.count;
-    let mut found = 0;
-    let mut j = 0;
-    while j < n {
-        let p = l.pairs[j];
-        if p.answer == l.decision {
-            found += 1;
-        }
-        j += 1;
-    }
-    found
+    l.pairs[..l.count]
+        .iter()
+        .filter(|p| p.answer == l.decision)
+        .count()
 }
 
 // How many answers are lacking of those that are due.
@@ -158,21 +159,6 @@ fn proof_need(g: Group, k: Kind, d: Decision) -> usize
     }
 }
 
-fn same_decision(a: Decision, b: Decision) -> bool
-    ensures { result ≡ same_decision a b }
-{
-    match a {
-        Decision::Commit => match b {
-            Decision::Commit => true,
-            Decision::Abort => false,
-        },
-        Decision::Abort => match b {
-            Decision::Commit => false,
-            Decision::Abort => true,
-        },
-    }
-}
-
 // ---- look-up
 
 // What is held under a message's stamp: nothing, this body, or another one; and what stands beside it.
@@ -198,9 +184,10 @@ fn held_in(row: &[u8], b: &[u8]) -> Held
 {
     let state = table::state_of(row);
     if table::same(table::body_of(row), b) {
-        return Held::Same(state);
+        Held::Same(state)
+    } else {
+        Held::Other(state)
     }
-    Held::Other(state)
 }
 
 fn look_up(t: &[u8], n: usize, b: &[u8]) -> Look
@@ -209,10 +196,9 @@ fn look_up(t: &[u8], n: usize, b: &[u8]) -> Look
 {
     let place = table::place(t, n, table::stamp_of(b));
     if place < n {
-        let held = held_in(table::row(t, place), b);
         return Look {
             place,
-            held,
+            held: held_in(table::row(t, place), b),
             visited: place + 1,
         };
     }
@@ -233,16 +219,15 @@ fn is_full(n: usize, told: Told) -> bool
 // ---- PR
 
 // The vote is stored and answered, with the entries visited; log and view stay.
-fn cast(i: usize, log: Log, view: View, v: Vote, visited: usize) -> Step
-    ensures { result ≡ cast_step i log view v visited }
+fn cast(i: usize, e: State, v: Vote, visited: usize) -> Step
+    ensures { result ≡ cast_step i e.log e.view v visited }
 {
     let state = State {
         vote: v,
-        log,
-        view,
-        decided: Settled::None,
+        decided: None,
+        ..e
     };
-    Step::put(i, state, Answer::Voted(v, Visited::Is(visited)))
+    Step::put(i, state, Answer::Voted(v, Some(visited)))
 }
 
 // Not held: 13, else the tests. `own` entries were visited by the own look-up.
@@ -263,9 +248,7 @@ fn pr_new(
         return Step::refuse(Refusal::Full);
     }
     let first = scans::first_vote(h, t, n, marks, b, told);
-    let vote = first.vote;
-    let visited = own + first.visited;
-    cast(i, Log::None, View(0), vote, visited)
+    cast(i, BLANK, first.vote, own + first.visited)
 }
 
 // Vote cast: the same vote again. Waiting: the waiting rule. None: the tests as if new, in its place.
@@ -283,50 +266,20 @@ fn pr_undecided(
     requires { Wf t.now n × TxThere b.now × (own ≡ look_up (stamp_of b.now) (entries t.now n)) × (head_len ≤ length h.now) }
     ensures { result ≡ step_by i (pr_by_vote told (box_from h.now (entries t.now n) marks.now) b.now (entry_with b.now e) e.vote) }
 {
-    let log = e.log;
-    let view = e.view;
-    let vote = e.vote;
-    match vote {
-        Vote::Commit => Step::keep(Answer::Voted(vote, Visited::None)),
-        Vote::Abort(_) => Step::keep(Answer::Voted(vote, Visited::None)),
+    match e.vote {
+        Vote::Commit | Vote::Abort(_) => Step::keep(Answer::Voted(e.vote, None)),
         Vote::Waiting => {
             let again = scans::waiting_rule(h, t, n, b);
-            let v = again.vote;
-            let visited = own + again.visited;
-            cast(i, log, view, v, visited)
+            cast(i, e, again.vote, own + again.visited)
         }
         Vote::None => {
             let first = scans::first_vote(h, t, n, marks, b, told);
-            let v = first.vote;
-            let visited = own + first.visited;
-            cast(i, log, view, v, visited)
+            cast(i, e, first.vote, own + first.visited)
         }
     }
 }
 
-// Held with this body. Decided: Decided.
-fn pr_held(
-    h: &[u8],
-    t: &[u8],
-    n: usize,
-    marks: &[u64],
-    told: Told,
-    b: &[u8],
-    i: usize,
-    own: usize,
-    e: State,
-) -> Step
-    requires { Wf t.now n × TxThere b.now × (own ≡ look_up (stamp_of b.now) (entries t.now n)) × (head_len ≤ length h.now) }
-    ensures { result ≡ pr_by i told (box_from h.now (entries t.now n) marks.now) b.now (Same e) }
-{
-    let decided = e.decided;
-    match decided {
-        Settled::Is(d) => Step::keep(Answer::Decided(d)),
-        Settled::None => pr_undecided(h, t, n, marks, told, b, i, own, e),
-    }
-}
-
-// PR. Held with another body: 9.
+// PR. Held with this body and decided: Decided. Held with another body: 9.
 pub fn pr_step(h: &[u8], t: &[u8], n: usize, marks: &[u64], told: Told, b: &[u8]) -> Step
     requires { Wf t.now n × TxThere b.now × (head_len ≤ length h.now) }
     ensures { result ≡ step_by (place (stamp_of b.now) (entries t.now n)) (pr_rule told (box_from h.now (entries t.now n) marks.now) b.now) }
@@ -334,10 +287,12 @@ pub fn pr_step(h: &[u8], t: &[u8], n: usize, marks: &[u64], told: Told, b: &[u8]
     let look = look_up(t, n, b);
     let i = look.place;
     let own = look.visited;
-    let held = look.held;
-    match held {
+    match look.held {
         Held::Not => pr_new(h, t, n, marks, told, b, i, own),
-        Held::Same(e) => pr_held(h, t, n, marks, told, b, i, own, e),
+        Held::Same(e) => match e.decided {
+            Some(d) => Step::keep(Answer::Decided(d)),
+            None => pr_undecided(h, t, n, marks, told, b, i, own, e),
+        },
         Held::Other(_) => Step::refuse(Refusal::OtherBody),
     }
 }
@@ -345,9 +300,9 @@ pub fn pr_step(h: &[u8], t: &[u8], n: usize, marks: &[u64], told: Told, b: &[u8]
 // ---- LG
 
 // Too few: 11. A new entry and no room: 13. Else it is logged with view 0, beside this vote and the current view.
-fn lg_unlogged(i: usize, full: bool, vote: Vote, view: View, told: Told, l: VoteList) -> Step
+fn lg_unlogged(i: usize, full: bool, e: State, told: Told, l: VoteList) -> Step
     requires { (told.f ≤ 5) × (l.count ≤ 26) }
-    ensures { (b : Body) (o : Option Entry) → vote_in o ≡ vote → view_in o ≡ view → result ≡ step_by i (needing (for_logging told.f (decision_of (list_in l).decision)) (list_in l) (pick full (refuse Full) (first_log b (decision_of (list_in l).decision) o))) }
+    ensures { (b : Body) (o : Option Entry) → vote_in o ≡ e.vote → view_in o ≡ e.view → result ≡ step_by i (needing (for_logging told.f (decision_of (list_in l).decision)) (list_in l) (pick full (refuse Full) (first_log b (decision_of (list_in l).decision) o))) }
 {
     let d = decision_of(l.decision);
     let lacks = lacking(l, log_need(group_of(told), d));
@@ -358,10 +313,12 @@ fn lg_unlogged(i: usize, full: bool, vote: Vote, view: View, told: Told, l: Vote
         return Step::refuse(Refusal::Full);
     }
     let logged = State {
-        vote,
-        log: Log::Is(d, View(0)),
-        view,
-        decided: Settled::None,
+        log: Some(Logged {
+            decision: d,
+            view: View(0),
+        }),
+        decided: None,
+        ..e
     };
     Step::put(i, logged, Answer::Logged(d, View(0)))
 }
@@ -371,38 +328,25 @@ fn lg_undecided(i: usize, e: State, told: Told, l: VoteList) -> Step
     requires { (told.f ≤ 5) × (l.count ≤ 26) }
     ensures { (b : Body) → result ≡ step_by i (lg_by_log told b (list_in l) (entry_with b e) e.log) }
 {
-    let vote = e.vote;
-    let view = e.view;
-    let log = e.log;
-    match log {
-        Log::Is(d, v) => Step::keep(Answer::Logged(d, v)),
-        Log::None => lg_unlogged(i, false, vote, view, told, l),
+    match e.log {
+        Some(logged) => Step::keep(Answer::Logged(logged.decision, logged.view)),
+        None => lg_unlogged(i, false, e, told, l),
     }
 }
 
-// Held with this body. Decided: Decided.
-fn lg_held(i: usize, e: State, told: Told, l: VoteList) -> Step
-    requires { (told.f ≤ 5) × (l.count ≤ 26) }
-    ensures { (x : Box) (b : Body) → result ≡ lg_by i told x b (list_in l) (Same e) }
-{
-    let decided = e.decided;
-    match decided {
-        Settled::Is(d) => Step::keep(Answer::Decided(d)),
-        Settled::None => lg_undecided(i, e, told, l),
-    }
-}
-
-// LG. Not held: a new entry with vote none, if there is room. Other body: 9.
+// LG. Not held: a new entry with vote none, if there is room. Decided: Decided. Other body: 9.
 pub fn lg_step(t: &[u8], n: usize, told: Told, b: &[u8], l: VoteList) -> Step
     requires { Wf t.now n × TxThere b.now × (told.f ≤ 5) × (l.count ≤ 26) }
     ensures { (marks : List ℕ) (low : ℕ) (folds : List Version) → result ≡ step_by (place (stamp_of b.now) (entries t.now n)) (lg_rule told (box_with (entries t.now n) marks low folds) b.now (list_in l)) }
 {
     let look = look_up(t, n, b);
     let i = look.place;
-    let held = look.held;
-    match held {
-        Held::Not => lg_unlogged(i, is_full(n, told), Vote::None, View(0), told, l),
-        Held::Same(e) => lg_held(i, e, told, l),
+    match look.held {
+        Held::Not => lg_unlogged(i, is_full(n, told), BLANK, told, l),
+        Held::Same(e) => match e.decided {
+            Some(d) => Step::keep(Answer::Decided(d)),
+            None => lg_undecided(i, e, told, l),
+        },
         Held::Other(_) => Step::refuse(Refusal::OtherBody),
     }
 }
@@ -414,10 +358,8 @@ fn dc_new(i: usize, d: Decision) -> Step
     ensures { (b : Body) → result ≡ step_by i (decide_act b d none) }
 {
     let state = State {
-        vote: Vote::None,
-        log: Log::None,
-        view: View(0),
-        decided: Settled::Is(d),
+        decided: Some(d),
+        ..BLANK
     };
     Step::put(i, state, Answer::Done)
 }
@@ -436,23 +378,17 @@ fn dc_unheld(n: usize, told: Told, i: usize, d: Decision) -> Step
 fn dc_same(i: usize, e: State, d: Decision) -> Step
     ensures { (b : Body) → result ≡ step_by i (dc_same b d (entry_with b e) e.decided) }
 {
-    let vote = e.vote;
-    let log = e.log;
-    let view = e.view;
-    let decided = e.decided;
-    match decided {
-        Settled::None => Step::put(
+    match e.decided {
+        None => Step::put(
             i,
             State {
-                vote,
-                log,
-                view,
-                decided: Settled::Is(d),
+                decided: Some(d),
+                ..e
             },
             Answer::Done,
         ),
-        Settled::Is(held) => {
-            if same_decision(held, d) {
+        Some(held) => {
+            if held == d {
                 return Step::keep(Answer::Done);
             }
             Step::refuse(Refusal::Contradiction)
@@ -461,20 +397,17 @@ fn dc_same(i: usize, e: State, d: Decision) -> Step
 }
 
 // A commit for another body: 12 if the held one is committed, else the new body replaces it.
-fn dc_commit(i: usize, held: Settled) -> Step
+fn dc_commit(i: usize, held: Option<Decision>) -> Step
     ensures { (b : Body) → result ≡ step_by i (dc_other b commit held) }
 {
     match held {
-        Settled::None => dc_new(i, Decision::Commit),
-        Settled::Is(d) => match d {
-            Decision::Commit => Step::refuse(Refusal::Contradiction),
-            Decision::Abort => dc_new(i, Decision::Commit),
-        },
+        Some(Decision::Commit) => Step::refuse(Refusal::Contradiction),
+        Some(Decision::Abort) | None => dc_new(i, Decision::Commit),
     }
 }
 
 // Held, other body. Abort: 9.
-fn dc_other(i: usize, held: Settled, d: Decision) -> Step
+fn dc_other(i: usize, held: Option<Decision>, d: Decision) -> Step
     ensures { (b : Body) → result ≡ step_by i (dc_other b d held) }
 {
     match d {
@@ -490,14 +423,10 @@ fn dc_proved(t: &[u8], n: usize, told: Told, b: &[u8], d: Decision) -> Step
 {
     let look = look_up(t, n, b);
     let i = look.place;
-    let held = look.held;
-    match held {
+    match look.held {
         Held::Not => dc_unheld(n, told, i, d),
         Held::Same(e) => dc_same(i, e, d),
-        Held::Other(e) => {
-            let decided = e.decided;
-            dc_other(i, decided, d)
-        }
+        Held::Other(e) => dc_other(i, e.decided, d),
     }
 }
 
@@ -524,62 +453,35 @@ pub fn rd_step(h: &[u8], t: &[u8], n: usize, told: Told, k: Key, s: Stamp) -> St
     if scans::ahead(s, told) {
         return Step::refuse(Refusal::Ahead);
     }
-    let low = table::low_of(h);
-    if s.0 <= low.0 {
+    if s <= table::low_of(h) {
         return Step::refuse(Refusal::Old);
     }
-    let answer = scans::found(h, t, n, k, s);
     Step {
-        answer,
+        answer: scans::found(h, t, n, k, s),
         change: Change::Raise(k, s),
     }
 }
 
 // ---- views
 
-fn larger(a: usize, b: usize) -> usize
-    ensures { result ≡ max a b }
-{
-    if a < b {
-        return b;
-    }
-    a
-}
-
 // How many of the listed are at the view or above it.
 fn reach(l: ViewList, v: View) -> usize
     requires { l.count ≤ 26 }
     ensures { (result ≡ reach v.0 (views_in VS l).ballots) × (result ≤ 26) }
 {
-    let n = l.count;
-    let mut found = 0;
-    let mut j = 0;
-    while j < n {
-        let ballot = l.ballots[j];
-        if v.0 <= ballot.view.0 {
-            found += 1;
-        }
-        j += 1;
-    }
-    found
+    l.ballots[..l.count].iter().filter(|b| v <= b.view).count()
 }
 
-// The view after the largest listed one that so many of all are at or above; 0 where there is none.
-fn reached(l: ViewList, need: usize) -> usize
+// The largest listed view that so many of all are at or above.
+fn reached(l: ViewList, need: usize) -> Option<View>
     requires { l.count ≤ 26 }
-    ensures { result ≡ above (reached need (views_in VS l).ballots (views_in VS l).ballots) }
+    ensures { option_map (λ (v : View). v.0) result ≡ found_view (reached need (views_in VS l).ballots (views_in VS l).ballots) }
 {
-    let n = l.count;
-    let mut after = 0;
-    let mut j = 0;
-    while j < n {
-        let ballot = l.ballots[j];
-        if need <= reach(l, ballot.view) {
-            after = larger(after, ballot.view.0 as usize + 1);
-        }
-        j += 1;
-    }
-    after
+    l.ballots[..l.count]
+        .iter()
+        .filter(|b| need <= reach(l, b.view))
+        .map(|b| b.view)
+        .max()
 }
 
 // With 3f + 1 to the view after theirs, else with f + 1 up to theirs; never back.
@@ -588,15 +490,13 @@ fn next_view(g: Group, current: View, l: ViewList) -> usize
     ensures { result ≡ next_view g.f current.0 (views_in VS l).ballots }
 {
     let held = current.0 as usize;
-    let many = reached(l, g.commit_list());
-    if many != 0 {
-        return larger(held, many);
+    match reached(l, g.commit_list()) {
+        Some(v) => held.max(v.0 as usize + 1),
+        None => match reached(l, g.abort_list()) {
+            Some(v) => held.max(v.0 as usize),
+            None => held,
+        },
     }
-    let few = reached(l, g.abort_list());
-    if few != 0 {
-        return larger(held, few - 1);
-    }
-    held
 }
 
 // ---- IV
@@ -604,23 +504,19 @@ fn next_view(g: Group, current: View, l: ViewList) -> usize
 // Past 65,535: 24. Else the view that is moved on to is stored, and the log answered with it and its leader.
 fn iv_logged(i: usize, e: State, d: Decision, told: Told, b: &[u8], l: ViewList) -> Step
     requires { TxThere b.now × (told.f ≤ 5) × (l.count ≤ 26) }
-    ensures { (v : View) → result ≡ step_by i (iv_by_log told b.now (views_in VS l).ballots (entry_with b.now e) (logged d v)) }
+    ensures { (v : View) → result ≡ step_by i (iv_by_log told b.now (views_in VS l).ballots (entry_with b.now e) (logged_at d v)) }
 {
     let g = group_of(told);
     let next = next_view(g, e.view, l);
     if LARGEST_VIEW < next {
         return Step::refuse(Refusal::LastView);
     }
-    let number = next as u16;
-    let view = View(number);
+    let view = View(next as u16);
     let leader = rules::leader_of(g, view, table::stamp_of(b));
-    let vote = e.vote;
-    let log = e.log;
     let moved = State {
-        vote,
-        log,
         view,
-        decided: Settled::None,
+        decided: None,
+        ..e
     };
     Step::put(i, moved, Answer::Elected(d, view, leader))
 }
@@ -630,36 +526,25 @@ fn iv_undecided(i: usize, e: State, told: Told, b: &[u8], l: ViewList) -> Step
     requires { TxThere b.now × (told.f ≤ 5) × (l.count ≤ 26) }
     ensures { result ≡ step_by i (iv_by_log told b.now (views_in VS l).ballots (entry_with b.now e) e.log) }
 {
-    let logged = e.log;
-    match logged {
-        Log::None => Step::refuse(Refusal::NotLogged),
-        Log::Is(d, _) => iv_logged(i, e, d, told, b, l),
+    match e.log {
+        None => Step::refuse(Refusal::NotLogged),
+        Some(logged) => iv_logged(i, e, logged.decision, told, b, l),
     }
 }
 
-// Held with this body. Decided: Decided.
-fn iv_held(i: usize, e: State, told: Told, b: &[u8], l: ViewList) -> Step
-    requires { TxThere b.now × (told.f ≤ 5) × (l.count ≤ 26) }
-    ensures { result ≡ iv_by i told b.now (views_in VS l) (Same e) }
-{
-    let decided = e.decided;
-    match decided {
-        Settled::Is(d) => Step::keep(Answer::Decided(d)),
-        Settled::None => iv_undecided(i, e, told, b, l),
-    }
-}
-
-// IV. Not held: 22. Other body: 9.
+// IV. Not held: 22. Decided: Decided. Other body: 9.
 pub fn iv_step(t: &[u8], n: usize, told: Told, b: &[u8], l: ViewList) -> Step
     requires { Wf t.now n × TxThere b.now × (told.f ≤ 5) × (l.count ≤ 26) }
     ensures { (marks : List ℕ) (low : ℕ) (folds : List Version) → result ≡ step_by (place (stamp_of b.now) (entries t.now n)) (iv_rule told (box_with (entries t.now n) marks low folds) b.now (views_in VS l)) }
 {
     let look = look_up(t, n, b);
     let i = look.place;
-    let held = look.held;
-    match held {
+    match look.held {
         Held::Not => Step::refuse(Refusal::NotLogged),
-        Held::Same(e) => iv_held(i, e, told, b, l),
+        Held::Same(e) => match e.decided {
+            Some(d) => Step::keep(Answer::Decided(d)),
+            None => iv_undecided(i, e, told, b, l),
+        },
         Held::Other(_) => Step::refuse(Refusal::OtherBody),
     }
 }
@@ -671,16 +556,7 @@ fn one_view(l: ViewList) -> bool
     requires { l.count ≤ 26 }
     ensures { result ≡ one_view l.view.0 (views_in EL l).ballots }
 {
-    let n = l.count;
-    let mut j = 0;
-    while j < n {
-        let ballot = l.ballots[j];
-        if ballot.view.0 != l.view.0 {
-            return false;
-        }
-        j += 1;
-    }
-    true
+    l.ballots[..l.count].iter().all(|b| b.view == l.view)
 }
 
 // How many ballots have the list's decision.
@@ -688,17 +564,10 @@ fn agreeing(l: ViewList) -> usize
     requires { l.count ≤ 26 }
     ensures { (result ≡ tally l.decision (map ballot_pair (views_in EL l).ballots)) × (result ≤ 26) }
 {
-    let n = l.count;
-    let mut found = 0;
-    let mut j = 0;
-    while j < n {
-        let ballot = l.ballots[j];
-        if ballot.answer == l.decision {
-            found += 1;
-        }
-        j += 1;
-    }
-    found
+    l.ballots[..l.count]
+        .iter()
+        .filter(|b| b.answer == l.decision)
+        .count()
 }
 
 // Whether leader, number of answers, their view and their majority are right.
@@ -706,40 +575,17 @@ fn leads(g: Group, b: &[u8], l: ViewList) -> bool
     requires { TxThere b.now × (g.f ≤ 5) × (l.count ≤ 26) }
     ensures { result ≡ leads g.f b.now (views_in EL l) }
 {
-    if l.leader != rules::leader_of(g, l.view, table::stamp_of(b)) {
-        return false;
-    }
-    if l.count != g.log_proof() {
-        return false;
-    }
-    if one_view(l) {
-        return l.count < 2 * agreeing(l);
-    }
-    false
+    l.leader == rules::leader_of(g, l.view, table::stamp_of(b))
+        && l.count == g.log_proof()
+        && one_view(l)
+        && l.count < 2 * agreeing(l)
 }
 
 // Whether the current view is not above this one, and the logged view strictly below.
 fn may_take(e: State, v: View) -> bool
     ensures { result ≡ (leb e.view.0 v.0 && ltb (log_view e.log).0 v.0) }
 {
-    let log = e.log;
-    let logged = log.view();
-    if e.view.0 <= v.0 {
-        return logged.0 < v.0;
-    }
-    false
-}
-
-// What stands beside a body that is not held.
-fn blank() -> State
-    ensures { result ≡ blank }
-{
-    State {
-        vote: Vote::None,
-        log: Log::None,
-        view: View(0),
-        decided: Settled::None,
-    }
+    e.view <= v && rules::log_view(e.log) < v
 }
 
 // The decision is logged with its view, which is the current one from then on.
@@ -750,9 +596,9 @@ fn ld_taken(i: usize, vote: Vote, l: ViewList) -> Step
     let view = l.view;
     let led = State {
         vote,
-        log: Log::Is(d, view),
+        log: Some(Logged { decision: d, view }),
         view,
-        decided: Settled::None,
+        decided: None,
     };
     Step::put(i, led, Answer::Logged(d, view))
 }
@@ -767,37 +613,26 @@ fn ld_undecided(i: usize, full: bool, e: State, told: Told, b: &[u8], l: ViewLis
             if full {
                 return Step::refuse(Refusal::Full);
             }
-            let vote = e.vote;
-            return ld_taken(i, vote, l);
+            return ld_taken(i, e.vote, l);
         }
         return Step::refuse(Refusal::Passed);
     }
     Step::refuse(Refusal::Election)
 }
 
-// Held with this body. Decided: Decided.
-fn ld_held(i: usize, e: State, told: Told, b: &[u8], l: ViewList) -> Step
-    requires { TxThere b.now × (told.f ≤ 5) × (l.count ≤ 26) }
-    ensures { (x : Box) → result ≡ ld_by i told x b.now (views_in EL l) (Same e) }
-{
-    let decided = e.decided;
-    match decided {
-        Settled::Is(d) => Step::keep(Answer::Decided(d)),
-        Settled::None => ld_undecided(i, false, e, told, b, l),
-    }
-}
-
-// LD. Not held: a new entry with vote none, if there is room. Other body: 9.
+// LD. Not held: a new entry with vote none, if there is room. Decided: Decided. Other body: 9.
 pub fn ld_step(t: &[u8], n: usize, told: Told, b: &[u8], l: ViewList) -> Step
     requires { Wf t.now n × TxThere b.now × (told.f ≤ 5) × (l.count ≤ 26) }
     ensures { (marks : List ℕ) (low : ℕ) (folds : List Version) → result ≡ step_by (place (stamp_of b.now) (entries t.now n)) (ld_rule told (box_with (entries t.now n) marks low folds) b.now (views_in EL l)) }
 {
     let look = look_up(t, n, b);
     let i = look.place;
-    let held = look.held;
-    match held {
-        Held::Not => ld_undecided(i, is_full(n, told), blank(), told, b, l),
-        Held::Same(e) => ld_held(i, e, told, b, l),
+    match look.held {
+        Held::Not => ld_undecided(i, is_full(n, told), BLANK, told, b, l),
+        Held::Same(e) => match e.decided {
+            Some(d) => Step::keep(Answer::Decided(d)),
+            None => ld_undecided(i, false, e, told, b, l),
+        },
         Held::Other(_) => Step::refuse(Refusal::OtherBody),
     }
 }

@@ -1,10 +1,10 @@
 -- The body in a row reads as the row does.
-use Prim.Native.Nat.{ℕ, ◌+◌, ◌-◌, ◌*◌, zero, suc, ◌<◌, ◌≤◌, zero-le}
+use Prim.Native.Nat.{ℕ, ◌+◌, ◌*◌, zero, suc, ◌<◌, ◌≤◌, zero-le}
 use native.Mathlib.Nat.{sub-zero}
 use native.Mathlib.Omega.{arith}
 use mathlib.Core.Path.{◌≡◌, refl, ap}
 use mathlib.Core.List.{List, [], ◌∷◌}
-use mathlib.Core.Bool.{Bool, true, false}
+use mathlib.Core.Bool.{Bool, true, false, ◌&&◌}
 use lib.Dec.{eqb}
 use lib.ListN.{length, get_or, set, take, drop, length-take, length-drop}
 use lib.Seq.{get_or-take, get_or-drop, take-take, drop-set-lt}
@@ -15,8 +15,9 @@ use Rattle.records.specs.Tx.{Tx, tx_of, tx_len, r_count, w_count, read_at, write
 use Rattle.records.specs.declared.Write.{Write}
 use Rattle.rules.specs.declared.Reason.{Reason}
 use Rattle.rules.specs.declared.Vote.TheVariants.{None as unvoted, Abort as vote_abort}
-use Rattle.rules.specs.declared.Settled.TheVariants.{None as unsettled}
-use Rattle.rules.specs.Bodies.{stamp_of, reads_of, writes_of, writes_key}
+use Rattle.rules.specs.Answers.{unsettled}
+use Rattle.std.specs.Str.{bytes_eq}
+use Rattle.rules.specs.Bodies.{same_body, stamp_of, reads_of, writes_of, writes_key}
 use Rattle.rules.specs.Table.{live_by}
 use Rattle.table.specs.Table.{row_len, body_at, row_at, row_tx, row_body, entry_with, entry_of, WfRow, Wf}
 
@@ -101,14 +102,6 @@ module _ (r : List ℕ) (h : TxThere (row_tx r)) where
   unfolding row_body
   body_counts = (get_or-take (tx_len (row_tx r)) (row_tx r) 2 0 (omega arith), get_or-take (tx_len (row_tx r)) (row_tx r) 3 0 (omega arith))
 
-  pub body_whole : length (entry_of r).body ≡ tx_len (entry_of r).body
-  unfolding entry_of entry_with
-  body_whole =
-      let l = body_long in
-      let a = body_counts.0 in
-      let b = body_counts.1 in
-      omega arith
-
   pub body_there : TxThere (entry_of r).body
   unfolding entry_of entry_with
   body_there =
@@ -140,9 +133,6 @@ row_there r w =
     let b = w.writes in
     (a, b, simp length-drop (omega arith))
 
-pub rows_there : {t : List ℕ} {n : ℕ} → Wf t n → (i : ℕ) → i < n → TxThere (row_tx (row_at t i))
-rows_there {t} {n} w i h = row_there (row_at t i) (w.rows i h)
-
 -- a row that can be looked at
 pub row_fits : {t : List ℕ} {n : ℕ} → Wf t n → (i : ℕ) → i < n → (i * row_len + row_len ≤ length t) × WfRow (row_at t i)
 row_fits w i h = let m = w.room in (omega arith, w.rows i h)
@@ -157,14 +147,19 @@ dead_vote false r = refl
 pub begin_as : {A : Type 0} {P : A → Bool} {f : ℕ → A} {n : ℕ} {W : Bool} → any P (tab f 0 n) ≡ W → Rest P f n W 0
 begin_as e = record { within = zero-le; same = rw sub-zero e }
 
--- one that begins in the middle, and one that goes on under another name of the next place
+-- one that goes on under another name of the next place
 module _ {A : Type 0} {P : A → Bool} {f : ℕ → A} {n : ℕ} where
-  pub rest_from : {j : ℕ} → j ≤ n → Rest P f n (any P (tab f j (n - j))) j
-  rest_from h = record { within = h; same = refl }
-
   pub go_to : {W : Bool} {j : ℕ} → Rest P f n W j → (i : ℕ) → j < n → P (f j) ≡ false → i ≡ j + 1 → Rest P f n W i
   go_to r i h p e = rw e (go r h p)
 
 -- whether a write is of a key
 abbrev pub has_key : ℕ → Write → Bool
 has_key k w = eqb (write_key w) k
+
+-- two slices that compare equal are the same body
+pub bytes_same : (a b : List ℕ) → bytes_eq a b ≡ same_body a b
+unfolding same_body
+bytes_same [] [] = refl
+bytes_same [] (y ∷ ys) = refl
+bytes_same (x ∷ xs) [] = refl
+bytes_same (x ∷ xs) (y ∷ ys) = ap (λ (t : Bool). eqb x y && t) (bytes_same xs ys)

@@ -5,10 +5,10 @@ use native.Mathlib.Nat.{add-zero, zero-add}
 use mathlib.Core.Path.{◌≡◌, refl, sym}
 use mathlib.Core.List.{List}
 use mathlib.Core.Bool.{Bool, true, false, ◌||◌, false≢true}
-use borrow.Author.Tests.{ltb-false}
 use lib.ListN.{length, drop, length-take, length-drop}
+use Rattle.terms.specs.Checks.{passed}
 use Rattle.terms.specs.Choice.{tab, any}
-use Rattle.terms.proofs.Checks.{first_none, rest_none, not_less, when_none}
+use Rattle.terms.proofs.Checks.{no_refusal, first_none, rest_none, not_less, when_none}
 use Rattle.table.specs.Table.{head_len, row_len, table_len, row_at, row_wrong, row_bad, table_wrong, count_of, WfRow, Wf}
 
 -- a scan that found nothing: the test fails at each, and the other way
@@ -34,11 +34,11 @@ any_false P f s (suc n) h = rw (h s (omega arith) (omega arith)) (any_false P f 
 pub row_long : (t : List ℕ) (i : ℕ) → i * row_len + row_len ≤ length t → length (row_at t i) ≡ row_len
 row_long t i h = simp (length-take, length-drop) (omega arith)
 
-pub row_wf : (r : List ℕ) → length r ≡ row_len → row_wrong r ≡ 0 → WfRow r
+pub row_wf : (r : List ℕ) → length r ≡ row_len → row_wrong r ≡ passed → WfRow r
 unfolding row_wrong
 row_wf r l e = record { long = l; reads = not_less _ _ _ (first_none _ _ e); writes = not_less _ _ _ (first_none _ _ (rest_none _ _ e)) }
 
-module _ (cap : ℕ) (t : List ℕ) (e : table_wrong cap t ≡ 0) where
+module _ (cap : ℕ) (t : List ℕ) (e : table_wrong cap t ≡ passed) where
   pub table_room : table_len cap ≤ length t
   unfolding table_wrong
   table_room = not_less _ _ _ (first_none _ _ e)
@@ -62,6 +62,5 @@ module _ (cap : ℕ) (t : List ℕ) (e : table_wrong cap t ≡ 0) where
       record {
         room = d;
         rows = λ i h.
-            let z : row_wrong (row_at (drop head_len t) i) ≤ 0 = ltb-false _ _ (row_right i h) in
-            row_wf (row_at (drop head_len t) i) (row_long (drop head_len t) i (omega arith)) (omega arith);
+            row_wf (row_at (drop head_len t) i) (row_long (drop head_len t) i (omega arith)) (no_refusal _ (row_right i h));
       }

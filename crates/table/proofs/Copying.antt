@@ -1,57 +1,24 @@
--- A row that is written: the codes, and the loop that copies a body behind them.
-use Prim.Native.Nat.{ℕ, suc, ◌+◌, ◌-◌, ◌<◌, ◌≤◌, zero-le}
-use native.Mathlib.Omega.{arith}
-use native.Mathlib.Numerals.{add-one}
-use mathlib.Core.Path.{◌≡◌, refl, ap, sym, ◌∙◌}
-use mathlib.Core.List.{List, ◌∷◌, ◌++◌, append_assoc, append-nil}
-use borrow.Rule.Slice.PartMut.{mid_of, put_mid}
-use lib.ListN.{length, take, drop, get_or, set, length-set, length-drop, drop_of_length-le}
-use lib.Seq.{length-take-le, take-length, take_all, set_at, drop-cons, drop-drop, take-suc}
+-- A row that is written: codes and views, and a body behind them.
+use Rattle.std.proofs.Common.{◌≡◌, ℕ, ◌+◌, ◌-◌, ◌/◌, ◌%◌, ◌^◌, ◌<◌, List, length, drop, ◌∙◌, arith}
+use native.Mathlib.Nat.{add-sub_cancel_left}
+use borrow.Rule.Slice.PartMut.{put_mid}
+use lib.Seq.{drop-drop}
+use Rattle.records.specs.Numbers.{le_bytes}
 use Rattle.rules.specs.Answers.{log_view}
 use Rattle.table.specs.declared.State.{State}
-use Rattle.table.specs.Table.{row_len, vote_at, log_view_at, view_at, body_at, row_tx, view_bytes, codes_of, new_row}
-
--- the first i bytes of b over d
-abbrev copied : List ℕ → List ℕ → ℕ → List ℕ
-copied d b i = take i b ++ drop i d
-
-pub record Copied (d b e : List ℕ) (i : ℕ) : Type 0 where
-  pub within : i ≤ length b
-  pub fits : length b ≤ length d
-  pub long : length e ≡ length d
-  pub same : e ≡ copied d b i
-
-pub copy_none : {d b : List ℕ} → length b ≤ length d → Copied d b d 0
-copy_none h = record { within = zero-le; fits = h; long = refl; same = refl }
-
-pub copy_more : {d b e : List ℕ} {i : ℕ} → Copied d b e i → i < length b → Copied d b (set e i (get_or b i 0)) (i + 1)
-copy_more {d} {b} {e} {i} c h =
-    let l : i < length d = omega arith in
-    let k : length (take i b) ≡ i = length-take-le i b (omega arith) in
-    let s : set (copied d b i) i (get_or b i 0) ≡ take i b ++ (get_or b i 0 ∷ drop (suc i) d) =
-    rw (drop-cons d i 0 l) (set_at (take i b) (get_or d i 0) (drop (suc i) d) (get_or b i 0) i k) in
-    let t : copied d b (i + 1) ≡ take i b ++ (get_or b i 0 ∷ drop (suc i) d) = rw (add-one, take-suc b i 0 h, append_assoc) in
-    record {
-      within = omega arith;
-      fits = c.fits;
-      long = length-set e i (get_or b i 0) ∙ c.long;
-      same = ap (λ (x : List ℕ). set x i (get_or b i 0)) c.same ∙ s ∙ sym t;
-    }
-
-pub copy_all : {d b e : List ℕ} {i : ℕ} → Copied d b e i → length b ≤ i → e ≡ b ++ drop (length b) d
-copy_all {d} {b} {e} {i} c h = let z : i ≡ length b = omega arith in rw (z, take-length b) at c.same
+use Rattle.table.specs.Table.{vote_at, log_view_at, view_at, body_at, row_tx, codes_of, new_row}
 
 -- codes and two views put down in a row, each in a part that is lent and given back
 abbrev headed : List ℕ → State → List ℕ
 headed d x =
     put_mid view_at (body_at - view_at)
-    (put_mid log_view_at (view_at - log_view_at) (put_mid vote_at (log_view_at - vote_at) d (codes_of x)) (view_bytes (log_view x.log))) (view_bytes x.view)
+    (put_mid log_view_at (view_at - log_view_at) (put_mid vote_at (log_view_at - vote_at) d (codes_of x)) (le_bytes 2 (log_view x.log).0)) (le_bytes 2 x.view.0)
 
 -- and a body behind them
-pub row_put : (d b : List ℕ) (x : State) → length d ≡ row_len
-    → put_mid body_at (row_len - body_at) (headed d x) (b ++ drop (length b) (mid_of body_at (row_len - body_at) (headed d x))) ≡ new_row d b x
+pub row_put : (d b : List ℕ) (x : State) → (log_view x.log).0 < 2 ^ 16 → x.view.0 < 2 ^ 16 → put_mid body_at (body_at + length b - body_at) (headed d x) b ≡ new_row d b x
 unfolding new_row
-row_put d b x h =
+row_put d b x h k =
+    let l : (log_view x.log).0 / 256 % 256 ≡ (log_view x.log).0 / 256 = omega arith in
+    let v : x.view.0 / 256 % 256 ≡ x.view.0 / 256 = omega arith in
     let e : drop (body_at - view_at) (drop (view_at - log_view_at) (drop log_view_at d)) ≡ row_tx d = drop-drop 2 2 (drop 4 d) ∙ drop-drop 4 4 d in
-    let n : length (row_tx d) ≤ row_len - body_at = simp length-drop (omega arith) in
-    rw (e, take_all (row_len - body_at) (row_tx d) n, drop_of_length-le (row_tx d) n, append-nil)
+    rw (l, v, e, add-sub_cancel_left body_at (length b))

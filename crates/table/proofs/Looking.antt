@@ -1,7 +1,7 @@
 -- Look-up: the first entry of a stamp.
-use Prim.Native.Nat.{ℕ, zero, suc, ◌+◌, ◌-◌, ◌<◌, ◌≤◌, zero-le}
+use Prim.Native.Nat.{ℕ, zero, suc, ◌+◌, ◌-◌, ◌<◌, ◌≤◌}
 use native.Mathlib.Omega.{arith}
-use native.Mathlib.Nat.{sub-zero, zero-add}
+use native.Mathlib.Nat.{zero-add}
 use mathlib.Core.Path.{◌≡◌, refl, ap, sym, ◌∙◌}
 use mathlib.Core.List.{List, ◌∷◌}
 use mathlib.Core.Bool.{Bool, true, false}
@@ -21,12 +21,6 @@ pub record Seek (s : ℕ) (f : ℕ → Entry) (n W j : ℕ) : Type 0 where
   pub same : j + place s (tab f j (n - j)) ≡ W
 
 module _ {s : ℕ} {f : ℕ → Entry} {n : ℕ} where
-  pub seek_from : {j : ℕ} → j ≤ n → Seek s f n (j + place s (tab f j (n - j))) j
-  seek_from h = record { within = h; same = refl }
-
-  pub seek_begin : Seek s f n (place s (tab f 0 n)) 0
-  seek_begin = record { within = zero-le; same = rw (sub-zero, zero-add) }
-
   module _ {W j : ℕ} (r : Seek s f n W j) where
     step : j < n → place s (tab f j (n - j)) ≡ pick (eqb (stamp_of (f j).body) s) 0 (1 + place s (tab f (j + 1) (n - (j + 1))))
     unfolding place

@@ -9,7 +9,7 @@ use lib.Dec.{eqb}
 use lib.ListN.{length, take, drop, get_or, set, length-take, length-drop, length-append, length-set, get_or-append}
 use lib.Seq.{take_at, drop_at, take-add, drop-drop, drop-set-lt, length-take-le, get_or-set_same}
 use Rattle.terms.specs.Choice.{pick, tab, any}
-use Rattle.terms.specs.Checks.{if_less, table}
+use Rattle.terms.specs.Checks.{passed, if_less, table}
 use Rattle.terms.proofs.Checks.{pass, less_no, when_no}
 use Rattle.terms.proofs.Scans.{tab_length, tab_same}
 use Rattle.records.specs.Numbers.{num_at}
@@ -68,19 +68,19 @@ module _ (d b : List ℕ) (x : State) (ld : length d ≡ row_len) (lb : length b
   new_entry = rw (new_body, new_state)
 
   -- its counts and codes are in order
-  new_vote : vote_wrong (new_row d b x) ≡ 0
+  new_vote : vote_wrong (new_row d b x) ≡ passed
   unfolding new_row
   new_vote = sym (pass (less_no _ _ _ (vote_small x.vote)) (sym (reason_right x.vote)))
 
-  new_log : if_less 2 (get_or (new_row d b x) log_at 0) table ≡ 0
+  new_log : if_less 2 (get_or (new_row d b x) log_at 0) table ≡ passed
   unfolding new_row
   new_log = less_no _ _ _ (log_small x.log)
 
-  new_decided : if_less 2 (get_or (new_row d b x) decided_at 0) table ≡ 0
+  new_decided : if_less 2 (get_or (new_row d b x) decided_at 0) table ≡ passed
   unfolding new_row
   new_decided = less_no _ _ _ (settled_small x.decided)
 
-  new_right : r_count b ≤ 8 → w_count b ≤ 8 → row_wrong (new_row d b x) ≡ 0
+  new_right : r_count b ≤ 8 → w_count b ≤ 8 → row_wrong (new_row d b x) ≡ passed
   unfolding row_wrong
   new_right hr hw =
       rw (reads_same, writes_same)
@@ -165,7 +165,7 @@ module _ (rs : List ℕ) (i n : ℕ) (b : List ℕ) (x : State) (room : i * row_
   with_entry : entry_of (new_row (row_at rs i) b x) ≡ entry_with b x
   with_entry = new_entry (row_at rs i) b x held lb small
 
-  with_right : row_wrong (new_row (row_at rs i) b x) ≡ 0
+  with_right : row_wrong (new_row (row_at rs i) b x) ≡ passed
   with_right = new_right (row_at rs i) b x held lb small there.0 there.1
 
   module _ (at : i ≡ place (stamp_of b) (entries rs n)) where
@@ -221,7 +221,7 @@ module _ (rs : List ℕ) (i n : ℕ) (b : List ℕ) (x : State) (room : i * row_
         by false e = rw e h
 
     rows_taken : (cap : ℕ) (s : List ℕ) → table_len cap ≤ length s → n ≤ cap → i < cap → ((j : ℕ) → j < n → row_bad (row_at rs j) ≡ false)
-        → drop head_len s ≡ put_row rs i (new_row (row_at rs i) b x) → count_of s ≡ new_count n i → table_wrong cap s ≡ 0
+        → drop head_len s ≡ put_row rs i (new_row (row_at rs i) b x) → count_of s ≡ new_count n i → table_wrong cap s ≡ passed
     unfolding table_wrong
     rows_taken cap s a h k old same count =
         let none : any row_bad (tab (row_at (put_row rs i (new_row (row_at rs i) b x))) 0 (new_count n i)) ≡ false =
@@ -231,7 +231,7 @@ module _ (rs : List ℕ) (i n : ℕ) (b : List ℕ) (x : State) (room : i * row_
 
 -- a whole TX stored in its place: what the rules put, and a table again
 module _ (cap i : ℕ) (b : List ℕ) (x : State) (lb : length b ≡ tx_len b) (there : TxThere b) (free : i < cap) where
-  module _ (t : List ℕ) (right : table_wrong cap t ≡ 0) where
+  module _ (t : List ℕ) (right : table_wrong cap t ≡ passed) where
     in_table : head_len + i * row_len + row_len ≤ length t
     in_table = let a = table_room cap t right in omega arith
 
@@ -250,7 +250,7 @@ module _ (cap i : ℕ) (b : List ℕ) (x : State) (lb : length b ≡ tx_len b) (
         rw (stored_rows t i b x (omega arith), stored_count t i b x (omega arith) new_at_long l)
         (rows_put (drop head_len t) i (count_of t) b x in_rows lb there at)
 
-    pub stored_right : i ≡ place (stamp_of b) (entries_of t) → table_wrong cap (stored t i b x) ≡ 0
+    pub stored_right : i ≡ place (stamp_of b) (entries_of t) → table_wrong cap (stored t i b x) ≡ passed
     unfolding entries_of
     stored_right at =
         let l = in_table in

@@ -1,8 +1,8 @@
 -- The lent table: a byte that counts its entries, the low mark, for each key the folded version and value, then a row for each entry: the codes of
 -- vote, reason, decision and log, the log's view and the current one, then the TX record's bytes.
-use Rattle.std.specs.Prelude.{ℕ, ◌+◌, ◌*◌, ◌/◌, ◌%◌, ◌≤◌, ◌<◌, List, [], ◌∷◌, ◌++◌, ◌≡◌, Bool, length, get_or, take, drop, set, ltb, eqb}
+use Rattle.std.specs.Prelude.{ℕ, ◌+◌, ◌*◌, ◌/◌, ◌%◌, ◌≤◌, ◌<◌, List, [], ◌∷◌, ◌++◌, ◌≡◌, Bool, length, get_or, take, drop, set, eqb, is_err}
 use Rattle.terms.specs.Choice.{pick, tab, any}
-use Rattle.terms.specs.Checks.{or_else, when, if_less, if_same, table}
+use Rattle.terms.specs.Checks.{Check, or_else, when, if_less, if_same, table}
 use Rattle.terms.specs.declared.View.{View}
 use Rattle.terms.specs.declared.Decision.TheVariants.{Commit as commit, Abort as abort}
 use Rattle.records.specs.Numbers.{num_at}
@@ -11,10 +11,7 @@ use Rattle.rules.specs.declared.Reason.{Reason}
 use Rattle.rules.specs.declared.Reason.TheVariants.{Ahead, NoVersion, Overwritten, Undercuts, ReadMark, Dependency}
 use Rattle.rules.specs.declared.Vote.{Vote}
 use Rattle.rules.specs.declared.Vote.TheVariants.{None as unvoted, Commit as vote_commit, Abort as vote_abort, Waiting as waiting}
-use Rattle.rules.specs.declared.Settled.{Settled}
-use Rattle.rules.specs.declared.Settled.TheVariants.{None as unsettled, Is as settled}
-use Rattle.rules.specs.declared.Log.{Log}
-use Rattle.rules.specs.declared.Log.TheVariants.{None as unlogged, Is as logged}
+use Rattle.rules.specs.Answers.{Log, Settled, logged_at, settled, unlogged, unsettled}
 use Rattle.rules.specs.declared.Version.{Version}
 use Rattle.rules.specs.Answers.{vote_number, vote_reason, settled_number, log_number, log_view, view_as}
 use Rattle.rules.specs.Bodies.{Body, stamp_of}
@@ -107,7 +104,7 @@ settled_of x = pick (eqb x 1) (settled commit) (pick (eqb x 2) (settled abort) u
 
 -- "logged decision or none": what the code says, and its view; any view is taken, and one beside no log is no part of it
 abbrev pub log_of : ℕ → ℕ → Log
-log_of x v = pick (eqb x 1) (logged commit (view_as v)) (pick (eqb x 2) (logged abort (view_as v)) unlogged)
+log_of x v = pick (eqb x 1) (logged_at commit (view_as v)) (pick (eqb x 2) (logged_at abort (view_as v)) unlogged)
 
 -- the two bytes of a view, the lower one first
 abbrev pub lower : View → ℕ
@@ -162,29 +159,29 @@ entries_of t = entries (drop head_len t) (count_of t)
 
 -- ---- what is taken as a table
 -- "reason .. code outside its list": 1 to 6 beside an abort, else 0
-unfoldable pub reason_wrong : ℕ → ℕ → ℕ
+unfoldable pub reason_wrong : ℕ → ℕ → Check
 reason_wrong v r = pick (eqb v 2) (or_else (if_same r 0 table) (if_less 6 r table)) (if_less 0 r table)
 
 -- a vote code, and the reason's beside it
-abbrev pub vote_wrong : List ℕ → ℕ
+abbrev pub vote_wrong : List ℕ → Check
 vote_wrong r = or_else (if_less 3 (get_or r vote_at 0) table) (reason_wrong (get_or r vote_at 0) (get_or r reason_at 0))
 
 -- the code of a log, and that of a decision
-abbrev pub settled_wrong : List ℕ → ℕ
+abbrev pub settled_wrong : List ℕ → Check
 settled_wrong r = or_else (if_less 2 (get_or r log_at 0) table) (if_less 2 (get_or r decided_at 0) table)
 
 -- "an entry's r or w above 8, or a vote, reason, log or decision code outside its list"
-unfoldable pub row_wrong : List ℕ → ℕ
+unfoldable pub row_wrong : List ℕ → Check
 row_wrong r =
     or_else (if_less 8 (r_count (row_tx r)) table)
     (or_else (if_less 8 (w_count (row_tx r)) table)
     (or_else (vote_wrong r) (settled_wrong r)))
 
 abbrev pub row_bad : List ℕ → Bool
-row_bad r = ltb 0 (row_wrong r)
+row_bad r = is_err (row_wrong r)
 
 -- 16: a slice too short for the capacity; "more entries than the capacity"; or some entry's row is wrong
-unfoldable pub table_wrong : ℕ → List ℕ → ℕ
+unfoldable pub table_wrong : ℕ → List ℕ → Check
 table_wrong capacity t =
     or_else (if_less (length t) (table_len capacity) table)
     (or_else (if_less capacity (count_of t) table) (when (any row_bad (tab (row_at (drop head_len t)) 0 (count_of t))) table))

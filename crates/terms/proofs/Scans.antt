@@ -9,7 +9,7 @@ use mathlib.Core.Bool.{Bool, true, false, ◌||◌}
 use borrow.Author.Tests.{lt-ltb, le-ltb}
 use lib.Dec.{ltb}
 use lib.Seq.{set_at}
-use lib.ListN.{length, get_or, set, replicate, length-replicate, length-set, get_or-append}
+use lib.ListN.{length, take, get_or, set, replicate, length-replicate, length-set, get_or-append}
 use Rattle.terms.specs.Choice.{tab, any, falls}
 
 -- a scan's loop: what is left of the list from j on has the answer of the whole, W
@@ -127,3 +127,11 @@ tab_front z (x ∷ xs) rest =
     let t : tab (λ j. get_or (x ∷ (xs ++ rest)) j z) 1 (length xs) ≡ tab (λ j. get_or (xs ++ rest) j z) 0 (length xs) =
     tab_shift (λ j. get_or (x ∷ (xs ++ rest)) j z) (λ j. get_or (xs ++ rest) j z) 0 (length xs) (λ j. rw add-one) in
     ap (λ (l : List _). x ∷ l) (t ∙ tab_front z xs rest)
+
+-- the first n of an array
+pub tab_take : {A : Type 0} (z : A) (a : List A) (n : ℕ) → n ≤ length a → tab (λ j. get_or a j z) 0 n ≡ take n a
+tab_take z a zero h = refl
+tab_take z [] (suc n) h = absurd (omega arith)
+tab_take z (x ∷ a) (suc n) h =
+    let t : tab (λ j. get_or (x ∷ a) j z) 1 n ≡ tab (λ j. get_or a j z) 0 n = tab_shift (λ j. get_or (x ∷ a) j z) (λ j. get_or a j z) 0 n (λ j. rw add-one) in
+    ap (λ (l : List _). x ∷ l) (t ∙ tab_take z a n (omega arith))

@@ -1,81 +1,89 @@
--- A check is a refusal's number, 0 where it passes; an order of checks is a chain of them.
-use Rattle.std.specs.Prelude.{ℕ, zero, suc, Bool, eqb, ltb}
+-- A check passes, or tells its refusal; an order of checks is a chain of them.
+use Rattle.std.specs.Prelude.{ℕ, Bool, eqb, ltb, Result, Ok, Err, ⊤}
 use Rattle.terms.specs.Choice.{pick}
+use Rattle.terms.specs.declared.Refusal.{Refusal}
+use Rattle.terms.specs.declared.Refusal.TheVariants.{Short, Mark, Count, Trailing, Range, Order, Misbehaviour, Code, Group, Ahead, Table, Buffer, Old, Undecided, Passage, Versions, Direction, AxleCount, HotAxle}
 
--- the first refusal of two
-unfoldable pub or_else : ℕ → ℕ → ℕ
-or_else zero b = b
-or_else (suc a) b = suc a
+abbrev pub Check : Type 0
+Check = Result ⊤ Refusal
 
--- the number n where a test tells so; where a is below b; where they are equal; where they differ
-unfoldable pub when : Bool → ℕ → ℕ
-when b n = pick b n 0
+abbrev pub passed : Check
+passed = Ok tt
 
-unfoldable pub if_less : ℕ → ℕ → ℕ → ℕ
-if_less a b n = pick (ltb a b) n 0
+-- the first refusal of two, or what stands behind a check that passes
+unfoldable pub or_else : {A : Type 0} → Check → Result A Refusal → Result A Refusal
+or_else (Ok _) b = b
+or_else (Err r) b = Err r
 
-unfoldable pub if_same : ℕ → ℕ → ℕ → ℕ
-if_same a b n = pick (eqb a b) n 0
+-- a refusal where a test tells so; where a is below b; where they are equal; where they differ
+unfoldable pub when : Bool → Refusal → Check
+when b r = pick b (Err r) passed
 
-unfoldable pub if_other : ℕ → ℕ → ℕ → ℕ
-if_other a b n = pick (eqb a b) 0 n
+unfoldable pub if_less : ℕ → ℕ → Refusal → Check
+if_less a b r = pick (ltb a b) (Err r) passed
 
--- the numbers that the checks give, by the names of the table in 01
-abbrev pub short : ℕ
-short = 1
+unfoldable pub if_same : ℕ → ℕ → Refusal → Check
+if_same a b r = pick (eqb a b) (Err r) passed
 
-abbrev pub mark : ℕ
-mark = 2
+unfoldable pub if_other : ℕ → ℕ → Refusal → Check
+if_other a b r = pick (eqb a b) passed (Err r)
 
-abbrev pub count : ℕ
-count = 3
+-- the refusals that the checks give, by the names of the table in 01
+abbrev pub short : Refusal
+short = Short
 
-abbrev pub trailing : ℕ
-trailing = 4
+abbrev pub mark : Refusal
+mark = Mark
 
-abbrev pub range : ℕ
-range = 5
+abbrev pub count : Refusal
+count = Count
 
-abbrev pub order : ℕ
-order = 6
+abbrev pub trailing : Refusal
+trailing = Trailing
 
-abbrev pub misbehaviour : ℕ
-misbehaviour = 7
+abbrev pub range : Refusal
+range = Range
 
-abbrev pub code : ℕ
-code = 8
+abbrev pub order : Refusal
+order = Order
 
-abbrev pub group : ℕ
-group = 14
+abbrev pub misbehaviour : Refusal
+misbehaviour = Misbehaviour
 
-abbrev pub ahead : ℕ
-ahead = 15
+abbrev pub code : Refusal
+code = Code
 
-abbrev pub table : ℕ
-table = 16
+abbrev pub group : Refusal
+group = Group
 
-abbrev pub buffer : ℕ
-buffer = 17
+abbrev pub ahead : Refusal
+ahead = Ahead
+
+abbrev pub table : Refusal
+table = Table
+
+abbrev pub buffer : Refusal
+buffer = Buffer
 
 -- those of A11
-abbrev pub old : ℕ
-old = 18
+abbrev pub old : Refusal
+old = Old
 
-abbrev pub undecided : ℕ
-undecided = 19
+abbrev pub undecided : Refusal
+undecided = Undecided
 
 -- those of A4
-abbrev pub passage : ℕ
-passage = 26
+abbrev pub passage : Refusal
+passage = Passage
 
-abbrev pub versions : ℕ
-versions = 27
+abbrev pub versions : Refusal
+versions = Versions
 
-abbrev pub direction : ℕ
-direction = 28
+abbrev pub direction : Refusal
+direction = Direction
 
-abbrev pub axle_count : ℕ
-axle_count = 29
+abbrev pub axle_count : Refusal
+axle_count = AxleCount
 
-abbrev pub hot_axle : ℕ
-hot_axle = 30
+abbrev pub hot_axle : Refusal
+hot_axle = HotAxle

@@ -1,5 +1,6 @@
 -- The choice by a test, a list read off by an index, and whether some element passes a test.
 use Rattle.std.specs.Prelude.{ℕ, zero, suc, ◌+◌, List, [], ◌∷◌, Bool, true, false, ◌||◌, ltb}
+use Rattle.std.specs.List.{list_any}
 
 module _ {A : Type 0} where
   abbrev pub pick : Bool → A → A → A
@@ -12,8 +13,7 @@ module _ {A : Type 0} where
   tab f i (suc n) = f i ∷ tab f (i + 1) n
 
   abbrev pub any : (A → Bool) → List A → Bool
-  any p [] = false
-  any p (x ∷ xs) = p x || any p xs
+  any = list_any
 
   -- not "strictly rising", from lo on: some number is below lo, or not above the one before it
   abbrev pub falls : (A → ℕ) → ℕ → List A → Bool

@@ -1,9 +1,8 @@
 -- "Group and thresholds": worked out from f alone.
-use Rattle.std.specs.Prelude.{ℕ, zero, suc, ◌+◌, ◌*◌}
-use Rattle.terms.specs.Refusals.{refusal_of}
-use Rattle.terms.specs.Checks.{or_else, if_less, group}
-use Rattle.terms.specs.declared.GroupAnswer.{GroupAnswer}
-use Rattle.terms.specs.declared.GroupAnswer.TheVariants.{Of, Refused}
+use Rattle.std.specs.Prelude.{ℕ, ◌+◌, ◌*◌, Result, Ok}
+use Rattle.terms.specs.Checks.{Check, or_else, if_less, group}
+use Rattle.terms.specs.declared.Group.{Group}
+use Rattle.terms.specs.declared.Refusal.{Refusal}
 
 -- "there are n = 5f + 1 boxes"
 abbrev pub boxes : ℕ → ℕ
@@ -34,7 +33,7 @@ abbrev pub largest_f : ℕ
 largest_f = 5
 
 -- "group: f not 1 to 5"
-unfoldable pub group_wrong : ℕ → ℕ
+unfoldable pub group_wrong : ℕ → Check
 group_wrong f = or_else (if_less f 1 group) (if_less largest_f f group)
 
 -- "capacity 1 to 255"
@@ -42,13 +41,9 @@ abbrev pub largest_capacity : ℕ
 largest_capacity = 255
 
 -- "or capacity not 1 to 255"
-unfoldable pub capacity_wrong : ℕ → ℕ
+unfoldable pub capacity_wrong : ℕ → Check
 capacity_wrong capacity = or_else (if_less capacity 1 group) (if_less largest_capacity capacity group)
 
 -- a group, or the refusal
-unfoldable pub group_by : ℕ → ℕ → GroupAnswer
-group_by zero f = Of (record { f = f })
-group_by (suc n) f = Refused (refusal_of (suc n))
-
-unfoldable pub group_of : ℕ → GroupAnswer
-group_of f = group_by (group_wrong f) f
+unfoldable pub group_of : ℕ → Result Group Refusal
+group_of f = or_else (group_wrong f) (Ok (record { f = f }))

@@ -8,15 +8,15 @@ ghost use Rattle.terms.specs.Refusals.{refusal_values, number_of, lacking_of, re
 ghost use Rattle.terms.specs.Group.{boxes, commit_list, abort_list, commit_proof, abort_proof, log_proof, group_wrong, group_of, capacity_wrong};
 
 // A moment and a writer; 1 or more where it is in order.
-#[derive(Clone, Copy)]
+#[derive(Clone, Copy, PartialEq, Eq, PartialOrd, Ord)]
 pub struct Stamp(pub u64);
 
 // A register place; 0 to 511 where it is in order.
-#[derive(Clone, Copy)]
+#[derive(Clone, Copy, PartialEq, Eq, PartialOrd, Ord)]
 pub struct Key(pub u16);
 
 // A round of the fallback, 0 to 65,535.
-#[derive(Clone, Copy)]
+#[derive(Clone, Copy, PartialEq, Eq, PartialOrd, Ord)]
 pub struct View(pub u16);
 
 pub const LARGEST_KEY: u16 = 511;
@@ -25,71 +25,33 @@ pub const LARGEST_F: u64 = 5;
 
 pub const LARGEST_CAPACITY: u64 = 255;
 
-// The numbers of the refusals that a check of bytes or numbers gives; 0 is none.
-pub const SHORT: u8 = 1;
-
-pub const MARK: u8 = 2;
-
-pub const COUNT: u8 = 3;
-
-pub const TRAILING: u8 = 4;
-
-pub const RANGE: u8 = 5;
-
-pub const ORDER: u8 = 6;
-
-pub const MISBEHAVIOUR: u8 = 7;
-
-pub const CODE: u8 = 8;
-
-pub const GROUP: u8 = 14;
-
-pub const AHEAD: u8 = 15;
-
-pub const TABLE: u8 = 16;
-
-pub const BUFFER: u8 = 17;
-
-// Those of the low mark.
-pub const OLD: u8 = 18;
-
-pub const UNDECIDED: u8 = 19;
-
-// Those of the passage register.
-pub const PASSAGE: u8 = 26;
-
-pub const VERSIONS: u8 = 27;
-
-pub const DIRECTION: u8 = 28;
-
-pub const AXLE_COUNT: u8 = 29;
-
-pub const HOT_AXLE: u8 = 30;
+// A check passes, or tells its refusal.
+pub type Check = Result<(), Refusal>;
 
 // The first refusal of two: checks that do not need one another stand in a line.
-pub fn first(a: u8, b: u8) -> u8
+#[tactic(auto, unfolding(crate::proofs::Checks::chain))]
+pub fn first(a: Check, b: Check) -> Check
     ensures { result ≡ or_else a b }
 {
-    if a != 0 {
-        return a;
-    }
+    a?;
     b
 }
 
-// The number where a test tells so, else 0.
-pub fn refuse_if(test: bool, n: u8) -> u8
-    ensures { result ≡ when test n }
+// The refusal where a test tells so.
+#[tactic(auto, unfolding(crate::proofs::Checks::chain))]
+pub fn refuse_if(test: bool, why: Refusal) -> Check
+    ensures { result ≡ when test why }
 {
     if test {
-        return n;
+        return Err(why);
     }
-    0
+    Ok(())
 }
 
-#[derive(Clone, Copy)]
+#[derive(Clone, Copy, PartialEq, Eq)]
 pub enum Decision {
-    Commit,
-    Abort,
+    Commit = 1,
+    Abort = 2,
 }
 
 impl Decision {
@@ -97,21 +59,18 @@ impl Decision {
     pub fn number(self) -> u8
         ensures { result ≡ decision_number self }
     {
-        match self {
-            Decision::Commit => 1,
-            Decision::Abort => 2,
-        }
+        self as u8
     }
 }
 
-#[derive(Clone, Copy)]
+#[derive(Clone, Copy, PartialEq, Eq)]
 pub enum Kind {
     Votes,
     Logs,
 }
 
 // The refusals, in the order of their numbers.
-#[derive(Clone, Copy)]
+#[derive(Clone, Copy, PartialEq, Eq)]
 pub enum Refusal {
     Short,
     Mark,
@@ -198,7 +157,7 @@ impl Refusal {
         told[1]
     }
 
-    // The refusal that a check's number stands for.
+    // The refusal that a check's number stands for. It is for callers that hold a number, to whom it is promised; no check gives one.
     pub fn of(n: u8) -> Self
         ensures { result ≡ refusal_of n }
     {
@@ -227,44 +186,37 @@ impl Refusal {
 }
 
 // A group of 5f + 1 boxes, of which at most f are faulty.
-#[derive(Clone, Copy)]
+#[derive(Clone, Copy, PartialEq, Eq)]
 pub struct Group {
     pub f: u8,
 }
 
-#[derive(Clone, Copy)]
-pub enum GroupAnswer {
-    Of(Group),
-    Refused(Refusal),
-}
-
-// 14 unless f is 1 to 5, else 0.
-pub fn group_wrong(f: u64) -> u8
+// 14 unless f is 1 to 5.
+#[tactic(auto, unfolding(crate::proofs::Checks::chain, crate::specs::Group::group_wrong))]
+pub fn group_wrong(f: u64) -> Check
     ensures { result ≡ group_wrong f }
 {
-    first(refuse_if(f < 1, GROUP), refuse_if(LARGEST_F < f, GROUP))
+    refuse_if(f < 1, Refusal::Group)?;
+    refuse_if(LARGEST_F < f, Refusal::Group)
 }
 
-// 14 unless the capacity is 1 to 255, else 0.
-pub fn capacity_wrong(capacity: u64) -> u8
+// 14 unless the capacity is 1 to 255.
+#[tactic(auto, unfolding(crate::proofs::Checks::chain, crate::specs::Group::capacity_wrong))]
+pub fn capacity_wrong(capacity: u64) -> Check
     ensures { result ≡ capacity_wrong capacity }
 {
-    first(
-        refuse_if(capacity < 1, GROUP),
-        refuse_if(LARGEST_CAPACITY < capacity, GROUP),
-    )
+    refuse_if(capacity < 1, Refusal::Group)?;
+    refuse_if(LARGEST_CAPACITY < capacity, Refusal::Group)
 }
 
 impl Group {
     // A group from any number.
-    pub fn of(f: u64) -> GroupAnswer
+    #[tactic(auto, using(crate::proofs::Groups::group_small), unfolding(crate::proofs::Checks::chain, crate::specs::Group::group_of))]
+    pub fn of(f: u64) -> Result<Group, Refusal>
         ensures { result ≡ group_of f }
     {
-        let wrong = group_wrong(f);
-        if wrong != 0 {
-            return GroupAnswer::Refused(Refusal::of(wrong));
-        }
-        GroupAnswer::Of(Group { f: f as u8 })
+        group_wrong(f)?;
+        Ok(Group { f: f as u8 })
     }
 
     pub fn n(self) -> usize

@@ -1,5 +1,6 @@
 -- Cutting: what was written is cut where it was joined, and what passed the cutting is made of its parts.
-use Prim.Native.Nat.{ℕ, suc, ◌+◌, ◌*◌, ◌-◌, ◌^◌, ◌<◌, ◌≤◌}
+use Rattle.std.proofs.Common.{Err}
+use Prim.Native.Nat.{ℕ, ◌+◌, ◌*◌, ◌-◌, ◌^◌, ◌<◌, ◌≤◌}
 use native.Mathlib.Omega.{arith}
 use mathlib.Core.Bool.{Bool, true, false}
 use mathlib.Core.Path.{◌≡◌, refl, ap, sym, ◌∙◌}
@@ -9,8 +10,9 @@ use lib.Dec.{eqb}
 use lib.ListN.{length, get_or, take, drop, length-append, length-drop, take-append-drop}
 use lib.Seq.{take_at, drop_at, take_all, take-add, drop-drop, get_or-take, length-take-le}
 use Rattle.terms.specs.Choice.{pick, tab}
-use Rattle.terms.specs.Checks.{or_else, if_other}
-use Rattle.terms.proofs.Checks.{pass, less_no, other_no, not_less, first_none, rest_none}
+use Rattle.terms.specs.declared.Refusal.{Refusal}
+use Rattle.terms.specs.Checks.{Check, passed, or_else, if_other}
+use Rattle.terms.proofs.Checks.{not_passed, pass, less_no, other_no, not_less, first_none, rest_none}
 use Rattle.terms.proofs.Scans.{tab_length}
 use Rattle.records.specs.Numbers.{le_bytes, num_at}
 use Rattle.records.specs.Tx.{Tx, tx_of, tx_bytes, tx_len, read_at, write_at, flat, read_key, read_version, write_key, write_value, mark_tx}
@@ -29,31 +31,31 @@ use Rattle.writing.proofs.Lengths.{flat_long, tx_long, view_long, list_long, vie
 use Rattle.writing.proofs.Fields.{num_at_lem, num_back, bytes_take, bytes_drop, items_read, items_written, view_read, view_written, pairs_read, pairs_written, ballots_read, ballots_written}
 
 -- two checks that pass; two numbers that a check finds equal
-pub both : {a b : ℕ} → a ≡ 0 → b ≡ 0 → or_else a b ≡ 0
+pub both : {a b : Check} → a ≡ passed → b ≡ passed → or_else a b ≡ passed
 both p q = sym (pass p (sym q))
 
-alike : (a b n : ℕ) → if_other a b (suc n) ≡ 0 → a ≡ b
+alike : (a b : ℕ) (r : Refusal) → if_other a b r ≡ passed → a ≡ b
 unfolding if_other
-alike a b n e = by (eqb a b) refl e
+alike a b r e = by (eqb a b) refl e
   where
-    by : (t : Bool) → eqb a b ≡ t → pick t 0 (suc n) ≡ 0 → a ≡ b
+    by : (t : Bool) → eqb a b ≡ t → pick t passed (Err r) ≡ passed → a ≡ b
     by true p q = eqb-true a b p
-    by false p q = absurd (omega arith)
+    by false p q = absurd (not_passed q)
 
-pub behind_none : (n : ℕ) (s : List ℕ) → length s ≤ n → behind_wrong n s ≡ 0
+pub behind_none : (n : ℕ) (s : List ℕ) → length s ≤ n → behind_wrong n s ≡ passed
 unfolding behind_wrong
 behind_none n s h = less_no _ _ _ h
 
-pub behind_told : (n : ℕ) (s : List ℕ) → behind_wrong n s ≡ 0 → length s ≤ n
+pub behind_told : (n : ℕ) (s : List ℕ) → behind_wrong n s ≡ passed → length s ≤ n
 unfolding behind_wrong
 behind_told n s e = not_less _ _ _ e
 
 -- ---- a mark
-pub mark_read : (due rest : List ℕ) → mark_wrong due (get_or due 0 0 ∷ get_or due 1 0 ∷ rest) ≡ 0
+pub mark_read : (due rest : List ℕ) → mark_wrong due (get_or due 0 0 ∷ get_or due 1 0 ∷ rest) ≡ passed
 unfolding mark_wrong
 mark_read due rest = both (less_no _ _ _ (omega arith)) (both (other_no _ _ _ refl) (other_no _ _ _ refl))
 
-pub mark_told : (due m : List ℕ) → mark_wrong due m ≡ 0 → get_or due 0 0 ∷ get_or due 1 0 ∷ drop 2 m ≡ m
+pub mark_told : (due m : List ℕ) → mark_wrong due m ≡ passed → get_or due 0 0 ∷ get_or due 1 0 ∷ drop 2 m ≡ m
 unfolding mark_wrong
 mark_told due [] e = absurd (let h = not_less _ _ _ (first_none _ _ e) in omega arith)
 mark_told due (a ∷ []) e = absurd (let h = not_less _ _ _ (first_none _ _ e) in omega arith)
@@ -68,7 +70,7 @@ module _ (x : Tx) (post : List ℕ) where
   unfolding tx_bytes
   tx_len_read = sym (tx_long x)
 
-  pub tx_cut_read : counts_wrong (length x.reads) (length x.writes) ≡ 0 → tx_cut (tx_bytes x ++ post) ≡ 0
+  pub tx_cut_read : counts_wrong (length x.reads) (length x.writes) ≡ passed → tx_cut (tx_bytes x ++ post) ≡ passed
   unfolding tx_cut tx_bytes
   tx_cut_read h =
       let l : 12 + 10 * (length x.reads + length x.writes) ≤ length (tx_bytes x ++ post) = omega (arith, length-append (tx_bytes x) post, tx_long x) in
@@ -132,11 +134,11 @@ tx_whole (a ∷ b ∷ c ∷ d ∷ rest) h p q e =
     four p q n2 n3 t
 
 -- what passed the cutting of a TX
-pub tx_there : (s : List ℕ) → tx_cut s ≡ 0 → tx_len s ≤ length s
+pub tx_there : (s : List ℕ) → tx_cut s ≡ passed → tx_len s ≤ length s
 unfolding tx_cut
 tx_there s e = not_less _ _ _ (rest_none _ _ (rest_none _ _ (rest_none _ _ e)))
 
-pub tx_again : (s : List ℕ) → Bytes s → tx_cut s ≡ 0 → tx_bytes (tx_of (take (tx_len s) s)) ≡ take (tx_len s) s
+pub tx_again : (s : List ℕ) → Bytes s → tx_cut s ≡ passed → tx_bytes (tx_of (take (tx_len s) s)) ≡ take (tx_len s) s
 unfolding tx_cut
 tx_again s h e =
     let l : tx_len s ≤ length s = tx_there s e in
@@ -148,7 +150,7 @@ tx_again s h e =
     tx_whole (take (tx_len s) s) (bytes_take (tx_len s) s h) p q (length-take-le (tx_len s) s l ∙ sym n)
 
 -- ---- a VL
-pub vl_cut_read : (l : Vl) → count_wrong (length l.pairs) ≡ 0 → vl_cut (vl_bytes l) ≡ 0
+pub vl_cut_read : (l : Vl) → count_wrong (length l.pairs) ≡ passed → vl_cut (vl_bytes l) ≡ passed
 unfolding vl_cut vl_bytes
 vl_cut_read l h =
     let n : 5 + view_len l.kind + 2 * length l.pairs ≤ length (vl_bytes l) = omega (arith, list_long l) in
@@ -167,7 +169,7 @@ vl_back l r =
     let d : drop (5 + n) (vl_bytes l) ≡ flat_pairs l.pairs = sym (drop-drop n 5 (vl_bytes l)) ∙ drop_at (view_bytes l.kind l.view) (flat_pairs l.pairs) n (view_long l.kind l.view) in
     rw (a, pairs_read (vl_bytes l) (5 + n) l.pairs d)
 
-pub vl_there : (s : List ℕ) → vl_cut s ≡ 0 → (5 ≤ length s) × (vl_len s ≤ length s)
+pub vl_there : (s : List ℕ) → vl_cut s ≡ passed → (5 ≤ length s) × (vl_len s ≤ length s)
 unfolding vl_cut
 vl_there s e = (not_less _ _ _ (first_none _ _ (rest_none _ _ e)), not_less _ _ _ (rest_none _ _ (rest_none _ _ (rest_none _ _ e))))
 
@@ -185,19 +187,19 @@ vl_whole (a ∷ b ∷ k ∷ d ∷ n ∷ q) i p h e =
     let e2 : flat_pairs (tab (pair_at s (5 + v)) 0 n) ≡ drop v q = pairs_written s (5 + v) n (sym e) ∙ sym (drop-drop v 5 s) in
     rw (tab_length (pair_at s (5 + v)) 0 n, e1, e2, take-append-drop v q) p
 
-pub vl_again : (s : List ℕ) → Bytes s → vl_cut s ≡ 0 → length s ≤ vl_len s → vl_bytes (vl_of s) ≡ s
+pub vl_again : (s : List ℕ) → Bytes s → vl_cut s ≡ passed → length s ≤ vl_len s → vl_bytes (vl_of s) ≡ s
 unfolding vl_cut
 vl_again s i e h =
     let t = vl_there s e in
     vl_whole s i (mark_told mark_vl s (first_none _ _ e)) t.0 (omega arith)
 
 -- ---- a VS or an EL: what stands before its ballots, of each
-views_marked : (k : ViewMark) (l : Views) → mark_wrong (view_mark_bytes k) (views_bytes k l) ≡ 0
+views_marked : (k : ViewMark) (l : Views) → mark_wrong (view_mark_bytes k) (views_bytes k l) ≡ passed
 unfolding views_bytes
 views_marked VS l = mark_read mark_vs _
 views_marked EL l = mark_read mark_el _
 
-views_marks : (k : ViewMark) (s : List ℕ) → mark_wrong (view_mark_bytes k) s ≡ 0 → view_mark_bytes k ++ drop 2 s ≡ s
+views_marks : (k : ViewMark) (s : List ℕ) → mark_wrong (view_mark_bytes k) s ≡ passed → view_mark_bytes k ++ drop 2 s ≡ s
 views_marks VS s e = mark_told mark_vs s e
 views_marks EL s e = mark_told mark_el s e
 
@@ -243,7 +245,7 @@ views_head_lem EL (a ∷ b ∷ c ∷ d ∷ v ∷ w ∷ n ∷ q) h p l =
     ap (λ (t : List ℕ). 69 ∷ 76 ∷ c ∷ d ∷ (t ++ (n ∷ q))) (num_back 2 4 s h (omega arith)) ∙ p
 
 -- and of both
-pub views_cut_read : (k : ViewMark) (l : Views) → count_wrong (length l.ballots) ≡ 0 → views_cut k (views_bytes k l) ≡ 0
+pub views_cut_read : (k : ViewMark) (l : Views) → count_wrong (length l.ballots) ≡ passed → views_cut k (views_bytes k l) ≡ passed
 unfolding views_cut
 views_cut_read k l h =
     let n : length (views_bytes k l) ≡ ballots_from k + ballot_len k * length l.ballots = views_long k l in
@@ -257,7 +259,7 @@ views_back k f l r =
     let b : tab (ballot_at k (views_bytes k l)) 0 (length l.ballots) ≡ map (own_ballot k) l.ballots = ballots_read k (views_bytes k l) l.ballots r.ballots (views_behind_lem k l) in
     views_led k l r.view ∙ (rw (views_count_lem k l, b) r.own)
 
-views_there : (k : ViewMark) (s : List ℕ) → views_cut k s ≡ 0 → (ballots_from k ≤ length s) × (views_len k s ≤ length s)
+views_there : (k : ViewMark) (s : List ℕ) → views_cut k s ≡ passed → (ballots_from k ≤ length s) × (views_len k s ≤ length s)
 unfolding views_cut
 views_there k s e = (not_less _ _ _ (first_none _ _ (rest_none _ _ e)), not_less _ _ _ (rest_none _ _ (rest_none _ _ (rest_none _ _ e))))
 
@@ -267,7 +269,7 @@ views_whole k s h p l e =
     let b : flat_ballots k (tab (ballot_at k s) 0 (views_count k s)) ≡ drop (ballots_from k) s = ballots_written k s (views_count k s) h (sym e) in
     rw (views_ballots k s, tab_length (ballot_at k s) 0 (views_count k s), b) (views_head_lem k s h p l)
 
-pub views_again : (k : ViewMark) (s : List ℕ) → Bytes s → views_cut k s ≡ 0 → length s ≤ views_len k s → views_bytes k (views_of k s) ≡ s
+pub views_again : (k : ViewMark) (s : List ℕ) → Bytes s → views_cut k s ≡ passed → length s ≤ views_len k s → views_bytes k (views_of k s) ≡ s
 unfolding views_cut
 views_again k s i e h =
     let t = views_there k s e in
@@ -284,7 +286,7 @@ module _ (a b : ℕ) (x : Tx) (post : List ℕ) where
   vl_part_read = drop_at (tx_bytes x) post _ (sym (tx_len_read x post))
 
 -- the TX of a message that was cut, written again
-pub part_again : (m : List ℕ) → Bytes m → tx_cut (drop 2 m) ≡ 0 → tx_bytes (tx_of (tx_part m)) ≡ tx_part m
+pub part_again : (m : List ℕ) → Bytes m → tx_cut (drop 2 m) ≡ passed → tx_bytes (tx_of (tx_part m)) ≡ tx_part m
 unfolding tx_part
 part_again m h e = tx_again (drop 2 m) (bytes_drop 2 m h) e
 
@@ -305,14 +307,14 @@ vl_part_long : (m : List ℕ) → length (list_part m) ≡ length (drop 2 m) - t
 unfolding list_part
 vl_part_long m = length-drop (tx_len (drop 2 m)) (drop 2 m)
 
-pub pr_again : (m : List ℕ) → Bytes m → mark_wrong mark_pr m ≡ 0 → tx_cut (drop 2 m) ≡ 0 → length m ≤ 2 + tx_len (drop 2 m) → pr_bytes (tx_of (tx_part m)) ≡ m
+pub pr_again : (m : List ℕ) → Bytes m → mark_wrong mark_pr m ≡ passed → tx_cut (drop 2 m) ≡ passed → length m ≤ 2 + tx_len (drop 2 m) → pr_bytes (tx_of (tx_part m)) ≡ m
 unfolding pr_bytes
 pr_again m h w e k =
     let l : length (drop 2 m) ≤ tx_len (drop 2 m) = rw (length-drop 2 m) (omega arith) in
     ap (λ (t : List ℕ). 80 ∷ 82 ∷ t) (part_again m h e ∙ whole_part m l) ∙ mark_told mark_pr m w
 
 -- a TX and what was written again behind it
-parts_again : (due m rest : List ℕ) → Bytes m → mark_wrong due m ≡ 0 → tx_cut (drop 2 m) ≡ 0 → rest ≡ list_part m → get_or due 0 0 ∷ get_or due 1 0 ∷ (tx_bytes (tx_of (tx_part m)) ++ rest) ≡ m
+parts_again : (due m rest : List ℕ) → Bytes m → mark_wrong due m ≡ passed → tx_cut (drop 2 m) ≡ passed → rest ≡ list_part m → get_or due 0 0 ∷ get_or due 1 0 ∷ (tx_bytes (tx_of (tx_part m)) ++ rest) ≡ m
 parts_again due m rest h w e r =
     let p : tx_bytes (tx_of (tx_part m)) ++ rest ≡ drop 2 m = rw (part_again m h e, r) (parts_join m) in
     ap (λ (t : List ℕ). get_or due 0 0 ∷ get_or due 1 0 ∷ t) p ∙ mark_told due m w
@@ -320,17 +322,17 @@ parts_again due m rest h w e r =
 part_short : (m : List ℕ) (n : ℕ) → length m ≤ 2 + tx_len (drop 2 m) + n → length (list_part m) ≤ n
 part_short m n k = rw (vl_part_long m, length-drop 2 m) (omega arith)
 
-pub listed_again : (due m : List ℕ) → Bytes m → mark_wrong due m ≡ 0 → listed_cut m ≡ 0 → length m ≤ listed_len m
+pub listed_again : (due m : List ℕ) → Bytes m → mark_wrong due m ≡ passed → listed_cut m ≡ passed → length m ≤ listed_len m
     → get_or due 0 0 ∷ get_or due 1 0 ∷ (tx_bytes (tx_of (tx_part m)) ++ vl_bytes (list_behind m)) ≡ m
 unfolding listed_cut listed_len list_behind
 listed_again due m h w e k = parts_again due m _ h w (first_none _ _ e) (vl_again (list_part m) (vl_part_bytes m h) (rest_none _ _ e) (part_short m _ k))
 
-pub viewed_again : (j : ViewMark) (due m : List ℕ) → Bytes m → mark_wrong due m ≡ 0 → viewed_cut j m ≡ 0 → length m ≤ viewed_len j m
+pub viewed_again : (j : ViewMark) (due m : List ℕ) → Bytes m → mark_wrong due m ≡ passed → viewed_cut j m ≡ passed → length m ≤ viewed_len j m
     → get_or due 0 0 ∷ get_or due 1 0 ∷ (tx_bytes (tx_of (tx_part m)) ++ views_bytes j (views_behind j m)) ≡ m
 unfolding viewed_cut viewed_len views_behind
 viewed_again j due m h w e k = parts_again due m _ h w (first_none _ _ e) (views_again j (list_part m) (vl_part_bytes m h) (rest_none _ _ e) (part_short m _ k))
 
-pub rd_again : (m : List ℕ) → Bytes m → mark_wrong mark_rd m ≡ 0 → length m ≡ 12 → rd_bytes (rd_key m) (rd_stamp m) ≡ m
+pub rd_again : (m : List ℕ) → Bytes m → mark_wrong mark_rd m ≡ passed → length m ≡ 12 → rd_bytes (rd_key m) (rd_stamp m) ≡ m
 unfolding rd_bytes
 rd_again m h w k =
     let l : length (drop 2 m) ≡ 2 + 8 = rw (length-drop 2 m) (omega arith) in

@@ -1,20 +1,18 @@
 -- Laws of bytes put down in a buffer.
-use Prim.Native.Nat.{ℕ, zero, suc, ◌+◌, ◌*◌, ◌-◌, ◌<◌, ◌≤◌, zero-le}
-use native.Mathlib.Omega.{arith}
-use native.Mathlib.Nat.{add-zero, zero-add, add-sub_cancel_left, mul-le-mul_left}
-use mathlib.Core.Path.{◌≡◌, refl, ap, ◌∙◌}
-use mathlib.Core.List.{List, [], ◌∷◌, ◌++◌, append_assoc, append-nil}
-use lib.ListN.{length, set, drop, length-append, length-drop}
-use lib.Seq.{drop-drop}
+use Rattle.std.proofs.Common.{◌≡◌, ℕ, zero, suc, ◌+◌, ◌*◌, ◌-◌, ◌<◌, ◌≤◌, List, [], ◌∷◌, ◌++◌, length, get_or, take, drop, refl, ap, sym, ◌∙◌, zero-add, append_assoc, length-append, length-drop, arith}
+use Rattle.std.specs.List.{flat_map}
+use Rattle.std.proofs.Math.Nat.{add-sub_cancel_left, mul-le-mul_left}
+use Rattle.std.proofs.Math.Seq.{drop-drop}
+use Rattle.std.proofs.lemmas.List.{length-take-le, take_all, take_more, take-append-drop, flat_map_more}
 use borrow.Rule.Slice.PartMut.{put_mid}
 use Rattle.terms.specs.Choice.{tab}
-use Rattle.terms.proofs.Scans.{tab_length}
+use Rattle.terms.proofs.Scans.{tab_length, tab_front}
 use Rattle.records.specs.Numbers.{le_bytes}
-use Rattle.records.specs.Tx.{Tx, flat, mark_tx, tx_in, tx_bytes, read_key, read_version, write_key, write_value, reads_in, writes_in}
-use Rattle.records.specs.Vl.{flat_pairs, mark_vl, view_bytes, list_in, vl_bytes, pairs_in}
+use Rattle.records.specs.Tx.{Tx, flat, mark_tx, tx_in, tx_bytes, read_key, read_version, write_key, write_value, reads_in, writes_in, zero_read, zero_write}
+use Rattle.records.specs.Vl.{flat_pairs, mark_vl, view_bytes, list_in, vl_bytes, pairs_in, zero_pair}
 use Rattle.records.specs.Cutting.{mark_bytes, carrier}
 use Rattle.records.specs.Writing.{viewed_bytes}
-use Rattle.records.specs.Views.{Views, ballot_bytes, flat_ballots, ballots_in, own_ballot, view_mark_bytes, led_bytes, views_in, views_bytes}
+use Rattle.records.specs.Views.{Views, ballot_bytes, flat_ballots, ballots_in, own_ballot, zero_ballot, view_mark_bytes, led_bytes, views_in, views_bytes}
 use Rattle.records.specs.declared.Mark.{Mark}
 use Rattle.records.specs.declared.Transaction.{Transaction}
 use Rattle.records.specs.declared.VoteList.{VoteList}
@@ -38,13 +36,7 @@ laid_both zero p q d = rw (zero-add, behind p q (drop (length p) d), drop-drop, 
 laid_both (suc at) p q [] = let e : suc at + length p ≡ suc (at + length p) = omega arith in rw e
 laid_both (suc at) p q (x ∷ d) = let e : suc at + length p ≡ suc (at + length p) = omega arith in rw (e, laid_both at p q d)
 
--- a byte stored, and a part lent and put back
-laid_byte : (at v : ℕ) (d : List ℕ) → at < length d → set d at v ≡ laid at (v ∷ []) d
-unfolding laid
-laid_byte at v [] h = absurd (omega arith)
-laid_byte zero v (x ∷ d) h = refl
-laid_byte (suc at) v (x ∷ d) h = rw (laid_byte at v d (omega arith))
-
+-- a part lent and put back
 laid_part : (at k : ℕ) (v d : List ℕ) → length v ≡ k → at + k ≤ length d → put_mid at k d v ≡ laid at v d
 unfolding laid
 laid_part zero k v d e h = rw e
@@ -64,9 +56,6 @@ laid_none (suc at) [] = refl
 laid_none (suc at) (x ∷ d) = ap (λ (t : List ℕ). x ∷ t) (laid_none at d)
 
 -- ---- parts put down, with the place behind them
-pub put_byte : {at v : ℕ} {d : List ℕ} → at + 1 ≤ length d → Puts d at (v ∷ []) (set d at v) (at + 1)
-put_byte {at} {v} {d} h = record { place = refl; is = laid_byte at v d (omega arith) }
-
 pub put_none : {at : ℕ} {d : List ℕ} → Puts d at [] d at
 put_none {at} {d} = record { place = omega arith; is = laid_none at d }
 
@@ -86,96 +75,84 @@ puts_then x y h = rw (← h) (puts_both x y)
 pub puts_as : {d p t e : List ℕ} {at b : ℕ} → p ≡ t → Puts d at p e b → Puts d at t e b
 puts_as h x = rw (← h) x
 
--- ---- loops: the bytes of each, one behind the other
-abbrev pub each : {A : Type 0} → (A → List ℕ) → List A → List ℕ
-each g [] = []
-each g (x ∷ xs) = g x ++ each g xs
-
-module _ {A : Type 0} (g : A → List ℕ) (f : ℕ → A) where
-  each_more : (i n : ℕ) → each g (tab f i n) ++ g (f (i + n)) ≡ each g (tab f i (n + 1))
-  each_more i zero = rw (add-zero, append-nil)
-  each_more i (suc n) =
-      let e : suc n + 1 ≡ suc (n + 1) = omega arith in
-      let q : i + suc n ≡ i + 1 + n = omega arith in
-      rw (e, q, append_assoc, each_more (i + 1) n)
-
--- the first j are put down, w bytes each
-pub record Filling {A : Type 0} (g : A → List ℕ) (f : ℕ → A) (w n at : ℕ) (d e : List ℕ) (b j : ℕ) : Type 0 where
-  pub within : j ≤ n
-  pub room : at + w * n ≤ length d
+-- ---- loops: the bytes of each, one behind the other; the first j are put down, w bytes each
+pub record Filling {A : Type 0} (g : A → List ℕ) (xs : List A) (w at : ℕ) (d e : List ℕ) (b j : ℕ) : Type 0 where
   pub place : b ≡ at + w * j
   pub same : length e ≡ length d
-  pub puts : Puts d at (each g (tab f 0 j)) e b
+  pub puts : Puts d at (flat_map g (take j xs)) e b
 
-module _ {A : Type 0} {g : A → List ℕ} {f : ℕ → A} {w n at : ℕ} {d : List ℕ} where
-  pub fill_none : at + w * n ≤ length d → Filling g f w n at d d at 0
-  fill_none h =
-      record { within = zero-le; room = h; place = omega arith; same = refl; puts = put_none }
+module _ {A : Type 0} {g : A → List ℕ} {xs : List A} {w at : ℕ} {d : List ℕ} where
+  pub fill_none : Filling g xs w at d d at 0
+  fill_none = record { place = omega arith; same = refl; puts = put_none }
 
-  module _ {e : List ℕ} {b j : ℕ} (x : Filling g f w n at d e b j) where
-    pub fill_more : {h : List ℕ} {c : ℕ} → j < n → length (g (f j)) ≡ w → Puts e b (g (f j)) h c → Filling g f w n at d h c (j + 1)
-    fill_more {h} {c} l k y =
-        let r : at + w * n ≤ length d = x.room in
-        let s : length e ≡ length d = x.same in
-        let m : w * (j + 1) ≤ w * n = mul-le-mul_left w (omega arith) in
-        let q : length h ≡ length e = ap length y.is ∙ laid_long b (g (f j)) e (let p = x.place in omega arith) in
-        let z : each g (tab f 0 j) ++ g (f j) ≡ each g (tab f 0 (j + 1)) = rw zero-add at (each_more g f 0 j) in
-        record { within = omega arith; room = r; place = (let p = x.place in let u = y.place in omega arith); same = omega arith; puts = puts_then x.puts y z }
+  module _ {e : List ℕ} {b j : ℕ} (f : Filling g xs w at d e b j) where
+    pub fill_more : (x : A) {h : List ℕ} {c : ℕ} → at + w * length xs ≤ length d → j < length xs → length (g (get_or xs j x)) ≡ w → Puts e b (g (get_or xs j x)) h c
+        → Filling g xs w at d h c (j + 1)
+    fill_more x {h} {c} r l k y =
+        let p : List ℕ = g (get_or xs j x) in
+        let s : length e ≡ length d = f.same in
+        let o : b ≡ at + w * j = f.place in
+        let u : c ≡ b + length p = y.place in
+        let m : w * (j + 1) ≤ w * length xs = mul-le-mul_left w (omega arith) in
+        let q : length h ≡ length e = ap length y.is ∙ laid_long b p e (omega arith) in
+        let z : flat_map g (take j xs) ++ p ≡ flat_map g (take (j + 1) xs) =
+        flat_map_more g [] (take j xs) (get_or xs j x) ∙ ap (flat_map g) (sym (take_more xs j x l)) in
+        record { place = omega arith; same = omega arith; puts = puts_then f.puts y z }
 
-    pub fill_all : n ≤ j → Puts d at (each g (tab f 0 n)) e b
-    fill_all l = let z : j ≡ n = let i = x.within in omega arith in rw z at x.puts
+    pub fill_all : length xs ≤ j → Puts d at (flat_map g xs) e b
+    fill_all l = rw (take_all j xs l) at f.puts
 
 -- a key with what stands beside it
 abbrev pub item : {A : Type 0} → (A → ℕ) → (A → ℕ) → A → List ℕ
 item k v x = le_bytes 2 (k x) ++ le_bytes 8 (v x)
 
-each_item : {A : Type 0} (k v : A → ℕ) (xs : List A) → each (item k v) xs ≡ flat k v xs
-each_item k v [] = refl
-each_item k v (x ∷ xs) = rw (append_assoc, each_item k v xs)
-
-pub items_all : {A : Type 0} (k v : A → ℕ) {f : ℕ → A} {w n at b j : ℕ} {d e : List ℕ} → Filling (item k v) f w n at d e b j → n ≤ j → Puts d at (flat k v (tab f 0 n)) e b
-items_all k v {f} {n = n} x h = puts_as (each_item k v (tab f 0 n)) (fill_all x h)
+pub items : {A : Type 0} (k v : A → ℕ) (xs : List A) → flat_map (item k v) xs ≡ flat k v xs
+items k v [] = refl
+items k v (x ∷ xs) = rw (append_assoc, items k v xs)
 
 abbrev pub two : Pair → List ℕ
 two p = p.number ∷ p.answer ∷ []
 
-each_two : (ps : List Pair) → each two ps ≡ flat_pairs ps
-each_two [] = refl
-each_two (p ∷ ps) = rw (each_two ps)
+pub pairs : (ps : List Pair) → flat_map two ps ≡ flat_pairs ps
+pairs [] = refl
+pairs (p ∷ ps) = rw (pairs ps)
 
-pub pairs_all : {f : ℕ → Pair} {w n at b j : ℕ} {d e : List ℕ} → Filling two f w n at d e b j → n ≤ j → Puts d at (flat_pairs (tab f 0 n)) e b
-pairs_all {f} {n = n} x h = puts_as (each_two (tab f 0 n)) (fill_all x h)
+pub ballots : (k : ViewMark) (bs : List Ballot) → flat_map (ballot_bytes k) bs ≡ flat_ballots k bs
+ballots k [] = refl
+ballots k (b ∷ bs) = rw (ballots k bs)
 
-each_ballot : (k : ViewMark) (bs : List Ballot) → each (ballot_bytes k) bs ≡ flat_ballots k bs
-each_ballot k [] = refl
-each_ballot k (b ∷ bs) = rw (each_ballot k bs)
-
-pub ballots_all : (k : ViewMark) {f : ℕ → Ballot} {w n at b j : ℕ} {d e : List ℕ} → Filling (ballot_bytes k) f w n at d e b j → n ≤ j → Puts d at (flat_ballots k (tab f 0 n)) e b
-ballots_all k {f} {n = n} x h = puts_as (each_ballot k (tab f 0 n)) (fill_all x h)
+-- the front of an array, read off by an index
+taken : {A : Type 0} (z : A) (a : List A) (n : ℕ) → n ≤ length a → tab (λ j. get_or a j z) 0 n ≡ take n a
+taken z a n h =
+    let l : length (take n a) ≡ n = length-take-le n a h in
+    rw (l, take-append-drop n a) at (tab_front z (take n a) (drop n a))
 
 -- ---- a TX, a VL, a VS and an EL
 pub head_puts : (s : ℕ) {r w at a b n : ℕ} {d e₁ e₂ e : List ℕ} → Puts d at mark_tx e₁ a → Puts e₁ a (r ∷ w ∷ []) e₂ b → Puts e₂ b (le_bytes 8 s) e n → Puts d at (head_bytes r w s) e n
 head_puts s m c n = puts_both m (puts_both c n)
 
-pub tx_puts : (x : Transaction) {d e₁ e₂ e : List ℕ} {at a b n : ℕ} → Puts d at (head_bytes x.r x.w x.stamp.0) e₁ a
-    → Puts e₁ a (flat read_key read_version (tab (reads_in x.reads) 0 x.r)) e₂ b → Puts e₂ b (flat write_key write_value (tab (writes_in x.writes) 0 x.w)) e n
+pub tx_puts : (x : Transaction) {d e₁ e₂ e : List ℕ} {at a b n : ℕ} → x.r ≤ length x.reads → x.w ≤ length x.writes → Puts d at (head_bytes x.r x.w x.stamp.0) e₁ a
+    → Puts e₁ a (flat read_key read_version (take x.r x.reads)) e₂ b → Puts e₂ b (flat write_key write_value (take x.w x.writes)) e n
     → Puts d at (tx_bytes (tx_in x)) e n
 unfolding tx_bytes tx_in
-tx_puts x h r w = rw (tab_length (reads_in x.reads) 0 x.r, tab_length (writes_in x.writes) 0 x.w) (puts_both h (puts_both r w))
+tx_puts x p q h r w =
+    rw (tab_length (reads_in x.reads) 0 x.r, tab_length (writes_in x.writes) 0 x.w, taken zero_read x.reads x.r p, taken zero_write x.writes x.w q)
+    (puts_both h (puts_both r w))
 
 pub list_head_puts : (l : VoteList) {at a b n : ℕ} {d e₁ e₂ e : List ℕ} → Puts d at mark_vl e₁ a → Puts e₁ a (l.kind ∷ l.decision ∷ []) e₂ b → Puts e₂ b (l.count ∷ []) e n → Puts d at (list_head l) e n
 list_head_puts l m k c = puts_both m (puts_both k c)
 
-pub list_puts : (l : VoteList) {d e₁ e₂ e : List ℕ} {at a b n : ℕ} → Puts d at (list_head l) e₁ a → Puts e₁ a (view_bytes l.kind l.view.0) e₂ b
-    → Puts e₂ b (flat_pairs (tab (pairs_in l.pairs) 0 l.count)) e n → Puts d at (vl_bytes (list_in l)) e n
+pub list_puts : (l : VoteList) {d e₁ e₂ e : List ℕ} {at a b n : ℕ} → l.count ≤ length l.pairs → Puts d at (list_head l) e₁ a → Puts e₁ a (view_bytes l.kind l.view.0) e₂ b
+    → Puts e₂ b (flat_pairs (take l.count l.pairs)) e n → Puts d at (vl_bytes (list_in l)) e n
 unfolding vl_bytes list_in
-list_puts l h v p = rw (tab_length (pairs_in l.pairs) 0 l.count, view_same l.kind l.view.0) (puts_both h (puts_both v p))
+list_puts l c h v p =
+    rw (tab_length (pairs_in l.pairs) 0 l.count, view_same l.kind l.view.0, taken zero_pair l.pairs l.count c) (puts_both h (puts_both v p))
 
-pub views_puts : (k : ViewMark) (l : ViewList) {d e₁ e₂ e : List ℕ} {at a b n : ℕ} → Puts d at (views_head k l) e₁ a → Puts e₁ a (l.count ∷ []) e₂ b
-    → Puts e₂ b (flat_ballots k (tab (ballots_in l.ballots) 0 l.count)) e n → Puts d at (views_bytes k (views_in k l)) e n
+pub views_puts : (k : ViewMark) (l : ViewList) {d e₁ e₂ e : List ℕ} {at a b n : ℕ} → l.count ≤ length l.ballots → Puts d at (views_head k l) e₁ a → Puts e₁ a (l.count ∷ []) e₂ b
+    → Puts e₂ b (flat_ballots k (take l.count l.ballots)) e n → Puts d at (views_bytes k (views_in k l)) e n
 unfolding views_bytes views_in
-views_puts k l h c p =
-    rw (tab_length (λ j. own_ballot k (ballots_in l.ballots j)) 0 l.count, led_same k l.leader l.decision l.view.0, ballots_same k (ballots_in l.ballots) 0 l.count)
+views_puts k l few h c p =
+    rw (tab_length (λ j. own_ballot k (ballots_in l.ballots j)) 0 l.count, led_same k l.leader l.decision l.view.0, ballots_same k (ballots_in l.ballots) 0 l.count, taken zero_ballot l.ballots l.count few)
     (puts_then h (puts_both c p) (append_assoc (view_mark_bytes k) (led_bytes k l.leader l.decision l.view.0) _))
 
 -- an IV or an LD

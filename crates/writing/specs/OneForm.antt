@@ -1,24 +1,26 @@
 -- Each record has one form: what the theorems say.
-use Rattle.std.specs.Prelude.{ℕ, ◌^◌, ◌<◌, ◌≤◌, ◌≡◌, List, [], ◌∷◌, ◌⊎◌, length, get_or}
+use Rattle.std.specs.Prelude.{ℕ, ◌^◌, ◌<◌, ◌≤◌, ◌≡◌, List, [], ◌∷◌, ◌⊎◌, length, get_or, Result, Ok, Err}
+use Rattle.terms.specs.Checks.{passed, mark}
 use Rattle.terms.specs.Group.{group_wrong}
-use Rattle.records.specs.Tx.{Tx, tx_in, held_tx, no_tx, tx_bytes, read_key, read_version, write_key, write_value}
-use Rattle.records.specs.Vl.{Vl, view_of, list_in, held_list, no_list, vl_bytes}
-use Rattle.records.specs.Views.{Views, OwnViews, views_in, held_views, no_views, views_bytes}
+use Rattle.terms.specs.Refusals.{number_of}
+use Rattle.terms.specs.declared.Refusal.{Refusal}
+use Rattle.records.specs.Tx.{Tx, tx_in, held_tx, tx_bytes, read_key, read_version, write_key, write_value}
+use Rattle.records.specs.Vl.{Vl, view_of, list_in, held_list, vl_bytes}
+use Rattle.records.specs.Views.{Views, OwnViews, views_in, held_views, views_bytes}
 use Rattle.records.specs.Contents.{counts_wrong, count_wrong, tx_wrong, list_wrong, views_wrong, rd_wrong}
 use Rattle.records.specs.Cutting.{carrier}
-use Rattle.records.specs.Messages.{read_tx, read_vl, read_views, read_due, read_message, refused_reading}
+use Rattle.records.specs.Messages.{read_tx, read_vl, read_views, read_due, read_message}
 use Rattle.records.specs.Writing.{pr_bytes, listed_bytes, viewed_bytes, rd_bytes, listed_wrong}
 use Rattle.records.specs.declared.Ballot.{Ballot}
 use Rattle.records.specs.declared.Mark.{Mark}
 use Rattle.records.specs.declared.Mark.TheVariants.{PR, LG, DC, RD, IV, LD}
-use Rattle.records.specs.declared.Marked.{Marked}
-use Rattle.records.specs.declared.Marked.TheVariants.{Is, Refused}
-use Rattle.records.specs.declared.Reading.{Reading}
-use Rattle.records.specs.declared.TxReading.{TxReading}
-use Rattle.records.specs.declared.VlReading.{VlReading}
+use Rattle.records.specs.declared.Message.{Message as MessageRead}
+use Rattle.records.specs.declared.Message.TheVariants.{PR as a_pr, LG as an_lg, DC as a_dc, RD as an_rd, IV as an_iv, LD as an_ld}
+use Rattle.records.specs.declared.Transaction.{Transaction}
+use Rattle.records.specs.declared.ViewList.{ViewList}
 use Rattle.records.specs.declared.ViewMark.{ViewMark}
 use Rattle.records.specs.declared.ViewMark.TheVariants.{VS, EL}
-use Rattle.records.specs.declared.ViewsReading.{ViewsReading}
+use Rattle.records.specs.declared.VoteList.{VoteList}
 
 -- a byte string
 abbrev pub Bytes : List ℕ → Type 0
@@ -34,8 +36,8 @@ Fits k v x = (k x < 256 ^ 2) × (v x < 256 ^ 8)
 
 -- a transaction in order: its counts, its contents, and each number fits its field
 pub record TxRight (x : Tx) : Type 0 where
-  pub counts : counts_wrong (length x.reads) (length x.writes) ≡ 0
-  pub contents : tx_wrong x ≡ 0
+  pub counts : counts_wrong (length x.reads) (length x.writes) ≡ passed
+  pub contents : tx_wrong x ≡ passed
   pub stamp : x.stamp < 256 ^ 8
   pub reads : Each (Fits read_key read_version) x.reads
   pub writes : Each (Fits write_key write_value) x.writes
@@ -46,9 +48,9 @@ ViewRight l = (view_of l.kind l.view ≡ l.view) × (l.view < 256 ^ 2)
 
 -- a list in order in its group
 pub record ListRight (f : ℕ) (l : Vl) : Type 0 where
-  pub group : group_wrong f ≡ 0
-  pub count : count_wrong (length l.pairs) ≡ 0
-  pub contents : list_wrong f l ≡ 0
+  pub group : group_wrong f ≡ passed
+  pub count : count_wrong (length l.pairs) ≡ passed
+  pub contents : list_wrong f l ≡ passed
   pub view : ViewRight l
 
 -- a box's view that two bytes hold
@@ -57,9 +59,9 @@ ViewFits b = b.view.0 < 256 ^ 2
 
 -- a VS or an EL in order in its group: nothing beside what it tells, and each view fits its field
 pub record ViewsRight (k : ViewMark) (f : ℕ) (l : Views) : Type 0 where
-  pub group : group_wrong f ≡ 0
-  pub count : count_wrong (length l.ballots) ≡ 0
-  pub contents : views_wrong k f l ≡ 0
+  pub group : group_wrong f ≡ passed
+  pub count : count_wrong (length l.ballots) ≡ passed
+  pub contents : views_wrong k f l ≡ passed
   pub own : OwnViews k l
   pub view : l.view < 256 ^ 2
   pub ballots : Each ViewFits l.ballots
@@ -87,67 +89,71 @@ bytes_of (rd n s) = rd_bytes n s
 -- in order in its group; a list stands where the mark carries one
 abbrev pub Right : ℕ → Message → Type 0
 Right f (pr x) = TxRight x
-Right f (listed k x l) = TxRight x × ListRight f l × (listed_wrong k f l ≡ 0)
+Right f (listed k x l) = TxRight x × ListRight f l × (listed_wrong k f l ≡ passed)
 Right f (viewed k x l) = TxRight x × ViewsRight k f l
-Right f (rd n s) = (rd_wrong n s ≡ 0) × (s < 256 ^ 8)
+Right f (rd n s) = (rd_wrong n s ≡ passed) × (s < 256 ^ 8)
 
--- what reading it answers
-abbrev pub holds : Mark → Tx → Vl → Views → ℕ → ℕ → Reading
-holds k x l v n s =
-    record { found = Is k; tx = held_tx x; list = held_list l; views = held_views v; key = record { 0 = n }; stamp = record { 0 = s } }
+-- what reading it answers: a list stands in an LG or a DC (2), views in an IV or an LD
+abbrev pub listed_as : Mark → Tx → Vl → Result MessageRead Refusal
+listed_as PR x l = Err mark
+listed_as LG x l = Ok (an_lg (held_tx x) (held_list l))
+listed_as DC x l = Ok (a_dc (held_tx x) (held_list l))
+listed_as RD x l = Err mark
+listed_as IV x l = Err mark
+listed_as LD x l = Err mark
 
-abbrev pub read_as : Message → Reading
-read_as (pr x) = holds PR x no_list no_views 0 0
-read_as (listed k x l) = holds k x l no_views 0 0
-read_as (viewed k x l) = holds (carrier k) x no_list l 0 0
-read_as (rd n s) = holds RD no_tx no_list no_views n s
+abbrev pub viewed_as : ViewMark → Tx → Views → MessageRead
+viewed_as VS x l = an_iv (held_tx x) (held_views l)
+viewed_as EL x l = an_ld (held_tx x) (held_views l)
+
+abbrev pub read_as : Message → Result MessageRead Refusal
+read_as (pr x) = Ok (a_pr (held_tx x))
+read_as (listed k x l) = listed_as k x l
+read_as (viewed k x l) = Ok (viewed_as k x l)
+read_as (rd n s) = Ok (an_rd (record { 0 = n }) (record { 0 = s }))
 
 -- ---- what is written is read back as the same value: a message where its mark is due, and where any message is
 pub record WrittenIsRead : Type 0 where
-  pub tx : (x : Tx) → TxRight x → read_tx (tx_bytes x) ≡ record { wrong = 0; tx = held_tx x }
-  pub vl : (f : ℕ) (l : Vl) → ListRight f l → read_vl f (vl_bytes l) ≡ record { wrong = 0; list = held_list l }
-  pub views : (k : ViewMark) (f : ℕ) (l : Views) → ViewsRight k f l → read_views k f (views_bytes k l) ≡ record { wrong = 0; views = held_views l }
-  pub due : (f : ℕ) (m : Message) → group_wrong f ≡ 0 → Right f m → read_due (its_mark m) f (bytes_of m) ≡ read_as m
-  pub message : (f : ℕ) (m : Message) → group_wrong f ≡ 0 → Right f m → read_message f (bytes_of m) ≡ read_as m
+  pub tx : (x : Tx) → TxRight x → read_tx (tx_bytes x) ≡ Ok (held_tx x)
+  pub vl : (f : ℕ) (l : Vl) → ListRight f l → read_vl f (vl_bytes l) ≡ Ok (held_list l)
+  pub views : (k : ViewMark) (f : ℕ) (l : Views) → ViewsRight k f l → read_views k f (views_bytes k l) ≡ Ok (held_views l)
+  pub due : (f : ℕ) (m : Message) → group_wrong f ≡ passed → Right f m → read_due (its_mark m) f (bytes_of m) ≡ read_as m
+  pub message : (f : ℕ) (m : Message) → group_wrong f ≡ passed → Right f m → read_message f (bytes_of m) ≡ read_as m
 
 -- ---- what is accepted, written again, is the same bytes
-abbrev pub Accepted : Reading → Type 0
-Accepted r = (k : Mark) × (r.found ≡ Is k)
+abbrev pub Accepted : {A : Type 0} → Result A Refusal → Type 0
+Accepted {A} r = (x : A) × (r ≡ Ok x)
 
 -- the bytes of what was read
-abbrev pub written_by : Marked → Tx → Vl → (ViewMark → Views) → ℕ → ℕ → List ℕ
-written_by (Is PR) x l v n s = pr_bytes x
-written_by (Is LG) x l v n s = listed_bytes LG x l
-written_by (Is DC) x l v n s = listed_bytes DC x l
-written_by (Is RD) x l v n s = rd_bytes n s
-written_by (Is IV) x l v n s = viewed_bytes VS x (v VS)
-written_by (Is LD) x l v n s = viewed_bytes EL x (v EL)
-written_by (Refused c) x l v n s = []
-
-abbrev pub written : Reading → List ℕ
-written r = written_by r.found (tx_in r.tx) (list_in r.list) (λ k. views_in k r.views) r.key.0 r.stamp.0
+abbrev pub written : MessageRead → List ℕ
+written (a_pr x) = pr_bytes (tx_in x)
+written (an_lg x l) = listed_bytes LG (tx_in x) (list_in l)
+written (a_dc x l) = listed_bytes DC (tx_in x) (list_in l)
+written (an_rd n s) = rd_bytes n.0 s.0
+written (an_iv x l) = viewed_bytes VS (tx_in x) (views_in VS l)
+written (an_ld x l) = viewed_bytes EL (tx_in x) (views_in EL l)
 
 pub record ReadIsWritten : Type 0 where
-  pub tx : (s : List ℕ) → Bytes s → (read_tx s).wrong ≡ 0 → tx_bytes (tx_in (read_tx s).tx) ≡ s
-  pub vl : (f : ℕ) (s : List ℕ) → Bytes s → (read_vl f s).wrong ≡ 0 → vl_bytes (list_in (read_vl f s).list) ≡ s
-  pub views : (k : ViewMark) (f : ℕ) (s : List ℕ) → Bytes s → (read_views k f s).wrong ≡ 0 → views_bytes k (views_in k (read_views k f s).views) ≡ s
-  pub due : (k : Mark) (f : ℕ) (m : List ℕ) → Bytes m → Accepted (read_due k f m) → written (read_due k f m) ≡ m
-  pub message : (f : ℕ) (m : List ℕ) → Bytes m → Accepted (read_message f m) → written (read_message f m) ≡ m
+  pub tx : (s : List ℕ) → Bytes s → (x : Transaction) → read_tx s ≡ Ok x → tx_bytes (tx_in x) ≡ s
+  pub vl : (f : ℕ) (s : List ℕ) → Bytes s → (l : VoteList) → read_vl f s ≡ Ok l → vl_bytes (list_in l) ≡ s
+  pub views : (k : ViewMark) (f : ℕ) (s : List ℕ) → Bytes s → (l : ViewList) → read_views k f s ≡ Ok l → views_bytes k (views_in k l) ≡ s
+  pub due : (k : Mark) (f : ℕ) (m : List ℕ) → Bytes m → (x : MessageRead) → read_due k f m ≡ Ok x → written x ≡ m
+  pub message : (f : ℕ) (m : List ℕ) → Bytes m → (x : MessageRead) → read_message f m ≡ Ok x → written x ≡ m
 
 -- ---- one form: byte strings of which one is accepted, and which are read alike, are alike
-abbrev pub OneFormOf : {A : Type 0} → (A → Type 0) → (List ℕ → A) → Type 0
-OneFormOf Taken read = (s t : List ℕ) → Bytes s → Bytes t → Taken (read s) → read s ≡ read t → s ≡ t
+abbrev pub OneFormOf : {A : Type 0} → (List ℕ → Result A Refusal) → Type 0
+OneFormOf read = (s t : List ℕ) → Bytes s → Bytes t → Accepted (read s) → read s ≡ read t → s ≡ t
 
 pub record OneForm : Type 0 where
-  pub tx : OneFormOf (λ (r : TxReading). r.wrong ≡ 0) read_tx
-  pub vl : (f : ℕ) → OneFormOf (λ (r : VlReading). r.wrong ≡ 0) (read_vl f)
-  pub views : (k : ViewMark) (f : ℕ) → OneFormOf (λ (r : ViewsReading). r.wrong ≡ 0) (read_views k f)
-  pub due : (k : Mark) (f : ℕ) → OneFormOf Accepted (read_due k f)
-  pub message : (f : ℕ) → OneFormOf Accepted (read_message f)
+  pub tx : OneFormOf read_tx
+  pub vl : (f : ℕ) → OneFormOf (read_vl f)
+  pub views : (k : ViewMark) (f : ℕ) → OneFormOf (read_views k f)
+  pub due : (k : Mark) (f : ℕ) → OneFormOf (read_due k f)
+  pub message : (f : ℕ) → OneFormOf (read_message f)
 
 -- ---- every byte string is accepted, or refused with one of the numbers that bytes alone can have: 1 to 8, and 14
 abbrev pub ReaderNumber : ℕ → Type 0
 ReaderNumber n = ((1 ≤ n) × (n ≤ 8)) ⊎ (n ≡ 14)
 
 abbrev pub AcceptedOrRefused : Type 0
-AcceptedOrRefused = (f : ℕ) (m : List ℕ) → Accepted (read_message f m) ⊎ ((n : ℕ) × (ReaderNumber n × (read_message f m ≡ refused_reading n)))
+AcceptedOrRefused = (f : ℕ) (m : List ℕ) → Accepted (read_message f m) ⊎ ((r : Refusal) × (ReaderNumber (number_of r) × (read_message f m ≡ Err r)))

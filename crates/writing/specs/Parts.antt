@@ -1,6 +1,6 @@
 -- Bytes put down in a buffer, one part behind the other, and what the checks leave.
 use Rattle.std.specs.Prelude.{ℕ, zero, suc, ◌+◌, ◌*◌, ◌≤◌, ◌≡◌, List, [], ◌∷◌, ◌++◌, length, drop}
-use Rattle.terms.specs.Checks.{or_else, if_less, buffer}
+use Rattle.terms.specs.Checks.{Check, or_else, if_less, buffer}
 use Rattle.records.specs.Numbers.{le_bytes}
 use Rattle.records.specs.Tx.{mark_tx, tx_in}
 use Rattle.records.specs.Vl.{mark_vl, view_len}
@@ -62,5 +62,5 @@ pub record ListedFits (x : Transaction) (count size : ℕ) (d : List ℕ) : Type
   pub room : 2 + tx_size x + size ≤ length d
 
 -- the refusal of a TX that has `at` bytes before it
-unfoldable pub tx_after : ℕ → Transaction → List ℕ → ℕ
+unfoldable pub tx_after : ℕ → Transaction → List ℕ → Check
 tx_after at x out = or_else (counts_wrong x.r x.w) (or_else (tx_wrong (tx_in x)) (if_less (length out) (at + tx_size x) buffer))

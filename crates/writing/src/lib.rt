@@ -1,48 +1,52 @@
 // The records written: 14 where f matters, then 3, the contents, 17; then the record's bytes at the buffer's front and no others.
 #![tactic(auto)]
 
-ghost use Rattle.std.specs.Prelude.{◌≡◌, [], ◌∷◌, ◌++◌, ◌+◌, ◌*◌, ◌≤◌, length, get_or};
-ghost use Rattle.terms.specs.Choice.{tab};
-ghost use Rattle.terms.specs.Checks.{or_else, if_less, buffer};
+ghost use Rattle.std.specs.Prelude.{ℕ, ◌≡◌, [], ◌∷◌, ◌++◌, ◌+◌, ◌*◌, ◌≤◌, length};
+ghost use Rattle.terms.specs.Checks.{if_less, buffer};
 ghost use Rattle.records.specs.Numbers.{le_bytes};
-ghost use Rattle.records.specs.Tx.{tx_in, tx_bytes, flat, read_key, read_version, write_key, write_value, reads_in, writes_in};
-ghost use Rattle.records.specs.Vl.{list_in, vl_bytes, view_len, view_bytes, flat_pairs, pairs_in};
-ghost use Rattle.records.specs.Views.{views_in, views_bytes, ballot_len, ballot_bytes, flat_ballots, ballots_in, count_at};
+ghost use Rattle.records.specs.Tx.{tx_in, tx_bytes, flat};
+ghost use Rattle.records.specs.Vl.{list_in, vl_bytes, view_len, view_bytes, flat_pairs};
+ghost use Rattle.records.specs.Views.{views_in, views_bytes, ballot_len, ballot_bytes, flat_ballots, count_at};
 ghost use Rattle.records.specs.Cutting.{mark_bytes};
 ghost use Rattle.records.specs.Writing.{pr_bytes, listed_bytes, viewed_bytes, rd_bytes, listed_wrong, tx_unwritten, vl_unwritten, views_unwritten, pr_unwritten, listed_unwritten, viewed_unwritten, rd_unwritten, wrote_by, buffer_by};
 ghost use Rattle.writing.specs.Parts.{Puts, head_bytes, list_head, views_head, tx_size, list_size, views_size, TxFits, ListFits, ListedFits, tx_after};
 
-use records::{
-    Ballot, Mark, Pair, Read, Transaction, ViewList, ViewMark, VoteList, Write, Written,
-};
-use terms::{Group, Key, Refusal, Stamp, View};
+use records::{Ballot, Mark, Pair, Transaction, ViewList, ViewMark, VoteList};
+use terms::{Check, Group, Key, Refusal, Stamp, View};
 
-// A byte, put down from `at` on. This and all that follow tell the place behind what they put down.
+// Bytes, put down from `at` on. This and all that follow tell the place behind what they put down.
+fn put<const N: usize>(s: &mut [u8], at: usize, bytes: [u8; N]) -> usize
+    requires { at + N ≤ length s.old }
+    ensures { Puts s.old at bytes.entry s.new result }
+{
+    let end = at + N;
+    s[at..end].copy_from_slice(&bytes);
+    end
+}
+
 fn put_byte(s: &mut [u8], at: usize, a: u8) -> usize
     requires { at + 1 ≤ length s.old }
     ensures { Puts s.old at (a ∷ []) s.new result }
 {
-    s[at] = a;
-    at + 1
+    put(s, at, [a])
 }
 
 fn put_two(s: &mut [u8], at: usize, a: u8, b: u8) -> usize
     requires { at + 2 ≤ length s.old }
     ensures { Puts s.old at (a ∷ b ∷ []) s.new result }
 {
-    let at = put_byte(s, at, a);
-    put_byte(s, at, b)
+    put(s, at, [a, b])
 }
 
 // A fixed two-byte string.
 fn put_string(s: &mut [u8], at: usize, mark: &[u8; 2]) -> usize
     requires { at + 2 ≤ length s.old }
-    ensures { Puts s.old at (get_or mark.now 0 0 ∷ get_or mark.now 1 0 ∷ []) s.new result }
+    ensures { Puts s.old at mark.now s.new result }
 {
-    put_two(s, at, mark[0], mark[1])
+    put(s, at, *mark)
 }
 
-// A message's mark, at the buffer's front.
+// A message's mark, at the buffer's front. Each mark has its letters here and in Mark::bytes: docs/FORMS.md wants them in both.
 fn put_mark(s: &mut [u8], mark: Mark) -> usize
     requires { 2 ≤ length s.old }
     ensures { Puts s.old 0 (mark_bytes mark) s.new result × (result ≡ 2) }
@@ -62,16 +66,14 @@ fn put_short(s: &mut [u8], at: usize, number: u16) -> usize
     requires { at + 2 ≤ length s.old }
     ensures { Puts s.old at (le_bytes 2 number) s.new result }
 {
-    records::put_u16(&mut s[at..at + 2], number);
-    at + 2
+    put(s, at, number.to_le_bytes())
 }
 
 fn put_number(s: &mut [u8], at: usize, number: u64) -> usize
     requires { at + 8 ≤ length s.old }
     ensures { Puts s.old at (le_bytes 8 number) s.new result }
 {
-    records::put_u64(&mut s[at..at + 8], number);
-    at + 8
+    put(s, at, number.to_le_bytes())
 }
 
 // A key and what stands with it.
@@ -83,33 +85,17 @@ fn put_item(s: &mut [u8], at: usize, key: u16, number: u64) -> usize
     put_number(s, at, number)
 }
 
-fn put_reads(s: &mut [u8], at: usize, a: [Read; 8], n: usize) -> usize
-    requires { (n ≤ 8) × (at + 10 * n ≤ length s.old) }
-    ensures { Puts s.old at (flat read_key read_version (tab (reads_in a) 0 n)) s.new result × (result ≡ at + 10 * n) }
+// Keys, each with what stands beside it: the two as `of` tells them.
+fn put_items<T: Copy, F: Fn(T) -> (u16, u64)>(s: &mut [u8], at: usize, items: &[T], of: F) -> usize
+    requires room { at + 10 * length items.now ≤ length s.old }
+    requires callable { F.IsAlwaysCallable of }
+    ensures place { result ≡ at + 10 * length items.now }
+    ensures bytes { (k v : T → ℕ) → ((x : T) (y : ℕ × ℕ) → F.post of x y → y ≡ (k x, v x)) → Puts s.old at (flat k v items.now) s.new result }
 {
     let mut next = at;
-    let mut j = 0;
-    while j < n {
-        let p = a[j];
-        let k = p.key;
-        let v = p.version;
-        next = put_item(s, next, k.0, v.0);
-        j += 1;
-    }
-    next
-}
-
-fn put_writes(s: &mut [u8], at: usize, a: [Write; 8], n: usize) -> usize
-    requires { (n ≤ 8) × (at + 10 * n ≤ length s.old) }
-    ensures { Puts s.old at (flat write_key write_value (tab (writes_in a) 0 n)) s.new result × (result ≡ at + 10 * n) }
-{
-    let mut next = at;
-    let mut j = 0;
-    while j < n {
-        let p = a[j];
-        let k = p.key;
-        next = put_item(s, next, k.0, p.value);
-        j += 1;
+    for item in items {
+        let (key, number) = of(*item);
+        next = put_item(s, next, key, number);
     }
     next
 }
@@ -128,23 +114,18 @@ fn put_tx(s: &mut [u8], at: usize, x: Transaction) -> usize
     requires { TxFits x at s.old }
     ensures { Puts s.old at (tx_bytes (tx_in x)) s.new result × (result ≡ at + tx_size x) }
 {
-    let reads = x.reads;
-    let writes = x.writes;
     let at = put_head(s, at, x.r, x.w, x.stamp);
-    let at = put_reads(s, at, reads, x.r);
-    put_writes(s, at, writes, x.w)
+    let at = put_items(s, at, &x.reads[..x.r], |read| (read.key.0, read.version.0));
+    put_items(s, at, &x.writes[..x.w], |write| (write.key.0, write.value))
 }
 
-fn put_pairs(s: &mut [u8], at: usize, a: [Pair; 26], n: usize) -> usize
-    requires { (n ≤ 26) × (at + 2 * n ≤ length s.old) }
-    ensures { Puts s.old at (flat_pairs (tab (pairs_in a) 0 n)) s.new result }
+fn put_pairs(s: &mut [u8], at: usize, pairs: &[Pair]) -> usize
+    requires { at + 2 * length pairs.now ≤ length s.old }
+    ensures { Puts s.old at (flat_pairs pairs.now) s.new result }
 {
     let mut next = at;
-    let mut j = 0;
-    while j < n {
-        let p = a[j];
-        next = put_two(s, next, p.number, p.answer);
-        j += 1;
+    for pair in pairs {
+        next = put_two(s, next, pair.number, pair.answer);
     }
     next
 }
@@ -155,9 +136,10 @@ fn put_view(s: &mut [u8], at: usize, kind: u8, view: View) -> usize
     ensures { Puts s.old at (view_bytes kind view.0) s.new result × (result ≡ at + view_len kind) }
 {
     if kind == 2 {
-        return put_short(s, at, view.0);
+        put_short(s, at, view.0)
+    } else {
+        at
     }
-    at
 }
 
 // A list before its view.
@@ -174,10 +156,9 @@ fn put_list(s: &mut [u8], at: usize, l: VoteList) -> usize
     requires { ListFits l.count (list_size l) at s.old }
     ensures { Puts s.old at (vl_bytes (list_in l)) s.new result }
 {
-    let pairs = l.pairs;
     let at = put_list_head(s, at, l);
     let at = put_view(s, at, l.kind, l.view);
-    put_pairs(s, at, pairs, l.count)
+    put_pairs(s, at, &l.pairs[..l.count])
 }
 
 // What one box told.
@@ -197,16 +178,13 @@ fn put_ballot(k: ViewMark, s: &mut [u8], at: usize, b: Ballot) -> usize
     }
 }
 
-fn put_ballots(k: ViewMark, s: &mut [u8], at: usize, a: [Ballot; 26], n: usize) -> usize
-    requires { (n ≤ 26) × (at + ballot_len k * n ≤ length s.old) }
-    ensures { Puts s.old at (flat_ballots k (tab (ballots_in a) 0 n)) s.new result }
+fn put_ballots(k: ViewMark, s: &mut [u8], at: usize, ballots: &[Ballot]) -> usize
+    requires { at + ballot_len k * length ballots.now ≤ length s.old }
+    ensures { Puts s.old at (flat_ballots k ballots.now) s.new result }
 {
     let mut next = at;
-    let mut j = 0;
-    while j < n {
-        let b = a[j];
-        next = put_ballot(k, s, next, b);
-        j += 1;
+    for ballot in ballots {
+        next = put_ballot(k, s, next, *ballot);
     }
     next
 }
@@ -230,10 +208,9 @@ fn put_views(k: ViewMark, s: &mut [u8], at: usize, l: ViewList) -> usize
     requires { ListFits l.count (views_size k l) at s.old }
     ensures { Puts s.old at (views_bytes k (views_in k l)) s.new result }
 {
-    let ballots = l.ballots;
     let at = put_led(k, s, at, l);
     let at = put_byte(s, at, l.count as u8);
-    put_ballots(k, s, at, ballots, l.count)
+    put_ballots(k, s, at, &l.ballots[..l.count])
 }
 
 fn put_pr(s: &mut [u8], x: Transaction) -> usize
@@ -296,183 +273,160 @@ fn views_size(k: ViewMark, l: ViewList) -> usize
     1 + k.count_at() + k.ballot_len() * l.count
 }
 
-// The first refusal of two; 0 is none.
-fn first(a: u8, b: u8) -> u8
-    ensures { result ≡ or_else a b }
-{
-    if a != 0 {
-        return a;
-    }
-    b
-}
-
 // 17 where a record of n bytes has no room.
-fn buffer_wrong(n: usize, out: &[u8]) -> u8
+#[tactic(auto, unfolding(terms::proofs::Checks::chain))]
+fn buffer_wrong(n: usize, out: &[u8]) -> Check
     ensures { result ≡ if_less (length out.now) n buffer }
 {
-    if out.len() < n {
-        return terms::BUFFER;
-    }
-    0
+    terms::refuse_if(out.len() < n, Refusal::Buffer)
 }
 
 // 3, the contents, 17 of a TX that has `at` bytes before it.
-fn tx_unwritten(x: Transaction, at: usize, out: &[u8]) -> u8
+#[tactic(auto, using(crate::proofs::Writes::sizes), unfolding(crate::proofs::Writes::judged, crate::specs::Parts::tx_after))]
+fn tx_unwritten(x: Transaction, at: usize, out: &[u8]) -> Check
     requires { at ≤ 2 }
     ensures { result ≡ tx_after at x out.now }
 {
-    let counts = contents::counts_wrong(x.r, x.w);
-    if counts != 0 {
-        return counts;
-    }
-    first(contents::tx_wrong(x), buffer_wrong(at + tx_size(x), out))
+    contents::counts_wrong(x.r, x.w)?;
+    contents::tx_wrong(x)?;
+    buffer_wrong(at + tx_size(x), out)
 }
 
-fn vl_unwritten(f: u64, l: VoteList, out: &[u8]) -> u8
+#[tactic(auto, using(crate::proofs::Writes::sizes), unfolding(crate::proofs::Writes::judged, records::specs::Writing::vl_unwritten))]
+fn vl_unwritten(f: u64, l: VoteList, out: &[u8]) -> Check
     ensures { result ≡ vl_unwritten f l out.now }
 {
-    let before = first(terms::group_wrong(f), contents::count_wrong(l.count));
-    if before != 0 {
-        return before;
-    }
-    let wrong = contents::list_wrong(Group { f: f as u8 }, l);
-    first(wrong, buffer_wrong(list_size(l), out))
+    let g = Group::of(f)?;
+    contents::count_wrong(l.count)?;
+    contents::list_wrong(g, l)?;
+    buffer_wrong(list_size(l), out)
 }
 
-fn views_unwritten(k: ViewMark, f: u64, l: ViewList, out: &[u8]) -> u8
+#[tactic(auto, using(crate::proofs::Writes::sizes), unfolding(crate::proofs::Writes::judged, records::specs::Writing::views_unwritten))]
+fn views_unwritten(k: ViewMark, f: u64, l: ViewList, out: &[u8]) -> Check
     ensures { result ≡ views_unwritten k f l out.now }
 {
-    let before = first(terms::group_wrong(f), contents::count_wrong(l.count));
-    if before != 0 {
-        return before;
-    }
-    let wrong = contents::views_wrong(k, Group { f: f as u8 }, l);
-    first(wrong, buffer_wrong(views_size(k, l), out))
+    let g = Group::of(f)?;
+    contents::count_wrong(l.count)?;
+    contents::views_wrong(k, g, l)?;
+    buffer_wrong(views_size(k, l), out)
 }
 
 // The list of an LG or a DC: a message with another mark carries none (2).
-fn listed_wrong(mark: Mark, f: u64, l: VoteList) -> u8
-    requires { (f ≤ 5) × (l.count ≤ 26) }
-    ensures { result ≡ listed_wrong mark f (list_in l) }
+#[tactic(auto, unfolding(records::specs::Writing::listed_wrong))]
+fn listed_wrong(mark: Mark, g: Group, l: VoteList) -> Check
+    requires { l.count ≤ 26 }
+    ensures { result ≡ listed_wrong mark g.f (list_in l) }
 {
     match mark {
-        Mark::PR => terms::MARK,
-        Mark::LG => contents::log_list_wrong(Group { f: f as u8 }, l),
-        Mark::DC => contents::list_wrong(Group { f: f as u8 }, l),
-        Mark::RD => terms::MARK,
-        Mark::IV => terms::MARK,
-        Mark::LD => terms::MARK,
+        Mark::LG => contents::log_list_wrong(g, l),
+        Mark::DC => contents::list_wrong(g, l),
+        Mark::PR | Mark::RD | Mark::IV | Mark::LD => Err(Refusal::Mark),
     }
 }
 
-fn listed_unwritten(mark: Mark, f: u64, x: Transaction, l: VoteList, out: &[u8]) -> u8
+#[tactic(auto, using(crate::proofs::Writes::sizes), unfolding(crate::proofs::Writes::judged, records::specs::Writing::listed_unwritten))]
+fn listed_unwritten(mark: Mark, f: u64, x: Transaction, l: VoteList, out: &[u8]) -> Check
     ensures { result ≡ listed_unwritten mark f x l out.now }
 {
-    let counts = first(
-        contents::counts_wrong(x.r, x.w),
-        contents::count_wrong(l.count),
-    );
-    let before = first(terms::group_wrong(f), counts);
-    if before != 0 {
-        return before;
-    }
-    let room = buffer_wrong(2 + tx_size(x) + list_size(l), out);
-    first(contents::tx_wrong(x), first(listed_wrong(mark, f, l), room))
+    let g = Group::of(f)?;
+    contents::counts_wrong(x.r, x.w)?;
+    contents::count_wrong(l.count)?;
+    contents::tx_wrong(x)?;
+    listed_wrong(mark, g, l)?;
+    buffer_wrong(2 + tx_size(x) + list_size(l), out)
 }
 
-fn viewed_unwritten(k: ViewMark, f: u64, x: Transaction, l: ViewList, out: &[u8]) -> u8
-    ensures { result ≡ viewed_unwritten k f x l out.now }
+// Beside `listed_unwritten`: one function for both would be no plainer, since kind of list, judge and size differ, and it takes a trait to say so.
+#[tactic(auto, using(crate::proofs::Writes::sizes), unfolding(crate::proofs::Writes::judged, records::specs::Writing::viewed_unwritten))]
+fn viewed_unwritten(k: ViewMark, f: u64, x: Transaction, views: ViewList, out: &[u8]) -> Check
+    ensures { result ≡ viewed_unwritten k f x views out.now }
 {
-    let counts = first(
-        contents::counts_wrong(x.r, x.w),
-        contents::count_wrong(l.count),
-    );
-    let before = first(terms::group_wrong(f), counts);
-    if before != 0 {
-        return before;
-    }
-    let room = buffer_wrong(2 + tx_size(x) + views_size(k, l), out);
-    let wrong = contents::views_wrong(k, Group { f: f as u8 }, l);
-    first(contents::tx_wrong(x), first(wrong, room))
+    let g = Group::of(f)?;
+    contents::counts_wrong(x.r, x.w)?;
+    contents::count_wrong(views.count)?;
+    contents::tx_wrong(x)?;
+    contents::views_wrong(k, g, views)?;
+    buffer_wrong(2 + tx_size(x) + views_size(k, views), out)
 }
 
-fn rd_unwritten(key: Key, stamp: Stamp, out: &[u8]) -> u8
+#[tactic(auto, unfolding(crate::proofs::Writes::judged, records::specs::Writing::rd_unwritten, records::specs::Writing::rd_bytes))]
+fn rd_unwritten(key: Key, stamp: Stamp, out: &[u8]) -> Check
     ensures { result ≡ rd_unwritten key.0 stamp.0 out.now }
 {
-    first(contents::rd_wrong(key, stamp), buffer_wrong(12, out))
+    contents::rd_wrong(key, stamp)?;
+    buffer_wrong(12, out)
 }
 
 // A TX by itself.
-pub fn write_tx(x: Transaction, out: &mut [u8]) -> Written
+#[tactic(auto, using(crate::proofs::Writes::fits), unfolding(crate::proofs::Writes::answered))]
+pub fn write_tx(x: Transaction, out: &mut [u8]) -> Result<usize, Refusal>
     ensures { (result ≡ wrote_by (tx_unwritten x out.old) (tx_bytes (tx_in x))) × (out.new ≡ buffer_by (tx_unwritten x out.old) (tx_bytes (tx_in x)) out.old) }
 {
-    let wrong = tx_unwritten(x, 0, out);
-    if wrong != 0 {
-        return Written::Refused(Refusal::of(wrong));
-    }
-    Written::Wrote(put_tx(out, 0, x))
+    tx_unwritten(x, 0, out)?;
+    Ok(put_tx(out, 0, x))
 }
 
 // A VL by itself.
-pub fn write_vl(f: u64, l: VoteList, out: &mut [u8]) -> Written
+#[tactic(auto, using(crate::proofs::Writes::fits), unfolding(crate::proofs::Writes::answered))]
+pub fn write_vl(f: u64, l: VoteList, out: &mut [u8]) -> Result<usize, Refusal>
     ensures { (result ≡ wrote_by (vl_unwritten f l out.old) (vl_bytes (list_in l))) × (out.new ≡ buffer_by (vl_unwritten f l out.old) (vl_bytes (list_in l)) out.old) }
 {
-    let wrong = vl_unwritten(f, l, out);
-    if wrong != 0 {
-        return Written::Refused(Refusal::of(wrong));
-    }
-    Written::Wrote(put_list(out, 0, l))
+    vl_unwritten(f, l, out)?;
+    Ok(put_list(out, 0, l))
 }
 
 // A VS or an EL by itself, by its mark.
-pub fn write_views(k: ViewMark, f: u64, l: ViewList, out: &mut [u8]) -> Written
+#[tactic(auto, using(crate::proofs::Writes::fits), unfolding(crate::proofs::Writes::answered))]
+pub fn write_views(k: ViewMark, f: u64, l: ViewList, out: &mut [u8]) -> Result<usize, Refusal>
     ensures { (result ≡ wrote_by (views_unwritten k f l out.old) (views_bytes k (views_in k l))) × (out.new ≡ buffer_by (views_unwritten k f l out.old) (views_bytes k (views_in k l)) out.old) }
 {
-    let wrong = views_unwritten(k, f, l, out);
-    if wrong != 0 {
-        return Written::Refused(Refusal::of(wrong));
-    }
-    Written::Wrote(put_views(k, out, 0, l))
+    views_unwritten(k, f, l, out)?;
+    Ok(put_views(k, out, 0, l))
 }
 
-pub fn write_pr(x: Transaction, out: &mut [u8]) -> Written
+#[tactic(auto, using(crate::proofs::Writes::fits), unfolding(crate::proofs::Writes::answered))]
+pub fn write_pr(x: Transaction, out: &mut [u8]) -> Result<usize, Refusal>
     ensures { (result ≡ wrote_by (pr_unwritten x out.old) (pr_bytes (tx_in x))) × (out.new ≡ buffer_by (pr_unwritten x out.old) (pr_bytes (tx_in x)) out.old) }
 {
-    let wrong = tx_unwritten(x, 2, out);
-    if wrong != 0 {
-        return Written::Refused(Refusal::of(wrong));
-    }
-    Written::Wrote(put_pr(out, x))
+    tx_unwritten(x, 2, out)?;
+    Ok(put_pr(out, x))
 }
 
 // An LG or a DC, by its mark.
-pub fn write_listed(mark: Mark, f: u64, x: Transaction, l: VoteList, out: &mut [u8]) -> Written
+#[tactic(auto, using(crate::proofs::Writes::fits), unfolding(crate::proofs::Writes::answered))]
+pub fn write_listed(
+    mark: Mark,
+    f: u64,
+    x: Transaction,
+    l: VoteList,
+    out: &mut [u8],
+) -> Result<usize, Refusal>
     ensures { (result ≡ wrote_by (listed_unwritten mark f x l out.old) (listed_bytes mark (tx_in x) (list_in l))) × (out.new ≡ buffer_by (listed_unwritten mark f x l out.old) (listed_bytes mark (tx_in x) (list_in l)) out.old) }
 {
-    let wrong = listed_unwritten(mark, f, x, l, out);
-    if wrong != 0 {
-        return Written::Refused(Refusal::of(wrong));
-    }
-    Written::Wrote(put_listed(out, mark, x, l))
+    listed_unwritten(mark, f, x, l, out)?;
+    Ok(put_listed(out, mark, x, l))
 }
 
 // An IV or an LD, by the mark of what it carries.
-pub fn write_viewed(k: ViewMark, f: u64, x: Transaction, l: ViewList, out: &mut [u8]) -> Written
+#[tactic(auto, using(crate::proofs::Writes::fits), unfolding(crate::proofs::Writes::answered))]
+pub fn write_viewed(
+    k: ViewMark,
+    f: u64,
+    x: Transaction,
+    l: ViewList,
+    out: &mut [u8],
+) -> Result<usize, Refusal>
     ensures { (result ≡ wrote_by (viewed_unwritten k f x l out.old) (viewed_bytes k (tx_in x) (views_in k l))) × (out.new ≡ buffer_by (viewed_unwritten k f x l out.old) (viewed_bytes k (tx_in x) (views_in k l)) out.old) }
 {
-    let wrong = viewed_unwritten(k, f, x, l, out);
-    if wrong != 0 {
-        return Written::Refused(Refusal::of(wrong));
-    }
-    Written::Wrote(put_viewed(k, out, x, l))
+    viewed_unwritten(k, f, x, l, out)?;
+    Ok(put_viewed(k, out, x, l))
 }
 
-pub fn write_rd(key: Key, stamp: Stamp, out: &mut [u8]) -> Written
+#[tactic(auto, using(crate::proofs::Writes::fits), unfolding(crate::proofs::Writes::answered))]
+pub fn write_rd(key: Key, stamp: Stamp, out: &mut [u8]) -> Result<usize, Refusal>
     ensures { (result ≡ wrote_by (rd_unwritten key.0 stamp.0 out.old) (rd_bytes key.0 stamp.0)) × (out.new ≡ buffer_by (rd_unwritten key.0 stamp.0 out.old) (rd_bytes key.0 stamp.0) out.old) }
 {
-    let wrong = rd_unwritten(key, stamp, out);
-    if wrong != 0 {
-        return Written::Refused(Refusal::of(wrong));
-    }
-    Written::Wrote(put_rd(out, key, stamp))
+    rd_unwritten(key, stamp, out)?;
+    Ok(put_rd(out, key, stamp))
 }

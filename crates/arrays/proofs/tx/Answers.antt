@@ -1,16 +1,11 @@
-use mathlib.Core.Path.{refl}
-use Rattle.terms.proofs.Scans.{none, more}
-use Rattle.arrays.specs.Arrays.{lent_tx}
-use Rattle.arrays.proofs.Filled.{filled}
-use native.Mathlib.Omega.{arith}
+use Rattle.std.proofs.Common.{rules}
+use Rattle.arrays.specs.Arrays.{lent_tx, lent_read, lent_write}
+use Rattle.arrays.proofs.Made.{made}
 use Rattle.arrays.proofs.tx.Goals as goal
-
-pub loop-j-init : goal.loop-j-init
-loop-j-init c = (none, none)
-
-pub loop-j-preserved : goal.loop-j-preserved
-loop-j-preserved c = let g = c.loop-j.invariant in (more g.0 (omega arith) refl, more g.1 (omega arith) refl)
 
 pub returns : goal.returns
 unfolding lent_tx
-returns c = rw (filled c.loop-j.invariant.0 (omega arith), filled c.loop-j.invariant.1 (omega arith))
+returns c = rw (
+  made (lent_read c.args.reads.now c.args.versions.now) c.from_fn.ensures.items (λ i y f h. search rules),
+  made (lent_write c.args.writes.now c.args.values.now) c.from_fn-2.ensures.items (λ i y f h. search rules),
+)

@@ -1,16 +1,8 @@
-use mathlib.Core.Path.{refl}
-use Rattle.terms.proofs.Scans.{none, more}
-use Rattle.arrays.specs.Arrays.{lent_views}
-use Rattle.arrays.proofs.Filled.{filled}
-use native.Mathlib.Omega.{arith}
+use Rattle.std.proofs.Common.{rules}
+use Rattle.arrays.specs.Arrays.{lent_views, lent_ballot}
+use Rattle.arrays.proofs.Made.{made}
 use Rattle.arrays.proofs.views.Goals as goal
-
-pub loop-j-init : goal.loop-j-init
-loop-j-init c = none
-
-pub loop-j-preserved : goal.loop-j-preserved
-loop-j-preserved c = more c.loop-j.invariant (omega arith) refl
 
 pub returns : goal.returns
 unfolding lent_views
-returns c = rw (filled c.loop-j.invariant (omega arith))
+returns c = rw (made (lent_ballot c.args.numbers.now c.args.answers.now c.args.views.now) c.from_fn.ensures.items (λ i y f h. search rules))

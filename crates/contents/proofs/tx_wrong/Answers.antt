@@ -1,18 +1,12 @@
-use mathlib.Core.Path.{◌∙◌}
-use Rattle.terms.specs.Checks.{when, if_same}
-use Rattle.records.specs.Tx.{reads_in, writes_in, tx_in}
-use Rattle.records.specs.Contents.{tx_wrong}
-use Rattle.contents.specs.Keys.{key_read, key_written}
-use Rattle.contents.proofs.Keys.{wide_keys, fall_keys}
-use Rattle.contents.proofs.Chains.{of_tx}
+use Rattle.std.proofs.Common.{arith}
+use Rattle.terms.proofs.Scans.{tab_take}
+use Rattle.records.specs.Tx.{tx_in, zero_read, zero_write}
 use Rattle.contents.proofs.tx_wrong.Goals as goal
 
 pub returns : goal.returns
-unfolding tx_wrong tx_in when if_same
+unfolding tx_in
 returns c =
     let x = c.args.x in
-    let a = wide_keys key_read (reads_in x.reads) _ x.r c.keys_read-read.ensures c.requires.0 in
-    let b = wide_keys key_written (writes_in x.writes) _ x.w c.keys_written-written.ensures c.requires.1 in
-    let d = fall_keys key_read (reads_in x.reads) _ x.r c.keys_read-read.ensures c.requires.0 in
-    let e = fall_keys key_written (writes_in x.writes) _ x.w c.keys_written-written.ensures c.requires.1 in
-    (cc) ∙ of_tx _ _ _ _ _ _
+    let a = tab_take zero_read x.reads x.r (omega arith) in
+    let b = tab_take zero_write x.writes x.w (omega arith) in
+    rw (a, b) c.parts_wrong.ensures

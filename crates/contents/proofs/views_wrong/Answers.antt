@@ -1,18 +1,19 @@
-use mathlib.Core.Path.{◌∙◌}
-use Rattle.records.specs.declared.ViewMark.TheVariants.{VS, EL}
+use Rattle.std.proofs.Common.{rules, arith, ◌∙◌}
+use Rattle.terms.proofs.Checks.{chain}
+use Rattle.records.specs.declared.ViewMark.TheVariants.{VS}
 use Rattle.records.specs.Views.{views_in}
 use Rattle.records.specs.Contents.{views_wrong}
-use Rattle.terms.proofs.Checks.{together}
-use Rattle.contents.proofs.Ballots.{answers_told, boxes_told}
+use Rattle.contents.proofs.Ballots.{boxes_told, el_wrong}
 use Rattle.contents.proofs.views_wrong.Goals as goal
 
 pub returns-in-VS : goal.returns-in-VS
 unfolding views_wrong views_in
-returns-in-VS c = rw c.in-VS.is (c.boxes_wrong-boxes.ensures ∙ boxes_told c.args.l.ballots _ c.args.l.count c.ballot_pairs-pairs.ensures c.requires VS c.args.g.f)
+returns-in-VS c = rw c.in-VS.is (c.boxes_wrong.ensures ∙ boxes_told c.args.l.ballots c.args.l.count (omega arith) VS c.args.g.f)
 
-pub returns-in-EL : goal.returns-in-EL
-unfolding views_wrong views_in
-returns-in-EL c =
-    let a = answers_told c.args.l.ballots _ c.args.l.count c.ballot_pairs-pairs.ensures c.requires in
-    let b = boxes_told c.args.l.ballots _ c.args.l.count c.ballot_pairs-pairs.ensures c.requires EL c.args.g.f in
-    rw c.in-EL.is ((cc) ∙ together _ _ _)
+pub returns-in_err-led_wrong-in-EL : goal.returns-in_err-led_wrong-in-EL
+unfolding chain
+returns-in_err-led_wrong-in-EL c = rw (c.in-EL.is, ← el_wrong c.args.g.f c.args.l (omega arith)) (search rules)
+
+pub returns-in_ok-led_wrong-in-EL : goal.returns-in_ok-led_wrong-in-EL
+unfolding chain
+returns-in_ok-led_wrong-in-EL c = rw (c.in-EL.is, ← el_wrong c.args.g.f c.args.l (omega arith)) (search rules)

@@ -1,11 +1,7 @@
-use Rattle.election.specs.Telling.{told_below}
 use Rattle.records.specs.Views.{zero_ballot}
 use Rattle.sheet.proofs.Below.{Noted}
-use Prim.Native.Nat.{◌-◌, ◌≤◌}
+use Rattle.election.specs.Telling.{told_below}
 use Rattle.election.proofs.list_told.Given as goal
 
 abbrev pub invariant-loop-b : goal.invariant-loop-b
-invariant-loop-b l = Noted (told_below l.told l.views) zero_ballot 26 l.ballots l.count l.b × (l.b ≤ l.n) × (l.n ≤ 26)
-
-abbrev pub decreases-loop-b : goal.decreases-loop-b
-decreases-loop-b l = l.n - l.b
+invariant-loop-b l = Noted (told_below l.told l.views) zero_ballot 26 l.ballots l.count l.b

@@ -1,40 +1,25 @@
-use Rattle.election.proofs.Gathering.{ballots_none, ballots_yes, ballots_no, box_left, unled_held}
+use Rattle.std.proofs.Common.{◌≡◌, arith}
+use Rattle.terms.specs.Group.{boxes}
 use Rattle.sheet.proofs.Below.{noted_none, noted_yes, noted_no}
-use native.Mathlib.Omega.{arith}
+use Rattle.election.proofs.Gathering.{listed_none, listed_yes, listed_no, listed_full, unled_held}
 use Rattle.election.proofs.lowest.Goals as goal
+use Rattle.election.proofs.lowest.Goals.{then-count-need+then-on_sheet, else-count-need, else-count-need-via-then-count-need+else-on_sheet, else-count-need-via-else-count-need}
 
-pub loop-count-init : goal.loop-count-init
-loop-count-init c = (noted_none (ballots_none _), omega arith)
+pub loop-b-init : goal.loop-b-init
+loop-b-init c = noted_none (listed_none _ _)
 
-pub on_sheet-requires : goal.on_sheet-requires
-on_sheet-requires c = let l = box_left c.args.s c.args.g.f c.requires c.log_proof-need.ensures c.loop-count.invariant.0 (omega arith) in omega arith
+pub loop-b-preserved : goal.loop-b-preserved
+loop-b-preserved c =
+    elim c.if-count-need.branch [
+      | then-count-need+then-on_sheet w ↦ rw (w.ballots-is, w.count-is) (noted_yes c.loop-b.invariant _ (let l = c.loop-b.invariant.within in omega arith) (listed_yes _ _ _ _ (omega (arith, c.loop-b.invariant.counts)) (cc) (cc)))
+      | else-count-need w ↦
+          rw (w.ballots-is, w.count-is)
+          (noted_no c.loop-b.invariant
+          (elim w.else-count-need.branch [
+            | else-count-need-via-then-count-need+else-on_sheet v ↦ listed_no _ _ _ (cc)
+            | else-count-need-via-else-count-need v ↦ listed_full _ _ _ (omega (arith, c.loop-b.invariant.counts))
+          ]))
+    ]
 
-pub ballot_on-requires : goal.ballot_on-requires
-ballot_on-requires c = box_left c.args.s c.args.g.f c.requires c.log_proof-need.ensures c.loop-count.invariant.0 (omega arith)
-
-pub offset_bounds-ballots-count : goal.offset_bounds-ballots-count
-offset_bounds-ballots-count c = let l = c.loop-count.invariant.0.within in let h = box_left c.args.s c.args.g.f c.requires c.log_proof-need.ensures c.loop-count.invariant.0 (omega arith) in omega arith
-
-pub bounds-ballots-count : goal.bounds-ballots-count
-bounds-ballots-count c = let l = c.loop-count.invariant.0.within in let h = box_left c.args.s c.args.g.f c.requires c.log_proof-need.ensures c.loop-count.invariant.0 (omega arith) in omega arith
-
-pub overflow_add-b : goal.overflow_add-b
-overflow_add-b c = let l = box_left c.args.s c.args.g.f c.requires c.log_proof-need.ensures c.loop-count.invariant.0 (omega arith) in omega arith
-
-pub loop-count-smaller-then-on_sheet : goal.loop-count-smaller-then-on_sheet
-loop-count-smaller-then-on_sheet c = let l = box_left c.args.s c.args.g.f c.requires c.log_proof-need.ensures c.loop-count.invariant.0 (omega arith) in omega arith
-
-pub loop-count-preserved-then-on_sheet : goal.loop-count-preserved-then-on_sheet
-loop-count-preserved-then-on_sheet c = (noted_yes c.loop-count.invariant.0 _ (let l = c.loop-count.invariant.0.within in let h = box_left c.args.s c.args.g.f c.requires c.log_proof-need.ensures c.loop-count.invariant.0 (omega arith) in omega arith) (ballots_yes _ _ _ (cc) (cc)), omega arith)
-
-pub overflow_add-b-else-on_sheet : goal.overflow_add-b-else-on_sheet
-overflow_add-b-else-on_sheet c = let l = box_left c.args.s c.args.g.f c.requires c.log_proof-need.ensures c.loop-count.invariant.0 (omega arith) in omega arith
-
-pub loop-count-smaller : goal.loop-count-smaller
-loop-count-smaller c = let l = box_left c.args.s c.args.g.f c.requires c.log_proof-need.ensures c.loop-count.invariant.0 (omega arith) in omega arith
-
-pub loop-count-preserved : goal.loop-count-preserved
-loop-count-preserved c = (noted_no c.loop-count.invariant.0 (ballots_no _ _ (cc)), omega arith)
-
-pub returns : goal.returns
-returns c = unled_held c.args.s c.args.g.f c.requires c.log_proof-need.ensures c.loop-count.invariant.0 (let l = c.loop-count.invariant.1 in omega arith)
+pub returns-clause-listed : goal.returns-clause-listed
+returns-clause-listed c = let e : c.loop-b.b ≡ boxes c.args.g.f = omega arith in unled_held _ _ (cc) (rw e at c.loop-b.invariant)

@@ -1,20 +1,20 @@
-use mathlib.Core.Path.{sym, ◌∙◌}
-use Rattle.engine.specs.Outcome.{called_by}
+use Rattle.std.proofs.Common.{sym, ◌∙◌}
 use Rattle.rules.specs.Act.{marked_act}
+use Rattle.engine.specs.Outcome.{called_by}
 use Rattle.engine.proofs.Steps.{stops, passes, refuses}
 use Rattle.engine.proofs.called.Goals as goal
 
-pub returns-then-wrong-ne0 : goal.returns-then-wrong-ne0
+pub returns-in-Err : goal.returns-in-Err
 unfolding called_by
-returns-then-wrong-ne0 c = rw (c.refuse.ensures, c.of.ensures) (stops _ _ _ c.lent_wrong-wrong.ensures c.if-wrong-ne0.true)
+returns-in-Err c = rw c.refuse.ensures (stops _ _ (sym c.lent_wrong.ensures ∙ c.in-Err.is))
 
 pub due_step-requires : goal.due_step-requires
-due_step-requires c = sym c.lent_wrong-wrong.ensures ∙ c.if-wrong-ne0.false
+due_step-requires c = sym c.lent_wrong.ensures ∙ c.in_default.is
 
-pub returns-in-Is : goal.returns-in-Is
+pub returns-in-Ok : goal.returns-in-Ok
 unfolding called_by marked_act
-returns-in-Is c = rw c.in-Is.is (passes _ (sym c.lent_wrong-wrong.ensures ∙ c.if-wrong-ne0.false) c.due_step.ensures)
+returns-in-Ok c = rw c.in-Ok.is (passes _ (sym c.lent_wrong.ensures ∙ c.in_default.is) c.due_step.ensures)
 
-pub returns-in-Refused : goal.returns-in-Refused
+pub returns-in-Err-marked : goal.returns-in-Err-marked
 unfolding called_by marked_act
-returns-in-Refused c = rw (c.refuse-in-Refused.ensures, c.of-in-Refused.ensures, c.in-Refused.is) (passes _ (sym c.lent_wrong-wrong.ensures ∙ c.if-wrong-ne0.false) (refuses _))
+returns-in-Err-marked c = rw (c.refuse-in-Err-marked.ensures, c.in-Err-marked.is) (passes _ (sym c.lent_wrong.ensures ∙ c.in_default.is) (refuses _))

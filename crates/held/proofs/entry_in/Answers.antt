@@ -15,4 +15,4 @@ pub returns-then-i-n : goal.returns-then-i-n
 returns-then-i-n c = c.in_row.ensures ∙ row_told c.args.t.now _ _ _ c.rows-rows.ensures c.count_of-n.ensures.0 c.if-i-n.true _ c.row.ensures.0
 
 pub returns : goal.returns
-returns c = c.nothing.ensures ∙ row_behind c.args.t.now _ _ _ c.rows-rows.ensures c.count_of-n.ensures.0 c.if-i-n.false
+returns c = row_behind c.args.t.now _ _ _ c.rows-rows.ensures c.count_of-n.ensures.0 c.if-i-n.false

@@ -17,4 +17,4 @@ pub returns-then-i-n : goal.returns-then-i-n
 returns-then-i-n c = c.in_row.ensures ∙ row_found c.args.t.now _ _ c.rows-rows.ensures c.count_of-n.ensures.0 _ _ c.place-i.ensures.0 c.if-i-n.true _ c.row.ensures.0
 
 pub returns : goal.returns
-returns c = c.nothing.ensures ∙ row_none c.args.t.now _ _ c.rows-rows.ensures c.count_of-n.ensures.0 _ _ c.place-i.ensures.0 c.if-i-n.false c.place-i.ensures.1
+returns c = row_none c.args.t.now _ _ c.rows-rows.ensures c.count_of-n.ensures.0 _ _ c.place-i.ensures.0 c.if-i-n.false c.place-i.ensures.1

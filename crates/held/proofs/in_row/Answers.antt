@@ -6,4 +6,4 @@ use mathlib.Core.Path.{ap}
 use Rattle.held.proofs.in_row.Goals as goal
 
 pub returns : goal.returns
-returns c = told_of _ _ _ _ (ap (λ (b : List ℕ). length b) c.body_of-body.ensures) c.state_of-state.ensures
+returns c = told_of _ _ _ _ (ap (λ (b : List ℕ). length b) c.body_of-body.ensures) c.state_of.ensures

@@ -1,9 +1,15 @@
-use Rattle.low.proofs.Open.{low_links}
-use mathlib.Core.Path.{◌∙◌}
+use Rattle.std.proofs.Common.{rules}
+use Rattle.terms.proofs.Checks.{chain}
+use Rattle.low.proofs.Open.{low_is}
 use Rattle.low.proofs.low_wrong.Goals as goal
 
 pub any_open-requires : goal.any_open-requires
 any_open-requires c = rw (c.rows.ensures, c.count_of.ensures.0) c.requires.1
 
+pub returns-in_err-refuse_if : goal.returns-in_err-refuse_if
+unfolding chain
+returns-in_err-refuse_if c = λ marks. rw (← low_is c.args.t.now c.args.low.0 marks) (search rules)
+
 pub returns : goal.returns
-returns c = λ marks. low_links c.args.t.now c.args.low.0 marks c.first.ensures (c.refuse_if-old.ensures ∙ (rw c.low_of.ensures)) (c.refuse_if-open.ensures ∙ (rw (c.any_open.ensures, c.count_of.ensures.0, c.rows.ensures)))
+unfolding chain
+returns c = λ marks. rw (← low_is c.args.t.now c.args.low.0 marks) (search rules)

@@ -1,6 +1,6 @@
-use lib.ListN.{length-set}
+use Rattle.std.proofs.Common.{◌∙◌, arith, rules}
+use Rattle.low.proofs.Bytes.{number_open}
 use Rattle.low.proofs.Passes.{raising_done, raising_more, raising_none, row_in}
-use native.Mathlib.Omega.{arith}
 use Rattle.low.proofs.raise.Goals as goal
 
 pub loop-i-init : goal.loop-i-init
@@ -12,11 +12,5 @@ pass_row-free-requires c = (row_in c.loop-i.invariant c.requires (rw (← c.coun
 pub loop-i-preserved : goal.loop-i-preserved
 loop-i-preserved c = raising_more c.loop-i.invariant c.requires (rw (← c.count_of-n.ensures.0) (omega arith)) c.pass_row-free.ensures.0 c.pass_row-free.ensures.1
 
-pub overflow_cast-t : goal.overflow_cast-t
-overflow_cast-t c = let a = c.loop-i.invariant.fits in let b = c.loop-i.invariant.within in let d = c.count_of-n.ensures.0 in let e = c.count_of-n.ensures.1 in omega arith
-
-pub shape_of-t : goal.shape_of-t
-shape_of-t c = let a = c.loop-i.invariant.long in simp length-set (omega arith)
-
 pub returns : goal.returns
-returns c = rw c.put_number.ensures (raising_done c.loop-i.invariant c.requires (rw (← c.count_of-n.ensures.0) (omega arith)))
+returns c = rw (c.put_u64.ensures ∙ number_open c.args.low.0 (search rules)) (raising_done c.loop-i.invariant c.requires (rw (← c.count_of-n.ensures.0) (omega arith)))

@@ -1,9 +1,5 @@
 use Rattle.low.proofs.Passes.{Raising}
-use Prim.Native.Nat.{◌-◌}
 use Rattle.low.proofs.raise.Given as goal
 
 abbrev pub invariant-loop-i : goal.invariant-loop-i
 invariant-loop-i l = Raising l.low.0 l.initial.t l.t l.i l.free
-
-abbrev pub decreases-loop-i : goal.decreases-loop-i
-decreases-loop-i l = l.n - l.i

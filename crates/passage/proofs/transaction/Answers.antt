@@ -5,4 +5,4 @@ use Rattle.passage.proofs.transaction.Goals as goal
 
 pub returns : goal.returns
 unfolding passage_tx held_tx
-returns c = (rw (c.reads_of-reads.ensures, c.writes_of-writes.ensures), omega arith, omega arith)
+returns c = (rw (c.reads_of.ensures, c.writes_of.ensures), omega arith, omega arith)

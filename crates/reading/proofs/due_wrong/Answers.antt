@@ -1,14 +1,25 @@
-use mathlib.Core.Path.{sym, ◌∙◌}
-use Rattle.terms.proofs.Checks.{pass, stop}
-use Rattle.reading.proofs.Cuts.{early_small, early_cut}
-use Rattle.reading.proofs.Answers.{due_chain}
+use Rattle.terms.proofs.Checks.{chain}
+use Rattle.std.proofs.Common.{rules, sym, ◌∙◌}
+use Rattle.reading.proofs.Cuts.{group_ok, group_err, early_cut}
+use Rattle.reading.proofs.Due.{due_chain}
 use Rattle.reading.proofs.due_wrong.Goals as goal
 
-pub returns-then-early-ne0 : goal.returns-then-early-ne0
-returns-then-early-ne0 c = stop _ _ _ c.early_wrong-early.ensures c.if-early-ne0.true ∙ due_chain _ _ _
+pub returns-in_err-g : goal.returns-in_err-g
+unfolding chain
+returns-in_err-g c = rw (← due_chain c.args.f c.args.m.now c.args.mark, group_err c.args.f (sym c.of.ensures ∙ c.in_err-g.was)) (search rules)
+
+pub returns-in_err-early_wrong : goal.returns-in_err-early_wrong
+unfolding chain
+returns-in_err-early_wrong c =
+    let p = group_ok c.args.f (sym c.of.ensures ∙ c.in_ok-g.was) in
+    rw (← due_chain c.args.f c.args.m.now c.args.mark, p.0, sym c.early_wrong.ensures ∙ c.in_err-early_wrong.was) (search rules)
 
 pub contents_wrong-requires : goal.contents_wrong-requires
-contents_wrong-requires c = let z = sym c.early_wrong-early.ensures ∙ c.if-early-ne0.false in (early_small _ _ _ z, early_cut _ _ _ z)
+unfolding chain
+contents_wrong-requires c = early_cut _ _ (sym c.early_wrong.ensures ∙ c.in_ok-early_wrong.was)
 
 pub returns : goal.returns
-returns c = pass (sym c.early_wrong-early.ensures ∙ c.if-early-ne0.false) c.contents_wrong.ensures ∙ due_chain _ _ _
+unfolding chain
+returns c =
+    let p = group_ok c.args.f (sym c.of.ensures ∙ c.in_ok-g.was) in
+    rw (← due_chain c.args.f c.args.m.now c.args.mark, p.0, sym c.early_wrong.ensures ∙ c.in_ok-early_wrong.was) (rw p.1 at c.contents_wrong.ensures)

@@ -1,37 +1,38 @@
-use mathlib.Core.Path.{◌∙◌}
-use Rattle.records.specs.declared.ViewMark.TheVariants.{VS, EL}
-use Rattle.records.specs.Cutting.{message_len}
-use Rattle.reading.proofs.Cuts.{long, pr_cuts, listed_cuts, listed_long, viewed_cuts, viewed_long}
+use Rattle.terms.proofs.Checks.{chain}
+use Rattle.std.proofs.Common.{arith}
+use Rattle.reading.proofs.Cuts.{rd_is, other_has, message_long, parts_cut, len_by, rd_whole, tx_long, tx_there, list_short}
 use Rattle.reading.proofs.message_len.Goals as goal
 
+pub returns-then-eq : goal.returns-then-eq
+unfolding chain
+returns-then-eq c = rw (rd_is c.args.mark c.eq.ensures c.if-eq.true) (rd_whole _)
+
 pub behind-requires : goal.behind-requires
-behind-requires c = (pr_cuts _ (rw c.in-PR.is at c.requires)).0
+unfolding chain
+behind-requires c = message_long _ c.args.mark c.requires
 
 pub tx_len-requires : goal.tx_len-requires
-tx_len-requires c = rw c.behind.ensures (long c.args.m.now (pr_cuts _ (rw c.in-PR.is at c.requires)).1)
+unfolding chain
+tx_len-requires c = let p = parts_cut _ c.args.mark (other_has c.args.mark c.eq.ensures c.if-eq.false) c.requires in rw c.behind.ensures (tx_long _ p.1)
 
-pub listed_len-requires : goal.listed_len-requires
-listed_len-requires c = listed_cuts _ c.args.mark c.in-LG.in-LG-own.keys2 c.requires
+pub list_part_of-requires : goal.list_part_of-requires
+unfolding chain
+list_part_of-requires c = let p = parts_cut _ c.args.mark (other_has c.args.mark c.eq.ensures c.if-eq.false) c.requires in (p.0, p.1)
 
-pub viewed_len-requires : goal.viewed_len-requires
-viewed_len-requires c = viewed_cuts VS _ (rw c.in-IV.is at c.requires)
+pub list_len-requires : goal.list_len-requires
+unfolding chain
+list_len-requires c = let p = parts_cut _ c.args.mark (other_has c.args.mark c.eq.ensures c.if-eq.false) c.requires in rw c.list_part_of.ensures p.2
 
-pub viewed_len-requires-in-LD : goal.viewed_len-requires-in-LD
-viewed_len-requires-in-LD c = viewed_cuts EL _ (rw c.in-LD.is at c.requires)
+pub overflow_add-result-2 : goal.overflow_add-result-2
+unfolding chain
+overflow_add-result-2 c =
+    let p = parts_cut _ c.args.mark (other_has c.args.mark c.eq.ensures c.if-eq.false) c.requires in
+    let a = tx_there _ p.1 in
+    let b = list_short c.args.mark _ p.2 in
+    rw (c.tx_len.ensures, c.list_len.ensures, c.behind.ensures, c.list_part_of.ensures) (omega arith)
 
-pub returns-in-PR : goal.returns-in-PR
-unfolding message_len
-returns-in-PR c = rw (c.in-PR.is, c.tx_len.ensures, c.behind.ensures)
-
-pub returns-in-LG : goal.returns-in-LG
-returns-in-LG c = c.listed_len.ensures ∙ listed_long _ c.args.mark c.in-LG.in-LG-own.keys2
-
-pub returns-in-RD : goal.returns-in-RD
-unfolding message_len
-returns-in-RD c = rw c.in-RD.is
-
-pub returns-in-IV : goal.returns-in-IV
-returns-in-IV c = rw c.in-IV.is (c.viewed_len.ensures ∙ viewed_long VS _)
-
-pub returns-in-LD : goal.returns-in-LD
-returns-in-LD c = rw c.in-LD.is (c.viewed_len-in-LD.ensures ∙ viewed_long EL _)
+pub returns : goal.returns
+unfolding chain
+returns c =
+    rw (c.tx_len.ensures, c.list_len.ensures, c.behind.ensures, c.list_part_of.ensures)
+    (len_by _ c.args.mark (other_has c.args.mark c.eq.ensures c.if-eq.false))

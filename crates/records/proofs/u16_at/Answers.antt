@@ -1,9 +1,6 @@
-use native.Mathlib.Nat.{add-zero}
-use Rattle.records.proofs.Bytes.{take_at_0}
-use Rattle.records.specs.Numbers.{num_at}
-use native.Mathlib.Omega.{arith}
+use Rattle.std.proofs.Common.{◌∙◌}
+use Rattle.records.proofs.Bytes.{number_2}
 use Rattle.records.proofs.u16_at.Goals as goal
 
 pub returns : goal.returns
-unfolding num_at
-returns c = rw (take_at_0 c.args.s.now c.args.at 2 (omega arith), add-zero) (omega arith)
+returns c = c.from_le_bytes.ensures ∙ number_2 _ _ _ c.requires (rw c.unwrap.ensures at c.try_into.ensures.1)

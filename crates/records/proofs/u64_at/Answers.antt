@@ -1,9 +1,6 @@
-use Rattle.records.specs.Numbers.{num_at}
-use native.Mathlib.Nat.{add-zero}
-use Rattle.records.proofs.Bytes.{take_at_0}
-use native.Mathlib.Omega.{arith}
+use Rattle.std.proofs.Common.{◌∙◌}
+use Rattle.records.proofs.Bytes.{number_8}
 use Rattle.records.proofs.u64_at.Goals as goal
 
 pub returns : goal.returns
-unfolding num_at
-returns c = rw (take_at_0 c.args.s.now c.args.at 8 (omega arith), add-zero) (omega arith)
+returns c = c.from_le_bytes.ensures ∙ number_8 _ _ _ c.requires (rw c.unwrap.ensures at c.try_into.ensures.1)

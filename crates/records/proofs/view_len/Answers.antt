@@ -7,6 +7,6 @@ pub returns-then-kind-eq2 : goal.returns-then-kind-eq2
 unfolding view_len
 returns-then-kind-eq2 c = (rw (eq-eqb _ _ c.if-kind-eq2.true), omega arith)
 
-pub returns : goal.returns
+pub returns-else-kind-eq2 : goal.returns-else-kind-eq2
 unfolding view_len
-returns c = (rw (ne_eqb _ _ c.if-kind-eq2.false), omega arith)
+returns-else-kind-eq2 c = (rw (ne_eqb _ _ c.if-kind-eq2.false), omega arith)

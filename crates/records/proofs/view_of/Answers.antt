@@ -11,6 +11,6 @@ pub returns-then-s-eq2 : goal.returns-then-s-eq2
 unfolding view_of
 returns-then-s-eq2 c = rw (eq-eqb _ _ c.if-s-eq2.true) c.u16_at.ensures
 
-pub returns : goal.returns
+pub returns-else-s-eq2 : goal.returns-else-s-eq2
 unfolding view_of
-returns c = rw (ne_eqb _ _ c.if-s-eq2.false)
+returns-else-s-eq2 c = rw (ne_eqb _ _ c.if-s-eq2.false)

@@ -6,7 +6,7 @@ pub returns-then-is_mark : goal.returns-then-is_mark
 returns-then-is_mark c = turn_ck _ _ _ (sym c.is_mark.ensures ∙ c.if-is_mark.true)
 
 pub returns-then-is_mark-2 : goal.returns-then-is_mark-2
-returns-then-is_mark-2 c = turn_low _ _ _ (sym c.is_mark.ensures ∙ c.if-is_mark.false) (sym c.is_mark-2.ensures ∙ c.if-is_mark-2.true) _ c.u64_at.ensures _ _ c.raise_low-raised.ensures.0 c.raise_low-raised.ensures.1
+returns-then-is_mark-2 c = turn_low _ _ _ (sym c.is_mark.ensures ∙ c.if-is_mark.false) (sym c.is_mark-else-is_mark.ensures ∙ c.if-is_mark-2.true) _ c.u64_at.ensures _ _ c.raise_low.ensures.0 c.raise_low.ensures.1
 
-pub returns : goal.returns
-returns c = turn_message _ _ _ (sym c.is_mark.ensures ∙ c.if-is_mark.false) (sym c.is_mark-2.ensures ∙ c.if-is_mark-2.false) _ _ _ c.receive-answer.ensures.0 c.receive-answer.ensures.1 c.receive-answer.ensures.2
+pub returns-else-is_mark-2 : goal.returns-else-is_mark-2
+returns-else-is_mark-2 c = turn_message _ _ _ (sym c.is_mark.ensures ∙ c.if-is_mark.false) (sym c.is_mark-else-is_mark.ensures ∙ c.if-is_mark-2.false) _ _ _ c.receive.ensures.0 c.receive.ensures.1 c.receive.ensures.2

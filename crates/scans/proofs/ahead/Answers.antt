@@ -1,11 +1,8 @@
-use Rattle.scans.proofs.Outcomes.{ahead_clock, ahead_yes, ahead_no}
+use Rattle.scans.proofs.Outcomes.{ahead_clock, ahead_delta}
 use Rattle.scans.proofs.ahead.Goals as goal
 
-pub returns-then-s-told : goal.returns-then-s-told
-returns-then-s-told c = let a = c.args in ahead_clock a.s.0 a.told c.if-s-told.true
-
 pub returns-then-told-s : goal.returns-then-told-s
-returns-then-told-s c = let a = c.args in ahead_yes a.s.0 a.told c.if-told-s.true
+returns-then-told-s c = ahead_delta c.args.s.0 c.args.told
 
-pub returns : goal.returns
-returns c = let a = c.args in ahead_no a.s.0 a.told c.if-told-s.false
+pub returns-else-told-s : goal.returns-else-told-s
+returns-else-told-s c = ahead_clock c.args.s.0 c.args.told c.if-told-s.false

@@ -1,23 +1,16 @@
-use mathlib.Core.Path.{refl, sym, ◌∙◌}
-use Rattle.terms.proofs.Scans.{found, go, end}
+use mathlib.Core.Path.{◌≡◌, ◌∙◌}
+use mathlib.Core.Bool.{false}
+use Rattle.std.proofs.Common.{rules}
+use Rattle.terms.specs.Choice.{any}
 use Rattle.rules.specs.Tests.{test4}
-use Rattle.table.proofs.Bodies.{begin_as}
+use Rattle.table.specs.Table.{entries}
+use Rattle.scans.specs.Keys.{lacks, keys_written}
 use Rattle.scans.specs.Scans.{hit4}
-use native.Mathlib.Omega.{arith}
+use Rattle.scans.proofs.Visits.{found_any}
 use Rattle.scans.proofs.test_4.Goals as goal
 
-pub loop-i-init : goal.loop-i-init
-unfolding test4 hit4
-loop-i-init c = begin_as refl
-
-pub hit_4-requires : goal.hit_4-requires
-hit_4-requires c = (rw c.row-e.ensures.0 (c.requires.0.rows c.loop-i.i (omega arith)), c.requires.1, rw (← c.writes_from.ensures, ← c.write_count.ensures.0) c.add_keys.ensures)
-
-pub returns-then-hit_4 : goal.returns-then-hit_4
-returns-then-hit_4 c = found c.loop-i.invariant (omega arith) (rw (← c.row-e.ensures.0) (sym c.hit_4.ensures ∙ c.if-hit_4.true))
-
-pub loop-i-preserved : goal.loop-i-preserved
-loop-i-preserved c = go c.loop-i.invariant (omega arith) (rw (← c.row-e.ensures.0) (sym c.hit_4.ensures ∙ c.if-hit_4.false))
-
 pub returns : goal.returns
-returns c = end c.loop-i.invariant (omega arith)
+unfolding test4 hit4
+returns c =
+    let k : any (lacks c.add_keys.new.keys) (keys_written c.args.b.now) ≡ false = rw (← c.writes_from.ensures, ← c.write_count.ensures.0) c.add_keys.ensures in
+    c.is_some.ensures ∙ found_any (hit4 c.args.b.now) (entries c.args.t.now c.args.n) (c.up_to.ensures (hit4 c.args.b.now) (λ e x r. search rules))

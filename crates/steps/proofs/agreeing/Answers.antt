@@ -1,20 +1,16 @@
-use mathlib.Core.Path.{◌∙◌}
-use borrow.Author.Tests.{eq-eqb, ne_eqb}
-use Rattle.records.specs.Views.{ballots_in, views_in}
-use Rattle.steps.proofs.Tallying.{count_begin, count_one, count_none, count_end, agree_passing}
-use native.Mathlib.Omega.{arith}
-use Rattle.steps.proofs.agreeing.Goals.{then-ballot-l, else-ballot-l}
+use Rattle.std.proofs.Common.{◌≡◌, ◌≤◌, ◌∙◌, sym, ap, List, length, map, take, count_by, rules}
+use Rattle.std.proofs.iter.runs.Made.{chains}
+use lib.Dec.{eqb}
+use Rattle.records.specs.declared.Ballot.{Ballot}
+use Rattle.records.specs.declared.ViewMark.TheVariants.{EL}
+use Rattle.records.specs.Views.{ballot_pair}
+use Rattle.rules.specs.Lists.{tally}
+use Rattle.steps.proofs.Tallying.{agree_counts, counted_small, views_taken}
 use Rattle.steps.proofs.agreeing.Goals as goal
 
-pub loop-j-init : goal.loop-j-init
-loop-j-init c = count_begin
-
-pub overflow_add-found : goal.overflow_add-found
-overflow_add-found c = let s = c.loop-j.invariant.small in omega arith
-
-pub loop-j-preserved : goal.loop-j-preserved
-loop-j-preserved c = elim c.if-ballot-l.branch [ then-ballot-l w ↦ count_one c.loop-j.invariant (omega arith) (eq-eqb _ _ w.if-ballot-l.true) w.found-is | else-ballot-l w ↦ count_none c.loop-j.invariant (omega arith) (ne_eqb _ _ w.if-ballot-l.false) w.found-is ]
-
 pub returns : goal.returns
-unfolding views_in
-returns c = let s = c.loop-j.invariant.small in (count_end c.loop-j.invariant (omega arith) ∙ agree_passing _ (ballots_in c.args.l.ballots) 0 c.args.l.count, omega arith)
+returns c =
+    let l = c.args.l in
+    let n : l.count ≤ length l.ballots = search rules in
+    let e : c.count.result ≡ count_by (λ b. eqb b.answer l.decision) (take l.count l.ballots) = search (rules, chains) in
+    (e ∙ agree_counts l.decision _ ∙ ap (λ (x : List Ballot). tally l.decision (map ballot_pair x)) (sym (views_taken l n EL)), rw e (counted_small _ _ _ c.requires))

@@ -7,5 +7,5 @@ use Rattle.steps.proofs.iv_undecided.Goals as goal
 pub returns-in-None : goal.returns-in-None
 returns-in-None c = c.refuse.ensures ∙ iv_unlogged _ _ _ (views_in VS _) _ c.in-None.is
 
-pub returns-in-Is : goal.returns-in-Is
-returns-in-Is c = c.iv_logged.ensures _ ∙ iv_logs _ _ _ (views_in VS _) _ _ _ c.in-Is.is
+pub returns-in-Some : goal.returns-in-Some
+returns-in-Some c = c.iv_logged.ensures _ ∙ iv_logs _ _ _ (views_in VS _) _ _ _ c.in-Some.is

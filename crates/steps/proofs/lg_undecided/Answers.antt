@@ -5,8 +5,8 @@ use Rattle.table.specs.Table.{entry_with}
 use Rattle.steps.proofs.Entries.{lg_logged, lg_free}
 use Rattle.steps.proofs.lg_undecided.Goals as goal
 
-pub returns-in-Is : goal.returns-in-Is
-returns-in-Is c b = c.keep.ensures ∙ lg_logged _ _ _ _ _ _ _ c.in-Is.is
+pub returns-in-Some : goal.returns-in-Some
+returns-in-Some c b = c.keep.ensures ∙ lg_logged _ _ _ _ _ _ _ c.in-Some.is
 
 pub returns-in-None : goal.returns-in-None
 unfolding entry_with

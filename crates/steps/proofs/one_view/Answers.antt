@@ -1,22 +1,15 @@
-use mathlib.Core.Path.{ap}
-use mathlib.Core.Bool.{not}
-use borrow.Author.Tests.{eq-eqb, ne_eqb}
-use Rattle.terms.proofs.Scans.{begin, found, go, end}
-use Rattle.records.specs.Views.{views_in}
+use Rattle.std.proofs.Common.{◌≤◌, ◌∙◌, ap, sym, length, take, rules, IsTrue, ◌↔◌}
+use Rattle.std.specs.List.{AllPass}
+use Rattle.std.proofs.iter.runs.Made.{chains}
+use lib.Dec.{eqb}
+use Rattle.records.specs.declared.ViewMark.TheVariants.{EL}
 use Rattle.rules.specs.Fallback.{one_view}
-use native.Mathlib.Omega.{arith}
+use Rattle.steps.proofs.Tallying.{one_view_told, views_taken}
 use Rattle.steps.proofs.one_view.Goals as goal
 
-pub loop-j-init : goal.loop-j-init
-loop-j-init c = begin
-
-pub returns-then-ballot-l : goal.returns-then-ballot-l
-unfolding one_view views_in
-returns-then-ballot-l c = ap not (found c.loop-j.invariant (omega arith) (rw (ne_eqb _ _ c.if-ballot-l.true)))
-
-pub loop-j-preserved : goal.loop-j-preserved
-loop-j-preserved c = go c.loop-j.invariant (omega arith) (rw (eq-eqb _ _ c.if-ballot-l.false))
-
 pub returns : goal.returns
-unfolding one_view views_in
-returns c = ap not (end c.loop-j.invariant (omega arith))
+returns c =
+    let l = c.args.l in
+    let n : l.count ≤ length l.ballots = search rules in
+    let e : IsTrue c.all.result ↔ AllPass (λ b. eqb b.view.0 l.view.0) (take l.count l.ballots) = search (rules, chains) in
+    one_view_told _ _ _ e ∙ ap (one_view l.view.0) (sym (views_taken l n EL))

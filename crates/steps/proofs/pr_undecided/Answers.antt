@@ -2,21 +2,21 @@ use mathlib.Core.Path.{◌∙◌}
 use Rattle.rules.specs.Bodies.{stamp_of}
 use Rattle.table.specs.Table.{box_from}
 use Rattle.steps.proofs.Entries.{pr_commit, pr_abort, pr_waiting, pr_unvoted}
+use Rattle.steps.proofs.Tallying.{by_branch}
 use Rattle.steps.proofs.Looking.{own_most}
 use native.Mathlib.Omega.{arith}
 use Rattle.steps.proofs.pr_undecided.Goals as goal
 
-pub overflow_add-visited : goal.overflow_add-visited
-overflow_add-visited c = let r = c.requires.0.room in let o = own_most c.args.t.now c.args.n (stamp_of c.args.b.now) c.args.own c.requires.2 in let k = c.waiting_rule-again.ensures.2 in omega arith
+pub overflow_add-own : goal.overflow_add-own
+overflow_add-own c = let r = c.requires.0.room in let o = own_most c.args.t.now c.args.n (stamp_of c.args.b.now) c.args.own c.requires.2 in let k = c.waiting_rule-again.ensures.2 in omega arith
 
-pub overflow_add-visited-in-None : goal.overflow_add-visited-in-None
-overflow_add-visited-in-None c = let r = c.requires.0.room in let o = own_most c.args.t.now c.args.n (stamp_of c.args.b.now) c.args.own c.requires.2 in let k = c.first_vote-first.ensures.3 in omega arith
+pub overflow_add-own-in-None : goal.overflow_add-own-in-None
+overflow_add-own-in-None c = let r = c.requires.0.room in let o = own_most c.args.t.now c.args.n (stamp_of c.args.b.now) c.args.own c.requires.2 in let k = c.first_vote-first.ensures.3 in omega arith
 
 pub returns-in-Commit : goal.returns-in-Commit
-returns-in-Commit c = c.keep.ensures ∙ pr_commit _ _ (box_from _ _ _) _ _ c.in-Commit.is
-
-pub returns-in-Abort : goal.returns-in-Abort
-returns-in-Abort c = c.keep-in-Abort.ensures ∙ pr_abort _ _ (box_from _ _ _) _ _ _ c.in-Abort.is
+returns-in-Commit c =
+    c.keep.ensures
+    ∙ by_branch c.in-Commit.is (pr_commit _ _ (box_from _ _ _) _ _) (λ h. pr_abort _ _ (box_from _ _ _) _ _ h.0 h.1)
 
 pub returns-in-Waiting : goal.returns-in-Waiting
 returns-in-Waiting c = c.cast.ensures ∙ pr_waiting _ _ (box_from _ _ _) _ _ _ _ _ c.in-Waiting.is c.waiting_rule-again.ensures.0 c.requires.2 c.waiting_rule-again.ensures.1

@@ -1,12 +1,9 @@
 use Prim.Native.Nat.{◌+◌}
 use mathlib.Core.Path.{sym, ◌∙◌}
-use Rattle.terms.proofs.Scans.{begin, found, go}
+use Rattle.terms.proofs.Scans.{found, go}
 use Rattle.table.proofs.Bodies.{go_to}
 use native.Mathlib.Omega.{arith}
 use Rattle.table.proofs.any_bad.Goals as goal
-
-pub loop-i-init : goal.loop-i-init
-loop-i-init c = begin
 
 pub returns-then-bad_at : goal.returns-then-bad_at
 returns-then-bad_at c = found c.loop-i.invariant (omega arith) (sym c.bad_at.ensures ∙ c.if-bad_at.true)
@@ -22,6 +19,3 @@ returns-then-bad_at-4 c = found (go_to (go_to (go c.loop-i.invariant (omega arit
 
 pub loop-i-preserved : goal.loop-i-preserved
 loop-i-preserved c = go_to (go_to (go_to (go c.loop-i.invariant (omega arith) (sym c.bad_at.ensures ∙ c.if-bad_at.false)) (c.loop-i.i + 2) (omega arith) (sym c.bad_at-in-loop-i.ensures ∙ c.if-bad_at-2.false) (omega arith)) (c.loop-i.i + 3) (omega arith) (sym c.bad_at-in-loop-i-2.ensures ∙ c.if-bad_at-3.false) (omega arith)) (c.loop-i.i + 4) (omega arith) (sym c.bad_at-in-loop-i-3.ensures ∙ c.if-bad_at-4.false) (omega arith)
-
-pub returns : goal.returns
-returns c = c.bad_from.ensures ∙ c.loop-i.invariant.same

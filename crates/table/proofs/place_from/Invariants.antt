@@ -1,11 +1,8 @@
-use Prim.Native.Nat.{◌+◌, ◌-◌}
+use Rattle.std.proofs.Common.{◌+◌, ◌-◌}
 use Rattle.terms.specs.Choice.{tab}
 use Rattle.table.specs.Table.{entry_at, place}
 use Rattle.table.proofs.Looking.{Seek}
 use Rattle.table.proofs.place_from.Given as goal
 
-abbrev pub invariant-loop-at : goal.invariant-loop-at
-invariant-loop-at l = Seek l.s.0 (entry_at l.t) l.n (l.from + place l.s.0 (tab (entry_at l.t) l.from (l.n - l.from))) l.at
-
-abbrev pub decreases-loop-at : goal.decreases-loop-at
-decreases-loop-at l = l.n - l.at
+abbrev pub invariant-loop-i : goal.invariant-loop-i
+invariant-loop-i l = Seek l.s.0 (entry_at l.t) l.n (l.from + place l.s.0 (tab (entry_at l.t) l.from (l.n - l.from))) l.i

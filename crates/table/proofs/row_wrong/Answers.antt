@@ -1,4 +1,4 @@
-use mathlib.Core.Path.{sym, ◌∙◌}
+use Rattle.std.proofs.Common.{sym, ◌∙◌}
 use Rattle.table.proofs.Looks.{plain_right}
 use Rattle.table.proofs.row_wrong.Goals as goal
 

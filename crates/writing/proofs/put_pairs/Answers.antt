@@ -1,13 +1,12 @@
-use Rattle.writing.proofs.Laid.{fill_none, fill_more, pairs_all}
-use native.Mathlib.Omega.{arith}
-use borrow.Author.Rules.{rules}
+use Rattle.std.proofs.Common.{refl, arith}
+use Rattle.writing.proofs.Laid.{fill_none, fill_more, fill_all, pairs, puts_as}
 use Rattle.writing.proofs.put_pairs.Goals as goal
 
-pub loop-j-init : goal.loop-j-init
-loop-j-init c = fill_none (omega arith)
+pub loop-pair-init : goal.loop-pair-init
+loop-pair-init c = fill_none
 
-pub loop-j-preserved : goal.loop-j-preserved
-loop-j-preserved c = search (fill_more, rules)
+pub loop-pair-preserved : goal.loop-pair-preserved
+loop-pair-preserved c = fill_more c.loop-pair.invariant _ c.requires (omega arith) refl c.put_two-next.ensures
 
 pub returns : goal.returns
-returns c = search (pairs_all, rules)
+returns c = puts_as (pairs _) (fill_all c.loop-pair.invariant (omega arith))

@@ -12,6 +12,6 @@ pub returns-then-kind-eq2 : goal.returns-then-kind-eq2
 unfolding view_len view_bytes
 returns-then-kind-eq2 c = let p = c.put_short.ensures in rw (eq-eqb _ _ c.if-kind-eq2.true) (p, p.place)
 
-pub returns : goal.returns
+pub returns-else-kind-eq2 : goal.returns-else-kind-eq2
 unfolding view_len view_bytes
-returns c = rw (ne_eqb _ _ c.if-kind-eq2.false) (put_none, omega arith)
+returns-else-kind-eq2 c = rw (ne_eqb _ _ c.if-kind-eq2.false) (put_none, omega arith)

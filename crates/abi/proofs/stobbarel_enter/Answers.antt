@@ -1,4 +1,0 @@
-use Rattle.abi.proofs.stobbarel_enter.Goals as goal
-
-pub returns : goal.returns
-returns c = rw (← c.seen_of-seen.ensures, ← c.values_of.ensures, ← c.enter-m.ensures) c.put_made.ensures

@@ -1,7 +1,0 @@
-use mathlib.Core.Path.{◌∙◌, ap}
-use Rattle.held.specs.declared.Holding.{Holding}
-use Rattle.held.specs.Held.{holding_row}
-use Rattle.abi.proofs.stobbarel_held.Goals as goal
-
-pub returns : goal.returns
-returns c = let h = c.held-holding.ensures in (ap (λ (x : Holding). x.wrong) h, c.put_eight.ensures ∙ c.numbers.ensures ∙ ap (λ (x : Holding). holding_row x) h)

@@ -1,5 +1,0 @@
-use Rattle.abi.proofs.Left.{left_by_lem}
-use Rattle.abi.proofs.stobbarel_write_pr.Goals as goal
-
-pub returns : goal.returns
-returns c = rw (← c.tx-x.ensures) (left_by_lem _ _ _ _ _ _ _ c.wrote.ensures.0 c.wrote.ensures.1 c.write_pr-written.ensures.0 c.write_pr-written.ensures.1)

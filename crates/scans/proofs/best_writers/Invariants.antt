@@ -1,9 +1,0 @@
-use Rattle.table.specs.Table.{entry_at}
-use Rattle.scans.proofs.Written.{Newer}
-use Rattle.scans.proofs.best_writers.Given as goal
-
-abbrev pub invariant-loop-i : goal.invariant-loop-i
-invariant-loop-i l = Newer l.k.0 l.s.0 (entry_at l.t) l.n l.x l.i
-
-abbrev pub decreases-loop-i : goal.decreases-loop-i
-decreases-loop-i l = l.i

@@ -1,6 +1,0 @@
-use Rattle.rules.specs.Tests.{fold_above}
-use Rattle.scans.proofs.fold_above.Goals as goal
-
-pub returns : goal.returns
-unfolding fold_above
-returns c = rw c.fold_of-folded.ensures

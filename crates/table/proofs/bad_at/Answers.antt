@@ -1,4 +1,0 @@
-use Rattle.table.proofs.bad_at.Goals as goal
-
-pub returns : goal.returns
-returns c = cc

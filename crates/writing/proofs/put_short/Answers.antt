@@ -1,6 +1,0 @@
-use Rattle.writing.proofs.Laid.{put_part}
-use borrow.Author.Rules.{rules}
-use Rattle.writing.proofs.put_short.Goals as goal
-
-pub returns : goal.returns
-returns c = search (rules, put_part)
