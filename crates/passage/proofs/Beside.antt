@@ -23,7 +23,7 @@ use Rattle.passage.specs.declared.Seen.{Seen}
 use Rattle.passage.specs.Passages.{key_at, values_of}
 use Rattle.passage.specs.Corrections.{read_of, write_of, turned, passage_tx, made_after, direction_corrected, corrected, entered}
 use Rattle.passage.specs.Register.{MadeAs, MadeOf, by_entry, by_correction, by_direction, OneOfALook}
-use Rattle.passage.proofs.Shown.{made_by_lem, made_as}
+use Rattle.passage.proofs.Shown.{body_made, made_as}
 
 -- whichever it is, it is the passage's transaction, and in order
 record Plain (p : ℕ) (seen : Seen) (b : Body) : Type 0 where
@@ -37,7 +37,7 @@ plain_by c p seen v b h =
     record {
       values = v;
       tx = (made_as c p seen (stamp_of b) v b h).1;
-      fine = rest_none c _ (made_by_lem _ (passage_tx p seen (stamp_of b) v) b h).0;
+      fine = rest_none c _ (body_made _ (passage_tx p seen (stamp_of b) v) b h).0;
     }
 
 plain : (p : ℕ) (seen : Seen) (b : Body) → MadeOf p seen b → Plain p seen b

@@ -9,8 +9,10 @@ use native.Mathlib.Omega.{arith}
 use lib.Dec.{T, eqb, eqb_refl}
 use borrow.Author.Tests.{eq-eqb, ne_eqb}
 use Rattle.std.specs.Prelude.{Ok, Err}
+use Rattle.std.proofs.Common.{true≢false, is_err}
 use Rattle.terms.specs.Checks.{Check, passed, or_else}
 use Rattle.terms.proofs.Checks.{first_none, rest_none}
+use Rattle.records.specs.declared.Transaction.{Transaction}
 use Rattle.records.specs.declared.Write.{Write}
 use Rattle.records.specs.Tx.{Tx, tx_of, tx_in, held_tx, write_key, write_value}
 use Rattle.rules.specs.Bodies.{Body, stamp_of, writes_of, writes_key}
@@ -110,17 +112,24 @@ module _ (x : Box) (p s : ℕ) (seen : Seen) (v : Values) (b : Body) (made : tx_
   report_last low fine = report_is x p s ∙ (ap (report_of p) seen_last ∙ report_standing p (stamp_of b) v low fine)
 
 -- ---- what was made
-pub made_by_lem : (c : Check) (x : Tx) (b : Body) → MadeAs (made_by c x) b → (c ≡ passed) × (tx_of b ≡ tx_in (held_tx x))
+-- whole, with the zeros of the places that are not used
+pub made_by_lem : (c : Check) (x : Tx) (t : Transaction) → made_by c x ≡ Ok t → (c ≡ passed) × (t ≡ held_tx x)
 unfolding made_by or_else
-made_by_lem (Ok _) x b h = (refl, h)
-made_by_lem (Err r) x b h = absurd h
+made_by_lem (Ok _) x t h = (refl, cc)
+made_by_lem (Err r) x t h = absurd (true≢false (ap is_err h))
+
+-- as a body has it
+pub body_made : (c : Check) (x : Tx) (b : Body) → MadeAs (made_by c x) b → (c ≡ passed) × (tx_of b ≡ tx_in (held_tx x))
+unfolding made_by or_else
+body_made (Ok _) x b h = (refl, h)
+body_made (Err r) x b h = absurd h
 
 -- nothing was refused, and the body is the passage's transaction
 pub made_as : (c : Check) (p : ℕ) (seen : Seen) (stamp : ℕ) (v : Values) (b : Body) → MadeAs (made_after c (passage_tx p seen stamp v)) b
     → (c ≡ passed) × (tx_of b ≡ passage_tx p seen stamp v)
 unfolding made_after
 made_as c p seen stamp v b h =
-    let m = made_by_lem _ (passage_tx p seen stamp v) b h in
+    let m = body_made _ (passage_tx p seen stamp v) b h in
     (first_none c _ m.0, m.1 ∙ tx_held p seen stamp v)
 
 made_low : (p : ℕ) (seen : Seen) (stamp : ℕ) (v : Values) (b : Body) → MadeAs (entered p seen stamp v) b → p ≤ 127

@@ -5,20 +5,23 @@ use borrow.Rule.Slice.PartMut.{put_mid}
 use lib.Seq.{drop-drop}
 use Rattle.records.specs.Numbers.{le_bytes}
 use Rattle.rules.specs.Answers.{log_view}
+use Rattle.terms.specs.declared.View.{View}
 use Rattle.table.specs.declared.State.{State}
-use Rattle.table.specs.Table.{vote_at, log_view_at, view_at, body_at, row_tx, codes_of, new_row}
+use Rattle.table.specs.Table.{vote_at, log_view_at, view_at, body_at, row_tx, view_bytes, codes_of, new_row}
+
+-- a view of sixteen bits, as `put_u16` puts it down
+pub view_put : (v : View) → v.0 < 2 ^ 16 → le_bytes 2 v.0 ≡ view_bytes v
+view_put v h = let u : v.0 / 256 % 256 ≡ v.0 / 256 = omega arith in rw u
 
 -- codes and two views put down in a row, each in a part that is lent and given back
 abbrev headed : List ℕ → State → List ℕ
 headed d x =
     put_mid view_at (body_at - view_at)
-    (put_mid log_view_at (view_at - log_view_at) (put_mid vote_at (log_view_at - vote_at) d (codes_of x)) (le_bytes 2 (log_view x.log).0)) (le_bytes 2 x.view.0)
+    (put_mid log_view_at (view_at - log_view_at) (put_mid vote_at (log_view_at - vote_at) d (codes_of x)) (view_bytes (log_view x.log))) (view_bytes x.view)
 
--- and a body behind them
-pub row_put : (d b : List ℕ) (x : State) → (log_view x.log).0 < 2 ^ 16 → x.view.0 < 2 ^ 16 → put_mid body_at (body_at + length b - body_at) (headed d x) b ≡ new_row d b x
+-- and a body behind them, whatever the views
+pub row_put : (d b : List ℕ) (x : State) → put_mid body_at (body_at + length b - body_at) (headed d x) b ≡ new_row d b x
 unfolding new_row
-row_put d b x h k =
-    let l : (log_view x.log).0 / 256 % 256 ≡ (log_view x.log).0 / 256 = omega arith in
-    let v : x.view.0 / 256 % 256 ≡ x.view.0 / 256 = omega arith in
+row_put d b x =
     let e : drop (body_at - view_at) (drop (view_at - log_view_at) (drop log_view_at d)) ≡ row_tx d = drop-drop 2 2 (drop 4 d) ∙ drop-drop 4 4 d in
-    rw (l, v, e, add-sub_cancel_left body_at (length b))
+    rw (e, add-sub_cancel_left body_at (length b))
