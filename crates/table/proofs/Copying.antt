@@ -1,17 +1,11 @@
 -- A row that is written: codes and views, and a body behind them.
-use Rattle.std.proofs.Common.{◌≡◌, ℕ, ◌+◌, ◌-◌, ◌/◌, ◌%◌, ◌^◌, ◌<◌, List, length, drop, ◌∙◌, arith}
+use Rattle.std.proofs.Common.{◌≡◌, ℕ, ◌+◌, ◌-◌, List, length, drop, ◌∙◌}
 use native.Mathlib.Nat.{add-sub_cancel_left}
 use borrow.Rule.Slice.PartMut.{put_mid}
 use lib.Seq.{drop-drop}
-use Rattle.records.specs.Numbers.{le_bytes}
 use Rattle.rules.specs.Answers.{log_view}
-use Rattle.terms.specs.declared.View.{View}
 use Rattle.table.specs.declared.State.{State}
 use Rattle.table.specs.Table.{vote_at, log_view_at, view_at, body_at, row_tx, view_bytes, codes_of, new_row}
-
--- a view of sixteen bits, as `put_u16` puts it down
-pub view_put : (v : View) → v.0 < 2 ^ 16 → le_bytes 2 v.0 ≡ view_bytes v
-view_put v h = let u : v.0 / 256 % 256 ≡ v.0 / 256 = omega arith in rw u
 
 -- codes and two views put down in a row, each in a part that is lent and given back
 abbrev headed : List ℕ → State → List ℕ

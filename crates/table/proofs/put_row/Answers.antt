@@ -1,9 +1,16 @@
-use Rattle.std.proofs.Common.{◌∙◌, rules}
-use Rattle.table.proofs.Copying.{row_put, view_put}
+use Rattle.std.proofs.Common.{◌≡◌, ◌/◌, ◌%◌, ◌^◌, ◌<◌, ◌∙◌, arith, rules}
+use Rattle.terms.specs.declared.View.{View}
+use Rattle.records.specs.Numbers.{le_bytes}
+use Rattle.table.specs.Table.{view_bytes}
+use Rattle.table.proofs.Copying.{row_put}
 use Rattle.table.proofs.put_row.Goals as goal
+
+-- what `put_u16` puts down of a view, which code has in sixteen bits
+put_down : (v : View) → v.0 < 2 ^ 16 → le_bytes 2 v.0 ≡ view_bytes v
+put_down v h = let u : v.0 / 256 % 256 ≡ v.0 / 256 = omega arith in rw u
 
 pub returns : goal.returns
 returns c =
-    let l = c.put_u16.ensures ∙ view_put c.log_view.result (search rules) in
-    let v = c.put_u16-2.ensures ∙ view_put c.args.x.view (search rules) in
+    let l = c.put_u16.ensures ∙ put_down c.log_view.result (search rules) in
+    let v = c.put_u16-2.ensures ∙ put_down c.args.x.view (search rules) in
     rw (c.copy_from_slice.ensures.after, v, l, c.log_view.ensures, c.put_codes.ensures) (row_put c.args.e.now c.args.body.now c.args.x)
