@@ -96,7 +96,7 @@ fn fold_row(t: &mut [u8], i: usize)
     }
 }
 
-// Row `i` at the free place, which is its own or before it.
+// Row `i` at the free place, which is its own or before it: then the two lie apart.
 fn move_row(t: &mut [u8], i: usize, free: usize)
     requires { RowThere t.old i × (free ≤ i) }
     ensures { t.new ≡ moved i free t.old }
@@ -106,7 +106,8 @@ fn move_row(t: &mut [u8], i: usize, free: usize)
     }
     let from = table::HEAD + i * table::ROW;
     let to = table::HEAD + free * table::ROW;
-    t.copy_within(from..from + table::ROW, to);
+    let (front, behind) = t.split_at_mut(from);
+    front[to..to + table::ROW].copy_from_slice(&behind[..table::ROW]);
 }
 
 // Row `i` folds, is dropped or moves to the free place; the free place then.

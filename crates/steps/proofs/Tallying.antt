@@ -1,8 +1,9 @@
 -- The list's codes, and what is counted of its pairs and its ballots.
-use Rattle.std.proofs.Common.{ℕ, zero, suc, ◌-◌, ◌<◌, ◌≤◌, arith, add-one, ◌≡◌, refl, ap, sym, ◌∙◌, Bool, IsTrue, ◌↔◌, rules, true, false, not, cond, ◌&&◌, ◌||◌, count_by, List, [], ◌∷◌, map, length, take, get_or, length-take, ◌⊎◌, inl, inr}
+use Rattle.std.proofs.Common.{ℕ, zero, suc, ◌+◌, ◌-◌, ◌<◌, ◌≤◌, arith, add-one, ◌≡◌, refl, ap, sym, ◌∙◌, Bool, IsTrue, ◌↔◌, rules, true, false, not, cond, ◌&&◌, ◌||◌, count_by, List, [], ◌∷◌, map, length, take, drop, get_or, length-take, ◌⊎◌, inl, inr}
 use Rattle.std.proofs.lemmas.List.Sums.{sum_by-cons, count_by-le-length, list_all-from_AllPass, AllPass-from_list_all}
 use Rattle.std.specs.List.{list_all, AllPass}
 use lib.Dec.{eqb, leb}
+use lib.ListN.{drop_of_length-le}
 use Rattle.terms.specs.Choice.{tab}
 use Rattle.terms.proofs.Scans.{tab_map, tab_shift}
 use Rattle.records.specs.declared.Ballot.{Ballot}
@@ -43,6 +44,10 @@ module _ (l : ViewList) (h : l.count ≤ length l.ballots) where
 
 pub counted_small : {A : Type 0} (p : A → Bool) (a : List A) (n : ℕ) → n ≤ 26 → count_by p (take n a) ≤ 26
 counted_small p a n h = omega (arith, count_by-le-length p (take n a), length-take n a)
+
+-- a count that goes through a list: what it has found, and what is still to be found, are the whole
+pub counted_all : {A : Type 0} (p : A → Bool) (a : List A) (i n : ℕ) → n + count_by p (drop i a) ≡ count_by p a → length a ≤ i → n ≡ count_by p a
+counted_all p a i n h k = let q = rw (drop_of_length-le a k) at h in omega arith
 
 -- ---- the counts of the rules: of pairs by their answer, of ballots by theirs and by their view
 bit_cond : (t : Bool) → cond t 1 0 ≡ bit t

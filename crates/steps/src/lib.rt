@@ -464,12 +464,19 @@ pub fn rd_step(h: &[u8], t: &[u8], n: usize, told: Told, k: Key, s: Stamp) -> St
 
 // ---- views
 
-// How many of the listed are at the view or above it.
+// How many of the listed are at the view or above it. A `for`, since it is asked for each of them: `filter` and `count` take half as long again.
 fn reach(l: ViewList, v: View) -> usize
     requires { l.count ≤ 26 }
     ensures { (result ≡ reach v.0 (views_in VS l).ballots) × (result ≤ 26) }
 {
-    l.ballots[..l.count].iter().filter(|b| v <= b.view).count()
+    let listed = &l.ballots[..l.count];
+    let mut found = 0;
+    for b in listed {
+        if v <= b.view {
+            found += 1;
+        }
+    }
+    found
 }
 
 // The largest listed view that so many of all are at or above.

@@ -461,6 +461,16 @@ fn put_codes(s: &mut [u8], x: State)
     s[LOG_AT] = rules::log_number(log);
 }
 
+// A body over bytes that are as many. A loop of its own: for `copy_from_slice` the archive would ask for `memmove`, which a box may not have.
+fn put_body(s: &mut [u8], body: &[u8])
+    requires { length s.old ≡ length body.now }
+    ensures { s.new ≡ body.now }
+{
+    for i in 0..body.len() {
+        s[i] = body[i];
+    }
+}
+
 // A row of this body and of what is held beside it.
 fn put_row(e: &mut [u8], body: &[u8], x: State)
     requires { (length e.old ≡ row_len) × (body_at + length body.now ≤ row_len) }
@@ -470,7 +480,7 @@ fn put_row(e: &mut [u8], body: &[u8], x: State)
     put_codes(&mut e[VOTE_AT..LOG_VIEW_AT], x);
     records::put_u16(&mut e[LOG_VIEW_AT..VIEW_AT], rules::log_view(log).0);
     records::put_u16(&mut e[VIEW_AT..BODY_AT], x.view.0);
-    e[BODY_AT..BODY_AT + body.len()].copy_from_slice(body);
+    put_body(&mut e[BODY_AT..BODY_AT + body.len()], body);
 }
 
 // The count once row `i` is stored: one more where `i` is behind the last.

@@ -13,4 +13,4 @@ pub returns : goal.returns
 returns c =
     let l = c.put_u16.ensures ∙ put_down c.log_view.result (search rules) in
     let v = c.put_u16-2.ensures ∙ put_down c.args.x.view (search rules) in
-    rw (c.copy_from_slice.ensures.after, v, l, c.log_view.ensures, c.put_codes.ensures) (row_put c.args.e.now c.args.body.now c.args.x)
+    rw (c.put_body.ensures, v, l, c.log_view.ensures, c.put_codes.ensures) (row_put c.args.e.now c.args.body.now c.args.x)
