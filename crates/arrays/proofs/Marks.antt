@@ -1,25 +1,19 @@
--- A message's number names its mark again.
+-- A mark's number names the mark again, by itself and as a message has it.
 use Rattle.std.proofs.Common.{◌≡◌, refl}
 use Rattle.std.specs.Prelude.{Ok}
 use Rattle.records.specs.declared.Mark.{Mark}
 use Rattle.records.specs.declared.Mark.TheVariants.{PR, LG, DC, RD, IV, LD}
 use Rattle.records.specs.declared.Message.{Message}
-use Rattle.records.specs.declared.Message.TheVariants.{PR as pr, LG as lg, DC as dc, RD as rd, IV as iv, LD as ld}
-use Rattle.arrays.specs.Arrays.{mark_number, marked_by}
+use Rattle.arrays.specs.Arrays.{number_of_mark, mark_in, mark_number, marked_by}
 
-abbrev mark_in : Message → Mark
-mark_in (pr x) = PR
-mark_in (lg x l) = LG
-mark_in (dc x l) = DC
-mark_in (rd k s) = RD
-mark_in (iv x l) = IV
-mark_in (ld x l) = LD
+pub mark_alone_named : (k : Mark) → marked_by (number_of_mark k) ≡ Ok k
+unfolding marked_by
+mark_alone_named PR = refl
+mark_alone_named LG = refl
+mark_alone_named DC = refl
+mark_alone_named RD = refl
+mark_alone_named IV = refl
+mark_alone_named LD = refl
 
 pub mark_named : (m : Message) → marked_by (mark_number (Ok m)) ≡ Ok (mark_in m)
-unfolding marked_by
-mark_named (pr x) = refl
-mark_named (lg x l) = refl
-mark_named (dc x l) = refl
-mark_named (rd k s) = refl
-mark_named (iv x l) = refl
-mark_named (ld x l) = refl
+mark_named m = mark_alone_named (mark_in m)

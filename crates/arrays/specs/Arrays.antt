@@ -21,6 +21,7 @@ use Rattle.records.specs.declared.Mark.{Mark}
 use Rattle.records.specs.declared.Mark.TheVariants.{PR, LG, DC, RD, IV, LD}
 use Rattle.records.specs.declared.Message.{Message}
 use Rattle.records.specs.declared.Message.TheVariants.{PR as pr, LG as lg, DC as dc, RD as rd, IV as iv, LD as ld}
+use Rattle.arrays.specs.declared.Parts.{Parts}
 
 -- ---- put together
 abbrev pub lent_read : List ℕ → List ℕ → ℕ → Read
@@ -63,10 +64,13 @@ lent_views leader decision view count numbers answers views =
       ballots = tab (lent_ballot numbers answers views) 0 26;
     }
 
--- ---- an answer: the refusal's number; 0 where something is answered
+-- ---- an answer: the refusal's number; 0 where something is answered. What its caller holds for a refusal tells the number by g
+abbrev pub number_by : {A E : Type 0} → (E → ℕ) → Result A E → ℕ
+number_by g (Ok a) = 0
+number_by g (Err r) = g r
+
 abbrev pub refusal_number : {A : Type 0} → Result A Refusal → ℕ
-refusal_number (Ok a) = 0
-refusal_number (Err r) = number_of r
+refusal_number x = number_by number_of x
 
 -- what is put down of it; zeros where it was refused
 abbrev pub tx_or_none : Result Transaction Refusal → Transaction
@@ -119,15 +123,31 @@ ballot_views a = tab (λ j. (ballots_in a j).view.0) 0 26
 abbrev pub found_number : Result Message Refusal → ℕ
 found_number x = refusal_number x
 
+-- a mark's number, and a message's mark
+abbrev pub number_of_mark : Mark → ℕ
+number_of_mark PR = 1
+number_of_mark LG = 2
+number_of_mark DC = 3
+number_of_mark RD = 4
+number_of_mark IV = 5
+number_of_mark LD = 6
+
+abbrev pub mark_in : Message → Mark
+mark_in (pr x) = PR
+mark_in (lg x l) = LG
+mark_in (dc x l) = DC
+mark_in (rd k s) = RD
+mark_in (iv x l) = IV
+mark_in (ld x l) = LD
+
+-- which message was found, where g tells its mark; 0 where it was refused
+abbrev pub mark_number_by : {A E : Type 0} → (A → Mark) → Result A E → ℕ
+mark_number_by g (Ok x) = number_of_mark (g x)
+mark_number_by g (Err r) = 0
+
 -- which message was read; 0 where it was refused
 abbrev pub mark_number : Result Message Refusal → ℕ
-mark_number (Ok (pr x)) = 1
-mark_number (Ok (lg x l)) = 2
-mark_number (Ok (dc x l)) = 3
-mark_number (Ok (rd k s)) = 4
-mark_number (Ok (iv x l)) = 5
-mark_number (Ok (ld x l)) = 6
-mark_number (Err r) = 0
+mark_number x = mark_number_by mark_in x
 
 -- the mark that a number names; "mark is not the one due" where it names none
 unfoldable pub marked_by : ℕ → Result Mark Refusal
@@ -241,6 +261,68 @@ fields_of x =
     (write_values (tx_in_reading x).writes)
     (pair_numbers (list_in_reading x).pairs)
     (pair_answers (list_in_reading x).pairs)
+
+-- ---- the parts of a message by themselves, in any combination: an RD has its own stamp, the others have the transaction's
+abbrev pub stamp_by : Result Mark ℕ → Stamp → Stamp → Stamp
+stamp_by (Ok PR) own tx = tx
+stamp_by (Ok LG) own tx = tx
+stamp_by (Ok DC) own tx = tx
+stamp_by (Ok RD) own tx = own
+stamp_by (Ok IV) own tx = tx
+stamp_by (Ok LD) own tx = tx
+stamp_by (Err n) own tx = tx
+
+abbrev pub parts_stamp : Parts → Stamp
+parts_stamp x = stamp_by x.found x.stamp x.tx.stamp
+
+-- their numbers: mark, stamp, r, w, key, kind, decision, view, count
+abbrev pub parts_row : Parts → List ℕ
+parts_row x =
+    mark_number_by (λ k. k) x.found
+    ∷ (parts_stamp x).0
+    ∷ x.tx.r
+    ∷ x.tx.w
+    ∷ x.key.0
+    ∷ x.list.kind
+    ∷ x.list.decision
+    ∷ x.list.view.0
+    ∷ x.list.count
+    ∷ []
+
+unfoldable pub parts_fields : Parts → Fields
+parts_fields x =
+    fields
+    (parts_row x)
+    (read_keys x.tx.reads)
+    (read_versions x.tx.reads)
+    (write_keys x.tx.writes)
+    (write_values x.tx.writes)
+    (pair_numbers x.list.pairs)
+    (pair_answers x.list.pairs)
+
+-- those of a reading: its mark or its refusal's number; the stamp that an RD has of its own
+abbrev pub mark_found : Result Message Refusal → Result Mark ℕ
+mark_found (Ok x) = Ok (mark_in x)
+mark_found (Err r) = Err (number_of r)
+
+abbrev pub own_stamp : Result Message Refusal → Stamp
+own_stamp (Ok (pr x)) = record { 0 = 0 }
+own_stamp (Ok (lg x l)) = record { 0 = 0 }
+own_stamp (Ok (dc x l)) = record { 0 = 0 }
+own_stamp (Ok (rd k s)) = s
+own_stamp (Ok (iv x l)) = record { 0 = 0 }
+own_stamp (Ok (ld x l)) = record { 0 = 0 }
+own_stamp (Err r) = record { 0 = 0 }
+
+abbrev pub parts_of : Result Message Refusal → Parts
+parts_of x =
+    record {
+      found = mark_found x;
+      stamp = own_stamp x;
+      key = key_in_reading x;
+      tx = tx_in_reading x;
+      list = list_in_reading x;
+    }
 
 -- a list of views in the arrays lent for it: leader, decision, view, count; the boxes, their answers, their views
 pub record ViewFields : Type 0 where

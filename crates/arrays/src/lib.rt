@@ -3,13 +3,14 @@
 #![tactic(auto)]
 
 ghost use Rattle.std.specs.Prelude.{◌≡◌};
-ghost use Rattle.arrays.specs.Arrays.{lent_tx, lent_list, lent_views, refusal_number, written_number, written_length, read_keys, read_versions, write_keys, write_values, pair_numbers, pair_answers, found_number, mark_number, tx_in_reading, list_in_reading, key_in_reading, found_stamp, marked_by, head_row, tx_fields, tx_fields_of, fields, fields_of, ballot_numbers, ballot_answers, ballot_views, view_fields, view_fields_of, list_fields, list_fields_of};
+ghost use Rattle.records.specs.declared.Mark.{Mark};
+ghost use Rattle.arrays.specs.Arrays.{lent_tx, lent_list, lent_views, number_by, written_number, written_length, read_keys, read_versions, write_keys, write_values, pair_numbers, pair_answers, mark_in, mark_number_by, tx_in_reading, list_in_reading, key_in_reading, mark_found, own_stamp, parts_stamp, parts_of, parts_row, parts_fields, marked_by, tx_fields, tx_fields_of, fields, ballot_numbers, ballot_answers, ballot_views, view_fields, view_fields_of, list_fields, list_fields_of};
 
 use records::{
     Ballot, Mark, Message, NO_LIST, NO_TX, Pair, Read, Transaction, ViewList, VoteList, Write,
 };
 use std::array;
-use terms::{Key, Refusal, Stamp, View};
+use terms::{AsRefusal, Key, Refusal, Stamp, View};
 
 // ---- put together
 
@@ -104,13 +105,13 @@ pub fn marked_of(number: u64) -> Result<Mark, Refusal>
     }
 }
 
-// The number of a refusal; 0 where something is answered.
-pub fn refusal_number<T>(answer: &Result<T, Refusal>) -> u8
-    ensures { result ≡ refusal_number answer.now }
+// The number of a refusal, or of what its caller holds for one; 0 where something is answered.
+pub fn refusal_number<T, E: AsRefusal>(answer: &Result<T, E>) -> u8
+    ensures { result ≡ number_by E.told_number answer.now }
 {
-    match *answer {
+    match answer {
         Ok(_) => 0,
-        Err(why) => why.number(),
+        Err(why) => why.number_told(),
     }
 }
 
@@ -124,29 +125,73 @@ pub fn wrote(w: Result<usize, Refusal>, length: &mut usize) -> u8
 
 // ---- taken apart
 
-// The number of a refusal, or 0.
-pub fn found_number(reading: &Result<Message, Refusal>) -> u8
-    ensures { result ≡ found_number reading.now }
-{
-    refusal_number(reading)
+// What has one of the six marks: a message, or the mark by itself.
+pub trait Marked {
+    ghost own_mark: { Self → Mark };
+
+    fn mark(&self) -> Mark
+        ensures { result ≡ own_mark self.now };
 }
 
-// Which message was read, by a number; 0 where it was refused.
-pub fn found_mark(reading: &Result<Message, Refusal>) -> u64
-    ensures { result ≡ mark_number reading.now }
+impl Marked for Mark {
+    ghost own_mark = { λ k. k };
+
+    fn mark(&self) -> Mark {
+        *self
+    }
+}
+
+impl Marked for Message {
+    ghost own_mark = { mark_in };
+
+    fn mark(&self) -> Mark {
+        match self {
+            Message::PR(_) => Mark::PR,
+            Message::LG(_, _) => Mark::LG,
+            Message::DC(_, _) => Mark::DC,
+            Message::RD(_, _) => Mark::RD,
+            Message::IV(_, _) => Mark::IV,
+            Message::LD(_, _) => Mark::LD,
+        }
+    }
+}
+
+// The number of a refusal, or 0, of a message that was found or of its mark alone.
+pub fn found_number<T, E: AsRefusal>(found: &Result<T, E>) -> u8
+    ensures { result ≡ number_by E.told_number found.now }
 {
-    match *reading {
-        Ok(Message::PR(_)) => 1,
-        Ok(Message::LG(_, _)) => 2,
-        Ok(Message::DC(_, _)) => 3,
-        Ok(Message::RD(_, _)) => 4,
-        Ok(Message::IV(_, _)) => 5,
-        Ok(Message::LD(_, _)) => 6,
+    refusal_number(found)
+}
+
+// Which message was found, by a number; 0 where it was refused.
+pub fn found_mark<T: Marked, E>(found: &Result<T, E>) -> u64
+    ensures { result ≡ mark_number_by T.own_mark found.now }
+{
+    match found {
+        Ok(x) => match x.mark() {
+            Mark::PR => 1,
+            Mark::LG => 2,
+            Mark::DC => 3,
+            Mark::RD => 4,
+            Mark::IV => 5,
+            Mark::LD => 6,
+        },
         Err(_) => 0,
     }
 }
 
-// What it carries; zeros where it carries no such thing, and where it was refused.
+// What may be put down of a message, part by part and in any combination: the mark that was found, or a refusal's number; the stamp of its own that an RD
+// has, and its key; the transaction; the list.
+#[derive(Clone, Copy)]
+pub struct Parts {
+    pub found: Result<Mark, u8>,
+    pub stamp: Stamp,
+    pub key: Key,
+    pub tx: Transaction,
+    pub list: VoteList,
+}
+
+// What a message carries; zeros where it carries no such thing, and where it was refused.
 #[tactic(auto, unfolding(records::specs::Tx::held_tx, records::specs::Tx::no_tx))]
 fn tx_in_reading(reading: &Result<Message, Refusal>) -> Transaction
     ensures { result ≡ tx_in_reading reading.now }
@@ -178,32 +223,61 @@ fn key_in_reading(reading: &Result<Message, Refusal>) -> Key
     }
 }
 
-// An RD has a stamp of its own; the others have the transaction's.
-fn found_stamp(reading: &Result<Message, Refusal>) -> Stamp
-    ensures { result ≡ found_stamp reading.now }
+fn own_stamp(reading: &Result<Message, Refusal>) -> Stamp
+    ensures { result ≡ own_stamp reading.now }
 {
     match *reading {
         Ok(Message::RD(_, own)) => own,
-        _ => tx_in_reading(reading).stamp,
+        _ => Stamp(0),
+    }
+}
+
+fn mark_found(reading: &Result<Message, Refusal>) -> Result<Mark, u8>
+    ensures { result ≡ mark_found reading.now }
+{
+    match reading {
+        Ok(message) => Ok(message.mark()),
+        Err(why) => Err(why.number_told()),
+    }
+}
+
+// The parts of what was read.
+pub fn parts_of(reading: &Result<Message, Refusal>) -> Parts
+    ensures { result ≡ parts_of reading.now }
+{
+    Parts {
+        found: mark_found(reading),
+        stamp: own_stamp(reading),
+        key: key_in_reading(reading),
+        tx: tx_in_reading(reading),
+        list: list_in_reading(reading),
+    }
+}
+
+// An RD has a stamp of its own; the others have the transaction's.
+fn found_stamp(parts: &Parts) -> Stamp
+    ensures { result ≡ parts_stamp parts.now }
+{
+    match parts.found {
+        Ok(Mark::RD) => parts.stamp,
+        _ => parts.tx.stamp,
     }
 }
 
 // Mark, stamp, r, w, key, kind, decision, view, count.
-fn put_head(reading: &Result<Message, Refusal>, head: &mut [u64; 9])
-    ensures { head.new ≡ head_row reading.now }
+fn put_head(parts: &Parts, head: &mut [u64; 9])
+    ensures { head.new ≡ parts_row parts.now }
 {
-    let tx = tx_in_reading(reading);
-    let list = list_in_reading(reading);
     *head = [
-        found_mark(reading),
-        found_stamp(reading).0,
-        tx.r as u64,
-        tx.w as u64,
-        key_in_reading(reading).0 as u64,
-        list.kind as u64,
-        list.decision as u64,
-        list.view.0 as u64,
-        list.count as u64,
+        found_mark(&parts.found),
+        found_stamp(parts).0,
+        parts.tx.r as u64,
+        parts.tx.w as u64,
+        parts.key.0 as u64,
+        parts.list.kind as u64,
+        parts.list.decision as u64,
+        parts.list.view.0 as u64,
+        parts.list.count as u64,
     ];
 }
 
@@ -244,10 +318,10 @@ pub fn put_tx(
     put_writes(&tx.writes, writes, values);
 }
 
-// All that was read, put down.
-#[tactic(auto, unfolding(crate::specs::Arrays::fields_of))]
+// All parts put down, each as it stands, whatever stands beside it.
+#[tactic(auto, unfolding(crate::specs::Arrays::parts_fields))]
 pub fn put_fields(
-    reading: &Result<Message, Refusal>,
+    parts: &Parts,
     head: &mut [u64; 9],
     reads: &mut [u16; 8],
     versions: &mut [u64; 8],
@@ -256,14 +330,12 @@ pub fn put_fields(
     numbers: &mut [u8; 26],
     answers: &mut [u8; 26],
 )
-    ensures { fields head.new reads.new versions.new writes.new values.new numbers.new answers.new ≡ fields_of reading.now }
+    ensures { fields head.new reads.new versions.new writes.new values.new numbers.new answers.new ≡ parts_fields parts.now }
 {
-    let x = tx_in_reading(reading);
-    let list = list_in_reading(reading);
-    put_head(reading, head);
-    put_reads(&x.reads, reads, versions);
-    put_writes(&x.writes, writes, values);
-    put_pairs(&list.pairs, numbers, answers);
+    put_head(parts, head);
+    put_reads(&parts.tx.reads, reads, versions);
+    put_writes(&parts.tx.writes, writes, values);
+    put_pairs(&parts.list.pairs, numbers, answers);
 }
 
 fn put_ballots(

@@ -6,6 +6,7 @@ pub mod Old
 pub mod Lowered
 pub mod Bridge
 pub mod Alone
+pub mod Entrance
 pub mod Watching
 pub mod Safety
 pub mod SlipUnder

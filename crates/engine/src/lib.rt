@@ -146,9 +146,9 @@ fn run(
     apply(table, marks, step, message)
 }
 
-// The mark that is due; none of the six is 2.
+// The mark that is due; none of the six is 2, whatever stands in its place.
 #[tactic(auto, unfolding(rules::specs::Act::due_mark))]
-fn due_mark(marked: Result<Mark, Refusal>) -> Result<Mark, Refusal>
+fn due_mark<E: Drop>(marked: Result<Mark, E>) -> Result<Mark, Refusal>
     ensures { result ≡ due_mark marked }
 {
     marked.or(Err(Refusal::Mark))
@@ -156,14 +156,14 @@ fn due_mark(marked: Result<Mark, Refusal>) -> Result<Mark, Refusal>
 
 // A message where one with a certain mark is due: PR to vote on a transaction, LG to log a decision, DC to take one, RD to read a key,
 // IV to move on to a higher view, LD to log a leader's decision.
-pub fn due(
-    marked: Result<Mark, Refusal>,
+pub fn due<E: Drop>(
+    marked: Result<Mark, E>,
     table: &mut [u8],
     marks: &mut [u64; 512],
     told: Told,
     message: &[u8],
 ) -> Answer
-    ensures { Leaves (called (due marked) told (kept table.old marks.old) message.now) (kept table.old marks.old) result (kept table.new marks.new) }
+    ensures { Leaves (called (due (due_mark marked)) told (kept table.old marks.old) message.now) (kept table.old marks.old) result (kept table.new marks.new) }
 {
     run(due_mark(marked), table, marks, told, message)
 }

@@ -14,7 +14,7 @@ use Rattle.records.specs.declared.ViewMark.{ViewMark}
 use Rattle.records.specs.Tx.{tx_of}
 use Rattle.records.specs.Contents.{largest_key, tx_wrong, rd_wrong}
 use Rattle.records.specs.Cutting.{carrier, tx_part, message_cut, rd_len}
-use Rattle.records.specs.Messages.{rd_key, rd_stamp, message_of, contents_wrong, due_refusal, read_due, mark_of, read_marked, read_message, handed_by, handed_back}
+use Rattle.records.specs.Messages.{rd_key, rd_stamp, message_of, contents_wrong, due_refusal, read_due, mark_of, refused_as, read_marked, read_marked_as, read_message, handed_by, handed_back}
 use Rattle.reading.specs.Judging.{early, has_tx, list_wrong_behind}
 use Rattle.reading.proofs.Cuts.{alone, TxCut, ListedCut, ViewedCut, parts_cut, pr_cuts, lg_cuts, dc_cuts, viewed_cuts, rd_long}
 
@@ -75,6 +75,16 @@ module _ (f : ℕ) (m : List ℕ) where
   pub rd_contents : rd_wrong (rd_key m) (rd_stamp m) ≡ contents_wrong RD f m
   unfolding contents_wrong
   rd_contents = refl
+
+-- ---- whoever holds the refusal itself reads what is read
+as_itself : {A : Type 0} (x : Result A Refusal) → refused_as (λ r. r) x ≡ x
+as_itself (Ok x) = refl
+as_itself (Err r) = refl
+
+pub marked_itself : (marked : Result Mark Refusal) (f : ℕ) (m : List ℕ) → read_marked_as (λ r. r) marked f m ≡ read_marked marked f m
+unfolding read_marked_as read_marked
+marked_itself (Ok k) f m = as_itself (read_due k f m)
+marked_itself (Err r) f m = refl
 
 -- ---- the part that is handed back
 -- of a message that was read, whose check passed

@@ -9,11 +9,11 @@ ghost use Rattle.records.specs.Vl.{held_list};
 ghost use Rattle.records.specs.Views.{held_views};
 ghost use Rattle.records.specs.Contents.{tx_wrong, rd_wrong};
 ghost use Rattle.records.specs.Cutting.{mark_wrong, tx_cut, vl_cut, views_cut, behind_wrong, behind_mark, carrier, tx_part, list_part, rest_cut, message_cut, message_len, rd_len};
-ghost use Rattle.records.specs.Messages.{read_tx, read_vl, read_views, list_behind, views_behind, rd_key, rd_stamp, message_of, contents_wrong, due_refusal, read_due, is_mark, mark_of, read_marked, read_message, handed_back};
+ghost use Rattle.records.specs.Messages.{read_tx, read_vl, read_views, list_behind, views_behind, rd_key, rd_stamp, message_of, contents_wrong, due_refusal, read_due, is_mark, mark_of, read_marked_as, read_message, handed_back};
 ghost use Rattle.reading.specs.Judging.{list_cut, list_len, list_wrong_behind, early, tx_behind, has_tx, marked_in};
 
 use records::{Mark, Message, Transaction, ViewList, ViewMark, VoteList};
-use terms::{Check, Group, Key, Refusal, Stamp};
+use terms::{AsRefusal, Check, Group, Key, Refusal, Stamp};
 
 const RD_LEN: usize = 12;
 
@@ -237,8 +237,8 @@ pub fn read_views(k: ViewMark, f: u64, s: &[u8]) -> Result<ViewList, Refusal>
 
 // ---- readers of a message
 
-// A refusal as the answer of a reader of messages.
-pub fn refused(why: Refusal) -> Result<Message, Refusal>
+// A refusal as the answer of a reader of messages, whatever the caller holds as one.
+pub fn refused<E>(why: E) -> Result<Message, E>
     ensures { result ≡ Err why }
 {
     Err(why)
@@ -402,16 +402,19 @@ pub fn mark_of(m: &[u8]) -> Result<Mark, Refusal>
     marked_in(&MARKS, m)
 }
 
-// A message by the mark that it was found to have.
-#[tactic(auto, unfolding(terms::proofs::Checks::chain, records::specs::Messages::read_marked))]
-pub fn read_marked(marked: Result<Mark, Refusal>, f: u64, m: &[u8]) -> Result<Message, Refusal>
-    ensures { result ≡ read_marked marked f m.now }
+// A message by the mark that it was found to have; what stands in the mark's place is handed back as it is, a number too.
+#[tactic(auto, unfolding(terms::proofs::Checks::chain, records::specs::Messages::read_marked_as))]
+pub fn read_marked<E: AsRefusal>(marked: Result<Mark, E>, f: u64, m: &[u8]) -> Result<Message, E>
+    ensures { result ≡ read_marked_as E.told_as marked f m.now }
 {
-    read_due(marked?, f, m)
+    match read_due(marked?, f, m) {
+        Ok(message) => Ok(message),
+        Err(refusal) => Err(E::of_refusal(refusal)),
+    }
 }
 
 // Any of the six messages.
-#[tactic(auto, unfolding(terms::proofs::Checks::chain, records::specs::Messages::read_message))]
+#[tactic(auto, using(crate::proofs::Due::marked_itself), unfolding(terms::proofs::Checks::chain, records::specs::Messages::read_message))]
 pub fn read(f: u64, m: &[u8]) -> Result<Message, Refusal>
     ensures { result ≡ read_message f m.now }
 {

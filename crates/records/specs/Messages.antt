@@ -111,6 +111,15 @@ unfoldable pub read_marked : Result Mark Refusal → ℕ → List ℕ → Result
 read_marked (Ok k) f m = read_due k f m
 read_marked (Err r) f m = Err r
 
+-- the same where whoever calls holds something else for a refusal: a mark's is handed on as it is, and g tells what it holds for the message's
+abbrev pub refused_as : {E A : Type 0} → (Refusal → E) → Result A Refusal → Result A E
+refused_as g (Ok x) = Ok x
+refused_as g (Err r) = Err (g r)
+
+unfoldable pub read_marked_as : {E : Type 0} → (Refusal → E) → Result Mark E → ℕ → List ℕ → Result Message E
+read_marked_as g (Ok k) f m = refused_as g (read_due k f m)
+read_marked_as g (Err e) f m = Err e
+
 -- "14 ..; then cutting"
 unfoldable pub read_message : ℕ → List ℕ → Result Message Refusal
 read_message f m = or_else (group_wrong f) (read_marked (mark_of m) f m)

@@ -49,8 +49,8 @@ pub data EntryPoint : Type 0 where
   due : Result Mark Refusal → EntryPoint
   raising : ℕ → EntryPoint
 
--- "mark is not the one due": where none of the six is due, all is refused with 2
-unfoldable pub due_mark : Result Mark Refusal → Result Mark Refusal
+-- "mark is not the one due": where none of the six is due, all is refused with 2, whatever stands in the mark's place
+unfoldable pub due_mark : {E : Type 0} → Result Mark E → Result Mark Refusal
 due_mark (Ok k) = Ok k
 due_mark (Err r) = Err mark
 

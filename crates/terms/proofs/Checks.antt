@@ -1,4 +1,5 @@
 -- Laws of checks and their order: every return of a checking function is a chain of these.
+use Rattle.std.specs.Prelude.{⊤}
 use Rattle.std.proofs.Common.{ℕ, ◌<◌, ◌≤◌, ◌≡◌, refl, sym, ap, Bool, true, false, true≢false, not, Ok, Err, is_err, Result}
 use borrow.Author.Tests.{lt-ltb, le-ltb, eq-eqb, ne_eqb, ltb-false}
 use lib.Dec.{ltb, eqb}
@@ -12,7 +13,7 @@ unfolding or_else when if_less if_same if_other
 chain = 0
 
 -- a refusal is no pass
-pub not_passed : {r : Refusal} → Err r ≡ passed → ⊥
+pub not_passed : {E : Type 0} {r : E} → ◌≡◌ {A = Result ⊤ E} (Err r) (Ok tt) → ⊥
 not_passed e = true≢false (ap is_err e)
 
 pub no_refusal : (c : Check) → is_err c ≡ false → c ≡ passed
@@ -20,23 +21,29 @@ no_refusal (Ok _) e = refl
 no_refusal (Err r) e = absurd (true≢false e)
 
 -- the first refusal: a check that passes is passed over, one that refuses is the answer
-module _ {A : Type 0} where
-  pub pass : {a : Check} {b x : Result A Refusal} → a ≡ passed → x ≡ b → x ≡ or_else a b
+module _ {E A : Type 0} where
+  pub pass : {a : Result ⊤ E} {b x : Result A E} → a ≡ Ok tt → x ≡ b → x ≡ or_else a b
   unfolding or_else
   pass e p = rw e p
 
-  pub halt : {a : Check} {r : Refusal} (b : Result A Refusal) → a ≡ Err r → Err r ≡ or_else a b
+  pub halt : {a : Result ⊤ E} {r : E} (b : Result A E) → a ≡ Err r → Err r ≡ or_else a b
   unfolding or_else
   halt b e = rw e
 
   -- where the whole is a value, each check has passed
-  pub first_passed : (a : Check) (b : Result A Refusal) (x : A) → or_else a b ≡ Ok x → a ≡ passed
+  pub first_passed : (a : Result ⊤ E) (b : Result A E) (x : A) → or_else a b ≡ Ok x → a ≡ Ok tt
   unfolding or_else
   first_passed (Ok _) b x e = refl
   first_passed (Err r) b x e = absurd (true≢false (ap is_err e))
 
+-- the first of two checks is the answer where it is no pass
+pub stop : {E : Type 0} (a b x : Result ⊤ E) → x ≡ a → (x ≡ Ok tt → ⊥) → x ≡ or_else a b
+unfolding or_else
+stop (Ok _) b x e n = absurd (n e)
+stop (Err r) b x e n = e
+
 -- a chain in front of a chain; a chain told by its links
-pub together : {A : Type 0} (a b : Check) (c : Result A Refusal) → or_else (or_else a b) c ≡ or_else a (or_else b c)
+pub together : {E A : Type 0} (a b : Result ⊤ E) (c : Result A E) → or_else (or_else a b) c ≡ or_else a (or_else b c)
 unfolding or_else
 together (Ok _) b c = refl
 together (Err r) b c = refl
@@ -44,19 +51,19 @@ together (Err r) b c = refl
 pub links : {a b p q x : Check} → x ≡ or_else a b → a ≡ p → b ≡ q → x ≡ or_else p q
 links e p q = cc
 
-pub when_no : (b : Bool) (r : Refusal) → b ≡ false → when b r ≡ passed
+pub when_no : {E : Type 0} (b : Bool) (r : E) → b ≡ false → when b r ≡ Ok tt
 unfolding when
 when_no b r e = rw e
 
-pub when_yes : (b : Bool) (r : Refusal) → b ≡ true → when b r ≡ Err r
+pub when_yes : {E : Type 0} (b : Bool) (r : E) → b ≡ true → when b r ≡ Err r
 unfolding when
 when_yes b r e = rw e
 
 -- the same, told by a scan
-pub tells : {b : Bool} (r : Refusal) → true ≡ b → Err r ≡ when b r
+pub tells : {E : Type 0} {b : Bool} (r : E) → true ≡ b → Err r ≡ when b r
 tells r e = sym (when_yes _ _ (sym e))
 
-pub tells_not : {b : Bool} (r : Refusal) → false ≡ b → passed ≡ when b r
+pub tells_not : {E : Type 0} {b : Bool} (r : E) → false ≡ b → Ok tt ≡ when b r
 tells_not r e = sym (when_no _ _ (sym e))
 
 module _ (a b : ℕ) (r : Refusal) where
@@ -101,18 +108,18 @@ module _ (a b : ℕ) (r : Refusal) where
       by true p q = absurd (not_passed q)
       by false p q = ltb-false a b p
 
-pub when_none : (b : Bool) (r : Refusal) → when b r ≡ passed → b ≡ false
+pub when_none : {E : Type 0} (b : Bool) (r : E) → when b r ≡ Ok tt → b ≡ false
 unfolding when
 when_none false r e = refl
 when_none true r e = absurd (not_passed e)
 
 -- if the whole passes, so does each
-pub first_none : (a b : Check) → or_else a b ≡ passed → a ≡ passed
+pub first_none : {E : Type 0} (a b : Result ⊤ E) → or_else a b ≡ Ok tt → a ≡ Ok tt
 unfolding or_else
 first_none (Ok _) b e = refl
 first_none (Err r) b e = absurd (not_passed e)
 
-pub rest_none : (a b : Check) → or_else a b ≡ passed → b ≡ passed
+pub rest_none : {E : Type 0} (a b : Result ⊤ E) → or_else a b ≡ Ok tt → b ≡ Ok tt
 unfolding or_else
 rest_none (Ok _) b e = e
 rest_none (Err r) b e = absurd (not_passed e)

@@ -10,14 +10,14 @@ Check = Result ⊤ Refusal
 abbrev pub passed : Check
 passed = Ok tt
 
--- the first refusal of two, or what stands behind a check that passes
-unfoldable pub or_else : {A : Type 0} → Check → Result A Refusal → Result A Refusal
+-- the first refusal of two, or what stands behind a check that passes; of whatever a caller holds as a refusal
+unfoldable pub or_else : {E A : Type 0} → Result ⊤ E → Result A E → Result A E
 or_else (Ok _) b = b
 or_else (Err r) b = Err r
 
 -- a refusal where a test tells so; where a is below b; where they are equal; where they differ
-unfoldable pub when : Bool → Refusal → Check
-when b r = pick b (Err r) passed
+unfoldable pub when : {E : Type 0} → Bool → E → Result ⊤ E
+when b r = pick b (Err r) (Ok tt)
 
 unfoldable pub if_less : ℕ → ℕ → Refusal → Check
 if_less a b r = pick (ltb a b) (Err r) passed

@@ -1,9 +1,10 @@
 // The papers' words as types: stamp, key, decision, kind, refusal, and the group of boxes with its five thresholds.
 #![tactic(auto)]
 
-ghost use Rattle.std.specs.Prelude.{◌≡◌};
+ghost use Rattle.std.specs.Prelude.{◌≡◌, ℕ, refl};
 ghost use Rattle.terms.specs.Checks.{or_else, when};
 ghost use Rattle.terms.specs.Codes.{decision_number};
+ghost use Rattle.terms.specs.declared.Refusal.{Refusal};
 ghost use Rattle.terms.specs.Refusals.{refusal_values, number_of, lacking_of, refusal_of};
 ghost use Rattle.terms.specs.Group.{boxes, commit_list, abort_list, commit_proof, abort_proof, log_proof, group_wrong, group_of, capacity_wrong};
 
@@ -28,9 +29,9 @@ pub const LARGEST_CAPACITY: u64 = 255;
 // A check passes, or tells its refusal.
 pub type Check = Result<(), Refusal>;
 
-// The first refusal of two: checks that do not need one another stand in a line.
+// The first refusal of two: checks that do not need one another stand in a line. What a caller holds as a refusal may be a number of its own.
 #[tactic(auto, unfolding(crate::proofs::Checks::chain))]
-pub fn first(a: Check, b: Check) -> Check
+pub fn first<E: Drop>(a: Result<(), E>, b: Result<(), E>) -> Result<(), E>
     ensures { result ≡ or_else a b }
 {
     a?;
@@ -39,7 +40,7 @@ pub fn first(a: Check, b: Check) -> Check
 
 // The refusal where a test tells so.
 #[tactic(auto, unfolding(crate::proofs::Checks::chain))]
-pub fn refuse_if(test: bool, why: Refusal) -> Check
+pub fn refuse_if<E: Drop>(test: bool, why: E) -> Result<(), E>
     ensures { result ≡ when test why }
 {
     if test {
@@ -182,6 +183,54 @@ impl Refusal {
             30 => Refusal::HotAxle,
             _ => Refusal::Buffer,
         }
+    }
+}
+
+// What a caller holds for a refusal: the refusal itself, or its number alone.
+pub trait AsRefusal {
+    ghost told_as: { Refusal → Self };
+
+    ghost told_number: { Self → ℕ };
+
+    fn of_refusal(why: Refusal) -> Self
+        ensures { result ≡ told_as why };
+
+    fn number_told(&self) -> u8
+        ensures { result ≡ told_number self.now };
+
+    // A refusal keeps its number, whatever it is told as.
+    ghost number_stays: { (r : Refusal) → told_number (told_as r) ≡ number_of r };
+}
+
+impl AsRefusal for Refusal {
+    ghost told_as = { λ r. r };
+
+    ghost told_number = { number_of };
+
+    ghost number_stays = { λ r. refl };
+
+    fn of_refusal(why: Refusal) -> Refusal {
+        why
+    }
+
+    fn number_told(&self) -> u8 {
+        self.number()
+    }
+}
+
+impl AsRefusal for u8 {
+    ghost told_as = { number_of };
+
+    ghost told_number = { λ n. n };
+
+    ghost number_stays = { λ r. refl };
+
+    fn of_refusal(why: Refusal) -> u8 {
+        why.number()
+    }
+
+    fn number_told(&self) -> u8 {
+        *self
     }
 }
 
