@@ -101,6 +101,7 @@ pub fn stobbarel_receive(
 }
 
 // A message where one with this mark is due: 1 PR, 2 LG, 3 DC, 4 RD, 5 IV, 6 LD.
+#[tactic(auto, using(engine::proofs::Entrance::due_told))]
 pub fn stobbarel_due(
     mark: u64,
     table: &mut [u8],
@@ -246,6 +247,7 @@ pub fn stobbarel_reading_el(f: u64, bytes: &[u8]) -> u8
 }
 
 // A message's values, put down in what is lent for them: all 0 where it is refused.
+#[tactic(auto, using(arrays::proofs::Reading::parts_put))]
 pub fn stobbarel_fields(
     f: u64,
     message: &[u8],
@@ -260,8 +262,9 @@ pub fn stobbarel_fields(
     ensures { (result ≡ found_number (read_message f message.now)) × (fields head.new reads.new versions.new writes.new values.new numbers.new answers.new ≡ fields_of (read_message f message.now)) }
 {
     let reading = reading::read(f, message);
+    let parts = arrays::parts_of(&reading);
     arrays::put_fields(
-        &reading, head, reads, versions, writes, values, numbers, answers,
+        &parts, head, reads, versions, writes, values, numbers, answers,
     );
     arrays::found_number(&reading)
 }
