@@ -96,7 +96,8 @@ fn fold_row(t: &mut [u8], i: usize)
     }
 }
 
-// Row `i` at the free place, which is its own or before it: then the two lie apart.
+// Row `i` at the free place, which is its own or before it. A loop of its own: `copy_within` goes either way, which made raising slower, and a copy between
+// two parts of the table makes the archive ask for `memmove`.
 fn move_row(t: &mut [u8], i: usize, free: usize)
     requires { RowThere t.old i × (free ≤ i) }
     ensures { t.new ≡ moved i free t.old }
@@ -106,8 +107,9 @@ fn move_row(t: &mut [u8], i: usize, free: usize)
     }
     let from = table::HEAD + i * table::ROW;
     let to = table::HEAD + free * table::ROW;
-    let (front, behind) = t.split_at_mut(from);
-    front[to..to + table::ROW].copy_from_slice(&behind[..table::ROW]);
+    for j in 0..table::ROW {
+        t[to + j] = t[from + j];
+    }
 }
 
 // Row `i` folds, is dropped or moves to the free place; the free place then.
