@@ -2,9 +2,22 @@
 use mathlib.Core.Path.{refl}
 use seplogic.Ra.Ura.{Ura}
 use types.Logic.{Logic}
+use mir.Syntax.{Dict}
+use contract.Lifetimes.{Lfts}
+use denote.RattleType.{RattleType}
+use denote.Triple.Clauses.{Lasts}
+use Rattle.std.specs.Prelude.{◌≡◌, ℕ, List, Result, Ok, Err}
+use Rattle.std.specs.Borrow.{Bor}
+use Rattle.records.specs.declared.Mark.{Mark}
+use Rattle.terms.specs.declared.AsRefusal.{Ghosts}
 use Rattle.settled.specs.Settled.{Settled, SettledPart}
 use Rattle.settled.proofs.Lemma.{settled, one, same_key, same_stamp, ◌&◌}
 use Rattle.reading.specs.contracts as reading
+
+-- nothing is left of a mark that was handed over, nor of what stood in its place
+marked_left : (E : RattleType) (g : Ghosts E.Denot) (d : Dict) (κs : Lfts (reading.read_marked.ended E g d).signature.lifetimes) (marked : Result Mark E.Denot) (f : ℕ) (m : Bor (List ℕ)) (w w' : Lasts (reading.read_marked.ended E g d) κs (marked, (f, (m, tt)))) → w ≡ w'
+marked_left E g d κs (Ok k) f m w w' = refl
+marked_left E g d κs (Err e) f m w w' = refl
 
 module _ {M : Type 1} {𝓤 : Ura M} (𝓛 : Logic 𝓤) where
   pub mark_wrong : Settled 𝓛 reading.mark_wrong.ended (reading.mark_wrong.spec 𝓛) (reading.mark_wrong.clauses 𝓛)
@@ -49,8 +62,8 @@ module _ {M : Type 1} {𝓤 : Ura M} (𝓛 : Logic 𝓤) where
   pub message_len : Settled 𝓛 reading.message_len.ended (reading.message_len.spec 𝓛) (reading.message_len.clauses 𝓛)
   message_len mem run = (refl, λ k o o'. settled 𝓤 (λ p q. one p q & refl))
 
-  pub refused : Settled 𝓛 reading.refused.ended (reading.refused.spec 𝓛) (reading.refused.clauses 𝓛)
-  refused mem run = (refl, λ k o o'. settled 𝓤 (λ p q. one p q & refl))
+  pub refused : (E : RattleType) → Settled 𝓛 (reading.refused.ended E) (reading.refused.spec E 𝓛) (reading.refused.clauses E 𝓛)
+  refused E mem run = (refl, λ k o o'. settled 𝓤 (λ p q. one p q & refl))
 
   pub read_tx : Settled 𝓛 reading.read_tx.ended (reading.read_tx.spec 𝓛) (reading.read_tx.clauses 𝓛)
   read_tx mem run = (refl, λ k o o'. settled 𝓤 (λ p q. one p q & refl))
@@ -67,8 +80,8 @@ module _ {M : Type 1} {𝓤 : Ura M} (𝓛 : Logic 𝓤) where
   pub mark_of : Settled 𝓛 reading.mark_of.ended (reading.mark_of.spec 𝓛) (reading.mark_of.clauses 𝓛)
   mark_of mem run = (refl, λ k o o'. settled 𝓤 (λ p q. one p q & refl))
 
-  pub read_marked : Settled 𝓛 reading.read_marked.ended (reading.read_marked.spec 𝓛) (reading.read_marked.clauses 𝓛)
-  read_marked mem run = (refl, λ k o o'. settled 𝓤 (λ p q. one p q & refl))
+  pub read_marked : (E : RattleType) (g : Ghosts E.Denot) (d : Dict) → Settled 𝓛 (reading.read_marked.ended E g d) (reading.read_marked.spec E g d 𝓛) (reading.read_marked.clauses E g d 𝓛)
+  read_marked E g d mem run = (refl, λ k o o'. settled 𝓤 (λ p q. one p q & marked_left E g d k.0 k.1.0 k.1.1.0 k.1.1.1.0 o.1 o'.1))
 
   pub read : Settled 𝓛 reading.read.ended (reading.read.spec 𝓛) (reading.read.clauses 𝓛)
   read mem run = (refl, λ k o o'. settled 𝓤 (λ p q. one p q & refl))

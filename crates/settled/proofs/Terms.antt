@@ -2,16 +2,28 @@
 use mathlib.Core.Path.{refl}
 use seplogic.Ra.Ura.{Ura}
 use types.Logic.{Logic}
+use mir.Syntax.{Dict}
+use contract.Lifetimes.{Lfts}
+use denote.RattleType.{RattleType}
+use denote.Triple.Clauses.{Lasts}
+use Rattle.std.specs.Prelude.{◌≡◌, ⊤, Result, Ok, Err}
 use Rattle.settled.specs.Settled.{Settled}
 use Rattle.settled.proofs.Lemma.{settled, one, ◌&◌}
 use Rattle.terms.specs.contracts as terms
 
-module _ {M : Type 1} {𝓤 : Ura M} (𝓛 : Logic 𝓤) where
-  pub first : Settled 𝓛 terms.first.ended (terms.first.spec 𝓛) (terms.first.clauses 𝓛)
-  first mem run = (refl, λ k o o'. settled 𝓤 (λ p q. one p q & refl))
+-- nothing is left of two checks that were handed over
+first_left : (E : RattleType) (d : Dict) (κs : Lfts (terms.first.ended E d).signature.lifetimes) (a b : Result ⊤ E.Denot) (w w' : Lasts (terms.first.ended E d) κs (a, (b, tt))) → w ≡ w'
+first_left E d κs (Ok x) (Ok y) w w' = refl
+first_left E d κs (Ok x) (Err r) w w' = refl
+first_left E d κs (Err r) (Ok y) w w' = refl
+first_left E d κs (Err r) (Err s) w w' = refl
 
-  pub refuse_if : Settled 𝓛 terms.refuse_if.ended (terms.refuse_if.spec 𝓛) (terms.refuse_if.clauses 𝓛)
-  refuse_if mem run = (refl, λ k o o'. settled 𝓤 (λ p q. one p q & refl))
+module _ {M : Type 1} {𝓤 : Ura M} (𝓛 : Logic 𝓤) where
+  pub first : (E : RattleType) (d : Dict) → Settled 𝓛 (terms.first.ended E d) (terms.first.spec E d 𝓛) (terms.first.clauses E d 𝓛)
+  first E d mem run = (refl, λ k o o'. settled 𝓤 (λ p q. one p q & first_left E d k.0 k.1.0 k.1.1.0 o.1 o'.1))
+
+  pub refuse_if : (E : RattleType) (d : Dict) → Settled 𝓛 (terms.refuse_if.ended E d) (terms.refuse_if.spec E d 𝓛) (terms.refuse_if.clauses E d 𝓛)
+  refuse_if E d mem run = (refl, λ k o o'. settled 𝓤 (λ p q. one p q & refl))
 
   pub decision_number : Settled 𝓛 terms.Decision.number.ended (terms.Decision.number.spec 𝓛) (terms.Decision.number.clauses 𝓛)
   decision_number mem run = (refl, λ k o o'. settled 𝓤 (λ p q. one p q & refl))
