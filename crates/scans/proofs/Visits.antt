@@ -139,11 +139,13 @@ module _ {P : Entry → Bool} {f : ℕ → Entry} {n : ℕ} where
         let s = rw (counted h, p) at r.count in
         record { within = omega arith; same = rw (onward h, p) at r.same; count = omega arith }
 
-    pub pass_end : n ≤ i → None ≡ fails_up_to A W
+    pub pass_end : n ≤ i → (None ≡ fails_up_to A W) × (n ≡ W)
+    unfolding through
     pass_end h =
         let e : n - i ≡ 0 = omega arith in
         let a : false ≡ A = rw e at r.same in
-        rw (← a)
+        let s = rw e at r.count in
+        (rw (← a), omega arith)
 
 -- whether one was found
 pub found_any : {o : Option ℕ} (P : Entry → Bool) (es : List Entry) → o ≡ up_to P es → is_some o ≡ any P es

@@ -2,6 +2,7 @@
 use Prim.Native.Nat.{ℕ, ◌+◌, ◌*◌, ◌≤◌}
 use native.Mathlib.Omega.{arith}
 use mathlib.Core.Path.{◌≡◌, refl, ap}
+use mathlib.Core.List.{List}
 use Rattle.terms.specs.declared.View.{View}
 use Rattle.terms.specs.declared.Decision.TheVariants.{Commit as commit, Abort as abort}
 use Rattle.terms.specs.Checks.{passed, or_else, if_less, if_same}
@@ -12,7 +13,7 @@ use Rattle.rules.specs.declared.Vote.{Vote}
 use Rattle.rules.specs.declared.Vote.TheVariants.{None as unvoted, Waiting as waiting, Commit as vote_commit, Abort as vote_abort}
 use Rattle.rules.specs.Answers.{Decision, Log, Settled, decision_number, logged, logged_at, settled, unlogged, unsettled}
 use Rattle.rules.specs.Table.{Entry}
-use Rattle.table.specs.Table.{vote_of, reason_of, settled_of, log_of, lower, upper, reason_wrong, state_in, entry_with}
+use Rattle.table.specs.Table.{vote_of, reason_of, settled_of, log_of, lower, upper, reason_wrong, state_at, state_in, entry_with, entry_of}
 
 -- ---- codes
 reason_back : (r : Reason) → reason_of (reason_number r) ≡ r
@@ -77,6 +78,28 @@ log_small (logged y) = by y.decision
     by : (d : Decision) → decision_number d ≤ 2
     by commit = omega arith
     by abort = omega arith
+
+-- ---- the state of a row is its entry's
+module _ (r : List ℕ) where
+  pub state_vote : (state_at r).vote ≡ (entry_of r).vote
+  unfolding entry_of entry_with
+  state_vote = refl
+
+  pub state_log : (state_at r).log ≡ (entry_of r).log
+  unfolding entry_of entry_with
+  state_log = refl
+
+  pub state_view : (state_at r).view ≡ (entry_of r).view
+  unfolding entry_of entry_with
+  state_view = refl
+
+  pub state_decided : (state_at r).decided ≡ (entry_of r).decided
+  unfolding entry_of entry_with
+  state_decided = refl
+
+  pub state_entry : entry_with (entry_of r).body (state_at r) ≡ entry_of r
+  unfolding entry_of entry_with
+  state_entry = refl
 
 -- an entry is its body and its state
 pub put_entry : (e : Entry) → entry_with e.body (state_in e) ≡ e

@@ -2,6 +2,7 @@ pub mod Bodies
 pub mod Looking
 pub mod Looks
 pub mod Checked
+pub mod Comparing
 pub mod Copying
 pub mod Coding
 pub mod Placing

@@ -1,5 +1,5 @@
 -- A row of which one look tells that it is plain is in order.
-use Prim.Native.Nat.{ℕ, ◌+◌, ◌*◌, ◌/◌, ◌%◌, ◌<◌, ◌≤◌}
+use Prim.Native.Nat.{ℕ, suc, ◌+◌, ◌*◌, ◌/◌, ◌%◌, ◌<◌, ◌≤◌}
 use native.Mathlib.Omega.{arith}
 use native.Mathlib.Nat.{mod-eq_of_lt}
 use mathlib.Core.Path.{◌≡◌, sym, subst, ap, ap₂, ◌∙◌}
@@ -82,6 +82,25 @@ Fit (c ∷ cs) x = (x % 256 + c < 16) × Fit cs (x / 256)
 all_fit : (cs : List ℕ) (x : ℕ) → Small cs → bit_and (bit_or x (x + le_val cs)) (upper cs) ≡ 0 → Fit cs x
 all_fit [] x s e = tt
 all_fit (c ∷ cs) x s e = (fits c (le_val cs) (upper cs) x s.0 e, all_fit cs (x / 256) s.1 (rest c (le_val cs) (upper cs) x s.0 e))
+
+-- ---- six bytes as one number
+byte_first : (n b x : ℕ) → b < 256 → le_bytes (suc n) (b + 256 * x) ≡ b ∷ le_bytes n x
+byte_first n b x l =
+    let m : (b + 256 * x) % 256 ≡ b = omega arith in
+    let d : (b + 256 * x) / 256 ≡ x = omega arith in
+    rw (m, d)
+
+module _ (v q d l r w : ℕ) (hv : v < 256) (hq : q < 256) (hd : d < 256) (hl : l < 256) (hr : r < 256) (hw : w < 256) where
+  pub six_bytes : le_bytes 6 (v + 256 * (q + 256 * (d + 256 * l)) + 4294967296 * (r + 256 * w)) ≡ v ∷ q ∷ d ∷ l ∷ r ∷ w ∷ []
+  six_bytes =
+      let e : v + 256 * (q + 256 * (d + 256 * l)) + 4294967296 * (r + 256 * w) ≡ v + 256 * (q + 256 * (d + 256 * (l + 256 * (r + 256 * (w + 256 * 0))))) =
+      omega arith in
+      ap (le_bytes 6) e ∙ byte_first 5 v _ hv
+      ∙ ap (◌∷◌ v) (byte_first 4 q _ hq
+      ∙ ap (◌∷◌ q) (byte_first 3 d _ hd
+      ∙ ap (◌∷◌ d) (byte_first 2 l _ hl
+      ∙ ap (◌∷◌ l) (byte_first 1 r _ hr
+      ∙ ap (◌∷◌ r) (byte_first 0 w 0 hw)))))
 
 -- ---- a row whose bytes are within these bounds is in order
 module _ (r : List ℕ) (v : get_or r vote_at 0 < 2) (q : get_or r reason_at 0 < 1) (d : get_or r decided_at 0 < 3) (l : get_or r log_at 0 < 3) where

@@ -440,7 +440,7 @@ pub fn state_of(e: &[u8]) -> State
 }
 
 // Whether two bodies are the same, byte for byte.
-#[tactic(auto, using(crate::proofs::Bodies::bytes_same))]
+#[tactic(auto, using(crate::proofs::Bodies::bytes_same, crate::proofs::Comparing::uneven, crate::proofs::Comparing::fronts_same, crate::proofs::Comparing::front_same, crate::proofs::Comparing::same_or_apart))]
 pub fn same(a: &[u8], b: &[u8]) -> bool
     ensures { result ≡ same_body a.now b.now }
 {

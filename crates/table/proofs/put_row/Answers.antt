@@ -1,6 +1,7 @@
-use Rattle.std.proofs.Common.{◌≡◌, ◌/◌, ◌%◌, ◌^◌, ◌<◌, ◌∙◌, arith, rules}
+use Rattle.std.proofs.Common.{◌≡◌, ◌/◌, ◌%◌, ◌^◌, ◌<◌, arith, rules}
 use Rattle.terms.specs.declared.View.{View}
 use Rattle.records.specs.Numbers.{le_bytes}
+use Rattle.rules.specs.Answers.{log_view}
 use Rattle.table.specs.Table.{view_bytes}
 use Rattle.table.proofs.Copying.{row_put}
 use Rattle.table.proofs.put_row.Goals as goal
@@ -11,6 +12,7 @@ put_down v h = let u : v.0 / 256 % 256 ≡ v.0 / 256 = omega arith in rw u
 
 pub returns : goal.returns
 returns c =
-    let l = c.put_u16.ensures ∙ put_down c.log_view.result (search rules) in
-    let v = c.put_u16-2.ensures ∙ put_down c.args.x.view (search rules) in
-    rw (c.put_body.ensures, v, l, c.log_view.ensures, c.put_codes.ensures) (row_put c.args.e.now c.args.body.now c.args.x)
+    let l = put_down (log_view c.args.x.log) (rw (← c.log_view.ensures) (search rules)) in
+    let v = put_down c.args.x.view (search rules) in
+    let p = row_put c.args.e.now c.args.body.now c.args.x in
+    rw (c.put_body.ensures, c.put_u16-2.ensures, c.put_u16.ensures, c.log_view.ensures, c.put_codes.ensures) (grind arith)

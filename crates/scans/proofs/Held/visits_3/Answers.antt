@@ -27,7 +27,8 @@ overflow_add-result c =
 pub returns-in-Some : goal.returns-in-Some
 returns-in-Some c =
     let o = stops_at _ (sym c.in-Some.is ∙ c.key_3.ensures) in
-    keyed_stop c.loop-j.invariant (omega arith) c.in-Some.last (rw (← c.read_at.ensures) o.1) (rw (← c.read_at.ensures) o.0)
+    let k = keyed_stop c.loop-j.invariant (omega arith) c.in-Some.last (rw (← c.read_at.ensures) o.1) (rw (← c.read_at.ensures) o.0) in
+    omega arith
 
 pub overflow_add-visited : goal.overflow_add-visited
 overflow_add-visited c =

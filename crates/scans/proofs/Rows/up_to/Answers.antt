@@ -12,4 +12,4 @@ pub loop-i-preserved : goal.loop-i-preserved
 loop-i-preserved g c = λ P k. pass_go (c.loop-i.invariant P k) (omega arith) (rw (← c.row.ensures) (sym (k _ _ c.passes.ensures) ∙ c.if-passes.false))
 
 pub returns : goal.returns
-returns g c = λ P k. pass_end (c.loop-i.invariant P k) (omega arith)
+returns g c = λ P k. (pass_end (c.loop-i.invariant P k) (omega arith)).0

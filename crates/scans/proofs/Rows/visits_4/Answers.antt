@@ -27,7 +27,8 @@ overflow_add-result c =
 pub returns-in-Some : goal.returns-in-Some
 returns-in-Some c =
     let o = stops_at _ (sym c.in-Some.is ∙ c.up_to.ensures (fails4 c.args.b.bytes.now c.write_at.result.key.0) (λ e x p. search rules)) in
-    keyed_stop c.loop-j.invariant (omega arith) c.in-Some.last (rw (← c.write_at.ensures) o.1) (rw (← c.write_at.ensures) o.0)
+    let k = keyed_stop c.loop-j.invariant (omega arith) c.in-Some.last (rw (← c.write_at.ensures) o.1) (rw (← c.write_at.ensures) o.0) in
+    omega arith
 
 pub overflow_add-visited : goal.overflow_add-visited
 overflow_add-visited c =
