@@ -7,7 +7,7 @@ ghost use Rattle.terms.specs.Choice.{pick};
 ghost use Rattle.terms.specs.declared.Refusal.TheVariants.{Full};
 ghost use Rattle.records.specs.Tx.{TxThere};
 ghost use Rattle.records.specs.Vl.{list_in};
-ghost use Rattle.records.specs.Views.{ballot_pair, views_in};
+ghost use Rattle.records.specs.Views.{ballot_pair, own_ballot, views_in};
 ghost use Rattle.records.specs.declared.ViewMark.TheVariants.{VS, EL};
 ghost use Rattle.rules.specs.declared.Answer.TheVariants.{Refused};
 ghost use Rattle.rules.specs.Answers.{logged_at};
@@ -24,7 +24,7 @@ ghost use Rattle.table.specs.Table.{Wf, WfRow, head_len, box_from, entry_of, ent
 ghost use Rattle.steps.specs.declared.Held.TheVariants.{Not, Same};
 ghost use Rattle.steps.specs.Step.{step_by, kept, put, cast_step, held_by, look_of, pr_by, lg_by, dc_proved, found_view, iv_by, ld_by, Beside};
 
-use records::{ViewList, VoteList};
+use records::{Ballot, ViewList, VoteList};
 use rules::{Answer, Logged, Told, Vote};
 use table::State;
 use terms::{Decision, Group, Key, Kind, Refusal, Stamp, View};
@@ -464,12 +464,12 @@ pub fn rd_step(h: &[u8], t: &[u8], n: usize, told: Told, k: Key, s: Stamp) -> St
 
 // ---- views
 
-// How many of the listed are at the view or above it. A `for`, since it is asked for each of them: `filter` and `count` take half as long again.
-fn reach(l: ViewList, v: View) -> usize
-    requires { l.count ≤ 26 }
-    ensures { (result ≡ reach v.0 (views_in VS l).ballots) × (result ≤ 26) }
+// How many of the listed are at the view or above it. A `for` over what is lent, since it is asked for each of them: `filter` and `count`, of a list by
+// value, take half as long again.
+fn reach(listed: &[Ballot], v: View) -> usize
+    requires { length listed.now ≤ 26 }
+    ensures { (result ≡ reach v.0 (map (own_ballot VS) listed.now)) × (result ≤ 26) }
 {
-    let listed = &l.ballots[..l.count];
     let mut found = 0;
     for b in listed {
         if v <= b.view {
@@ -484,9 +484,10 @@ fn reached(l: ViewList, need: usize) -> Option<View>
     requires { l.count ≤ 26 }
     ensures { option_map (λ (v : View). v.0) result ≡ found_view (reached need (views_in VS l).ballots (views_in VS l).ballots) }
 {
-    l.ballots[..l.count]
+    let listed = &l.ballots[..l.count];
+    listed
         .iter()
-        .filter(|b| need <= reach(l, b.view))
+        .filter(|b| need <= reach(listed, b.view))
         .map(|b| b.view)
         .max()
 }
