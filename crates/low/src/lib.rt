@@ -96,8 +96,8 @@ fn fold_row(t: &mut [u8], i: usize)
     }
 }
 
-// Row `i` at the free place, which is its own or before it. A loop of its own: `copy_within` goes either way, which made raising slower, and a copy between
-// two parts of the table makes the archive ask for `memmove`.
+// Row `i` at the free place, which is its own or before it. A loop of its own: `copy_within` goes either way, which takes more stack, and a copy between two
+// parts of the table makes the archive ask for `memmove`.
 fn move_row(t: &mut [u8], i: usize, free: usize)
     requires { RowThere t.old i × (free ≤ i) }
     ensures { t.new ≡ moved i free t.old }
